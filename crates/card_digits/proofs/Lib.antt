@@ -1,0 +1,7 @@
+pub mod Filling
+pub mod Fronts
+pub mod Classes
+pub mod Within
+pub mod Deepest
+pub mod Known
+pub mod Decimals

@@ -1,0 +1,10 @@
+use Rattle.std.proofs.Common.{◌≡◌, ◌≤◌, ◌+◌, ◌*◌, ℕ, List, drop}
+use Rattle.card_digits.specs.Numbers.{luhn_sum}
+use Rattle.card_digits.proofs.card.luhn_sum.Given as goal
+
+pub record IsSummedTo (sum i : ℕ) (digits : List ℕ) : Type 0 where
+  pub rest : sum + luhn_sum (drop i digits) ≡ luhn_sum digits
+  pub bound : sum ≤ 255 * i
+
+abbrev pub invariant-loop-i : goal.invariant-loop-i
+invariant-loop-i l = IsSummedTo l.sum l.i l.digits

@@ -1,0 +1,31 @@
+-- Decimal digits, as numbers from 0 to 9.
+use Rattle.std.specs.Prelude.{◌≡◌, ℕ, ◌<◌, ◌≤◌, ◌-◌, List, length, drop, map, replicate}
+use Rattle.std.specs.List.{AllByRecursion}
+
+-- the numbers that ASCII digits write
+abbrev pub digits_of : List ℕ → List ℕ
+digits_of bytes = map (λ b. b - 48) bytes
+
+abbrev pub AreDigits : List ℕ → Type 0
+AreDigits ds = AllByRecursion (λ d. d < 10) ds
+
+-- from least to most digits
+pub record AreDigitsWithin (least most : ℕ) (ds : List ℕ) : Type 0 where
+  pub not_short : least ≤ length ds
+  pub not_long : length ds ≤ most
+  pub digits : AreDigits ds
+
+abbrev pub IsCard : List ℕ → Type 0
+IsCard = AreDigitsWithin 8 19
+
+abbrev pub IsPrefix : List ℕ → Type 0
+IsPrefix = AreDigitsWithin 1 12
+
+abbrev pub IsDateLabel : List ℕ → Type 0
+IsDateLabel = AreDigitsWithin 4 4
+
+-- an array of n digits, of which those from len on are 0
+pub record IsPadded (n len : ℕ) (ds : List ℕ) : Type 0 where
+  pub fits : len ≤ n
+  pub full : length ds ≡ n
+  pub rest : drop len ds ≡ replicate (n - len) 0

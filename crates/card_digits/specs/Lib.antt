@@ -1,0 +1,6 @@
+pub mod Digits
+pub mod PaddedBack
+pub mod Longest
+pub mod Reading
+pub mod Stream
+pub mod Numbers

@@ -1,0 +1,122 @@
+//! Card numbers.
+ghost use Rattle.std.specs.Prelude.{◌≡◌, ◌≤◌, length};
+
+use crate::prefix::Prefix;
+use crate::short_bytes::{ShortBytes, all_digits};
+use std::marker::Model;
+
+/// Why bytes are no digits.
+#[derive(Clone, Copy, Debug, PartialEq, Eq)]
+pub enum DigitFault {
+    NotDigit,
+    Length,
+}
+
+/// A card number of 8 to 19 digits.
+#[derive(Clone, Copy, Debug, PartialEq, Eq)]
+pub struct Card {
+    digits: ShortBytes<19>,
+}
+
+impl Model for Card {
+    ghost use Rattle.std.specs.Prelude.{ℕ, List};
+    ghost use Rattle.card_digits.specs.Digits.{IsCard};
+
+    ghost Value = { List ℕ };
+
+    ghost view = { λ a. a.digits };
+
+    ghost invariant = { λ a. IsCard a.digits };
+
+    ghost inverse = { λ ds. record { digits = ds } };
+}
+
+impl Card {
+    ghost use Rattle.card_digits.specs.Reading.{read_digits};
+
+    /// The card number that ASCII digits write. A byte that is no digit is reported before the length.
+    pub fn read(text: &[u8]) -> Result<Card, DigitFault>
+        ensures { result ≡ read_digits 8 19 text.now }
+    {
+        let digits = read(text, 8)?;
+        Ok(Card { digits })
+    }
+
+    /// The digits in order, as numbers.
+    pub fn digits(&self) -> &[u8]
+        ensures digits { result.now ≡ self.now }
+        ensures few { length result.now ≤ 19 }
+    {
+        self.digits.as_slice()
+    }
+}
+
+ghost use Rattle.std.specs.Prelude.{IfOk};
+ghost use Rattle.card_digits.specs.Digits.{AreDigitsWithin};
+ghost use Rattle.card_digits.specs.Reading.{read_digits};
+ghost use Rattle.card_digits.specs.Longest.{begins};
+
+/// From `least` to `N` digits.
+#[tactic(auto, using(crate::proofs::Within::digits_within))]
+pub(crate) fn read<const N: usize>(text: &[u8], least: usize) -> Result<ShortBytes<N>, DigitFault>
+    ensures value { result ≡ read_digits least N text.now }
+    ensures within { IfOk result (AreDigitsWithin least N) }
+{
+    if !all_digits(text) {
+        return Err(DigitFault::NotDigit);
+    }
+    if text.len() < least || text.len() > N {
+        return Err(DigitFault::Length);
+    }
+    Ok(ShortBytes::from_digits(text))
+}
+
+/// Whether the prefix is the card's first digits.
+pub fn begins(prefix: &Prefix, card: &Card) -> bool
+    ensures { result ≡ begins prefix.now card.now }
+{
+    card.digits().starts_with(prefix.digits())
+}
+
+/// Whether the prefix is the first digits of the class.
+pub fn begins_class(prefix: &Prefix, class: &Prefix) -> bool
+    ensures { result ≡ begins prefix.now class.now }
+{
+    class.digits().starts_with(prefix.digits())
+}
+
+ghost use Rattle.card_digits.specs.Numbers.{doubled, passes_luhn};
+
+/// Whether the check digit is right by the Luhn formula (ISO/IEC 7812-1, annex B).
+pub fn luhn(card: &Card) -> bool
+    ensures { result ≡ passes_luhn card.now }
+{
+    luhn_sum(card.digits()) % 10 == 0
+}
+
+fn luhn_sum(digits: &[u8]) -> u32
+    requires { length digits.now ≤ 19 }
+    ensures { result ≡ luhn_sum digits.now }
+{
+    let mut sum = 0u32;
+    for (i, digit) in digits.iter().enumerate() {
+        let from_right = digits.len() - 1 - i;
+        if from_right % 2 == 1 {
+            sum += doubled(*digit);
+        } else {
+            sum += *digit as u32;
+        }
+    }
+    sum
+}
+
+ghost use Rattle.card_digits.specs.Numbers.{luhn_sum};
+
+/// The digit doubled, and the digits of the double added.
+fn doubled(digit: u8) -> u32
+    ensures value { result ≡ doubled digit }
+    ensures small { result ≤ 255 }
+{
+    let double = 2 * digit as u32;
+    double / 10 + double % 10
+}

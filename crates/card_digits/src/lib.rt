@@ -1,0 +1,20 @@
+//! Card numbers, prefixes, names, amounts, settlement dates and keys, and the bytes that they are read from and written to.
+#![tactic(auto)]
+
+mod amount;
+mod card;
+mod date_label;
+mod key;
+mod name;
+mod prefix;
+mod short_bytes;
+mod stream;
+
+pub use amount::{Amount, LinkNo, NodeNo};
+pub use card::{Card, DigitFault, begins, begins_class, luhn};
+pub use date_label::DateLabel;
+pub use key::{Key, pad11};
+pub use name::{Id, Name};
+pub use prefix::Prefix;
+pub use short_bytes::{ShortBytes, all_digits};
+pub use stream::{Counted, ReadFault, Sink, Source, WriteFault, write_all};

@@ -1,0 +1,97 @@
+//! Names and ids.
+ghost use Rattle.std.specs.Prelude.{◌≡◌, ◌==◌};
+ghost use Rattle.std.specs.List.{list_all};
+ghost use Rattle.std.specs.Char.{is_ascii_alphanumeric};
+
+use crate::short_bytes::{ShortBytes, all_digits};
+use std::marker::Model;
+
+/// A name of 1 to 8 ASCII letters and digits.
+#[derive(Clone, Copy, Debug, PartialEq, Eq)]
+pub struct Name {
+    text: ShortBytes<8>,
+}
+
+impl Model for Name {
+    ghost use Rattle.std.specs.Prelude.{ℕ, List};
+
+    ghost Value = { List ℕ };
+
+    ghost view = { λ a. a.text };
+
+    ghost inverse = { λ bs. record { text = bs } };
+}
+
+impl Name {
+    ghost use Rattle.card_digits.specs.Reading.{name_of};
+
+    /// The name that the bytes are.
+    pub fn read(text: &[u8]) -> Option<Name>
+        ensures { result ≡ name_of text.now }
+    {
+        if text.is_empty() || text.len() > 8 || !all_letters_or_digits(text) {
+            return None;
+        }
+        Some(Name {
+            text: ShortBytes::from_slice(text),
+        })
+    }
+
+    /// The letters and digits.
+    pub fn as_slice(&self) -> &[u8]
+        ensures { result.now ≡ self.now }
+    {
+        self.text.as_slice()
+    }
+}
+
+/// An institution's id of 1 to 11 digits, not all zero.
+#[derive(Clone, Copy, Debug, PartialEq, Eq)]
+pub struct Id {
+    text: ShortBytes<11>,
+}
+
+impl Model for Id {
+    ghost use Rattle.std.specs.Prelude.{ℕ, List};
+
+    ghost Value = { List ℕ };
+
+    ghost view = { λ a. a.text };
+
+    ghost inverse = { λ bs. record { text = bs } };
+}
+
+impl Id {
+    ghost use Rattle.card_digits.specs.Reading.{id_of};
+
+    /// The id that the bytes are.
+    pub fn read(text: &[u8]) -> Option<Id>
+        ensures { result ≡ id_of text.now }
+    {
+        if text.len() > 11 || !all_digits(text) || all_zeros(text) {
+            return None;
+        }
+        Some(Id {
+            text: ShortBytes::from_slice(text),
+        })
+    }
+
+    /// The digits, as text.
+    pub fn as_slice(&self) -> &[u8]
+        ensures { result.now ≡ self.now }
+    {
+        self.text.as_slice()
+    }
+}
+
+fn all_letters_or_digits(text: &[u8]) -> bool
+    ensures { result ≡ list_all is_ascii_alphanumeric text.now }
+{
+    text.iter().all(|byte| byte.is_ascii_alphanumeric())
+}
+
+fn all_zeros(text: &[u8]) -> bool
+    ensures { result ≡ list_all (λ b. b == 48) text.now }
+{
+    text.iter().all(|byte| *byte == b'0')
+}

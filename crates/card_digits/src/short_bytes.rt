@@ -1,0 +1,136 @@
+//! A few small numbers kept in place.
+ghost use Rattle.std.specs.Prelude.{◌≡◌, ◌≤◌, length, true};
+ghost use Rattle.std.specs.Char.{is_ascii_digit};
+ghost use Rattle.std.specs.List.{list_all};
+ghost use Rattle.card_digits.specs.Digits.{digits_of};
+
+use std::cmp::Ordering;
+use std::marker::Model;
+
+/// At most `N` bytes, kept in place.
+#[derive(Clone, Copy, Debug)]
+pub struct ShortBytes<const N: usize> {
+    bytes: [u8; N],
+    len: usize,
+}
+
+impl<const N: usize> Model for ShortBytes<N> {
+    ghost use Rattle.std.specs.Prelude.{◌-◌, ℕ, List, ◌++◌, length, take, replicate};
+    ghost use Rattle.card_digits.specs.Digits.{IsPadded};
+
+    ghost Value = { List ℕ };
+
+    ghost view = { λ a. take a.len a.bytes };
+
+    ghost invariant = { λ a. IsPadded N a.len a.bytes };
+
+    ghost inverse = { λ bs. record { bytes = bs ++ replicate (N - length bs) 0; len = length bs } };
+
+    ghost use Rattle.card_digits.specs.PaddedBack.{padded_again};
+
+    ghost inverse_ok = { λ a h. padded_again N a h };
+}
+
+impl<const N: usize> ShortBytes<N> {
+    /// A copy of the bytes.
+    pub fn from_slice(text: &[u8]) -> ShortBytes<N>
+        requires { length text.now ≤ N }
+        ensures { result ≡ text.now }
+    {
+        let mut bytes = [0; N];
+        for (i, byte) in text.iter().enumerate() {
+            bytes[i] = *byte;
+        }
+        ShortBytes {
+            bytes,
+            len: text.len(),
+        }
+    }
+
+    /// The numbers that ASCII digits write.
+    pub fn from_digits(text: &[u8]) -> ShortBytes<N>
+        requires fits { length text.now ≤ N }
+        requires digits { list_all is_ascii_digit text.now ≡ true }
+        ensures { result ≡ digits_of text.now }
+    {
+        let mut bytes = [0; N];
+        for (i, byte) in text.iter().enumerate() {
+            bytes[i] = *byte - b'0';
+        }
+        ShortBytes {
+            bytes,
+            len: text.len(),
+        }
+    }
+
+    /// The bytes in order.
+    pub fn as_slice(&self) -> &[u8]
+        ensures { result.now ≡ self.now }
+    {
+        &self.bytes[..self.len]
+    }
+}
+
+impl<const N: usize> PartialEq for ShortBytes<N> {
+    ghost use Rattle.std.specs.Prelude.{◌==◌};
+    ghost use Rattle.std.specs.Cmp.Lexicographic.{pointwise};
+    ghost use Rattle.std.proofs.Common.{rules};
+    ghost use Rattle.std.specs.Cmp.Rules.{comparing};
+
+    ghost eq = { pointwise ◌==◌ };
+
+    ghost laws = { Prim.search (comparing, rules) };
+
+    fn eq(&self, other: &ShortBytes<N>) -> bool {
+        self.as_slice() == other.as_slice()
+    }
+}
+
+impl<const N: usize> Eq for ShortBytes<N> {
+    ghost use Rattle.std.proofs.Common.{rules};
+    ghost use Rattle.std.specs.Cmp.Rules.{comparing};
+
+    ghost laws = { Prim.search (comparing, rules) };
+}
+
+impl<const N: usize> Ord for ShortBytes<N> {
+    ghost use Rattle.std.specs.Ordering.{nat_cmp};
+    ghost use Rattle.std.specs.Cmp.Lexicographic.{slice_cmp};
+    ghost use Rattle.std.proofs.Common.{rules};
+    ghost use Rattle.std.specs.Cmp.Rules.{comparing};
+
+    ghost cmp = { slice_cmp nat_cmp };
+
+    ghost total = { Prim.search (comparing, rules) };
+
+    ghost matches_partial_cmp = { Prim.search (comparing, rules) };
+
+    ghost matches_eq = { Prim.search (comparing, rules) };
+
+    fn cmp(&self, other: &ShortBytes<N>) -> Ordering {
+        self.as_slice().cmp(other.as_slice())
+    }
+}
+
+impl<const N: usize> PartialOrd for ShortBytes<N> {
+    ghost use Rattle.std.specs.Ordering.{nat_cmp, as_partial_cmp};
+    ghost use Rattle.std.specs.Cmp.Lexicographic.{slice_cmp};
+    ghost use Rattle.std.specs.Cmp.{partial_order_from_own_ties};
+    ghost use Rattle.std.proofs.Common.{rules};
+    ghost use Rattle.std.specs.Cmp.Rules.{comparing};
+
+    ghost partial_cmp = { as_partial_cmp (slice_cmp nat_cmp) };
+
+    ghost laws = { partial_order_from_own_ties (Prim.search (comparing, rules)) (Prim.search (comparing, rules)) };
+
+    fn partial_cmp(&self, other: &ShortBytes<N>) -> Option<Ordering> {
+        Some(self.cmp(other))
+    }
+}
+
+/// Whether each byte is an ASCII digit.
+pub fn all_digits(text: &[u8]) -> bool
+    ensures { result ≡ list_all is_ascii_digit text.now }
+{
+    text.iter().all(|byte| byte.is_ascii_digit())
+}

@@ -1,0 +1,109 @@
+//! The rows of the tables, names resolved.
+ghost use Rattle.std.specs.Prelude.{◌≡◌, ◌==◌, if◌then◌else◌};
+
+use crate::lists::{Links, Nodes};
+use crate::longest::{AtNode, Prefixed};
+use card_digits::{Amount, Id, LinkNo, Name, NodeNo, Prefix, ShortBytes};
+
+/// What holds for the whole network.
+#[derive(Clone, Copy, Debug)]
+pub struct Settings {
+    pub currency: ShortBytes<3>,
+    pub date: ShortBytes<4>,
+    pub host_ticks: u16,
+    pub advice_ticks: u16,
+}
+
+#[derive(Clone, Copy, Debug)]
+pub struct Node {
+    pub name: Name,
+    pub id: Id,
+}
+
+/// A link between two different nodes.
+#[derive(Clone, Copy, Debug)]
+pub struct Link {
+    pub name: Name,
+    pub from: NodeNo,
+    pub to: NodeNo,
+    pub ticks: u16,
+}
+
+#[derive(Clone, Copy, Debug)]
+pub struct Acquirer {
+    pub id: Id,
+    pub node: NodeNo,
+}
+
+#[derive(Debug, Drop)]
+pub struct Issuer {
+    pub name: Name,
+    pub prefix: Prefix,
+    pub home: NodeNo,
+    pub named: Nodes,
+    pub ceiling: Amount,
+}
+
+#[derive(Debug, Drop)]
+pub struct Route {
+    pub node: NodeNo,
+    pub prefix: Prefix,
+    pub links: Links,
+}
+
+#[derive(Clone, Copy, Debug)]
+pub struct StandIn {
+    pub node: NodeNo,
+    pub prefix: Prefix,
+    pub day: Amount,
+    pub single: Amount,
+}
+
+impl Link {
+    /// The other end of the link, or its first end where the node is none.
+    pub fn other_end(&self, node: NodeNo) -> NodeNo
+        ensures { result ≡ (if self.now.from == node then self.now.to else self.now.from) }
+    {
+        if self.from == node { self.to } else { self.from }
+    }
+}
+
+impl Prefixed for Issuer {
+    ghost prefix_of = { λ r. r.prefix };
+
+    fn prefix(&self) -> &Prefix {
+        &self.prefix
+    }
+}
+
+impl Prefixed for Route {
+    ghost prefix_of = { λ r. r.prefix };
+
+    fn prefix(&self) -> &Prefix {
+        &self.prefix
+    }
+}
+
+impl AtNode for Route {
+    ghost node_of = { λ r. r.node };
+
+    fn node(&self) -> NodeNo {
+        self.node
+    }
+}
+
+impl Prefixed for StandIn {
+    ghost prefix_of = { λ r. r.prefix };
+
+    fn prefix(&self) -> &Prefix {
+        &self.prefix
+    }
+}
+
+impl AtNode for StandIn {
+    ghost node_of = { λ r. r.node };
+
+    fn node(&self) -> NodeNo {
+        self.node
+    }
+}

@@ -1,0 +1,137 @@
+//! What a value of the tree is, where it is of a field's form.
+ghost use Rattle.std.specs.Prelude.{◌≡◌, ◌≤◌, ◌<◌, ◌^◌, length, IfSome};
+ghost use Rattle.std.specs.List.{list_all};
+ghost use Rattle.toml.specs.View.{view};
+ghost use Rattle.net_tables.specs.Values.{whole_in, name_in, id_in, prefix_in, currency_in, date_in, ends_in, is_printable};
+
+use card_digits::{Id, Name, Prefix, ShortBytes, all_digits};
+use toml::Value;
+
+/// A whole number from `least` to `most`.
+pub(crate) fn whole_of(value: &Value, least: u64, most: u64) -> Option<u64>
+    ensures value { result ≡ whole_in least most (view value.now) }
+    ensures within { IfSome result (λ n. (least ≤ n) × (n ≤ most)) }
+{
+    match value.as_integer() {
+        Some(number) => within(number, least, most),
+        None => None,
+    }
+}
+
+ghost use Rattle.net_tables.specs.Values.{whole};
+
+fn within(number: i64, least: u64, most: u64) -> Option<u64>
+    ensures value { result ≡ whole least most number }
+    ensures within { IfSome result (λ n. (least ≤ n) × (n ≤ most)) }
+{
+    if number < 0 {
+        return None;
+    }
+    let number = number as u64;
+    if number >= least && number <= most {
+        Some(number)
+    } else {
+        None
+    }
+}
+
+pub(crate) fn name_of(value: &Value) -> Option<Name>
+    ensures { result ≡ name_in (view value.now) }
+{
+    match value.as_str() {
+        Some(text) => Name::read(text.as_bytes()),
+        None => None,
+    }
+}
+
+pub(crate) fn id_of(value: &Value) -> Option<Id>
+    ensures { result ≡ id_in (view value.now) }
+{
+    match value.as_str() {
+        Some(text) => Id::read(text.as_bytes()),
+        None => None,
+    }
+}
+
+pub(crate) fn prefix_of(value: &Value) -> Option<Prefix>
+    ensures { result ≡ prefix_in (view value.now) }
+{
+    match value.as_str() {
+        Some(text) => Prefix::read(text.as_bytes()).ok(),
+        None => None,
+    }
+}
+
+fn all_printable(text: &[u8]) -> bool
+    ensures { result ≡ list_all is_printable text.now }
+{
+    text.iter().all(|byte| *byte >= 0x20 && *byte <= 0x7e)
+}
+
+ghost use Rattle.net_tables.specs.Values.{currency_text, date_text};
+
+fn currency_text(text: &[u8]) -> Option<ShortBytes<3>>
+    ensures { result ≡ currency_text text.now }
+{
+    if text.len() != 3 || !all_printable(text) {
+        return None;
+    }
+    Some(ShortBytes::from_slice(text))
+}
+
+/// Three printable characters.
+pub(crate) fn currency_of(value: &Value) -> Option<ShortBytes<3>>
+    ensures { result ≡ currency_in (view value.now) }
+{
+    match value.as_str() {
+        Some(text) => currency_text(text.as_bytes()),
+        None => None,
+    }
+}
+
+fn date_text(text: &[u8]) -> Option<ShortBytes<4>>
+    ensures { result ≡ date_text text.now }
+{
+    if text.len() != 4 || !all_digits(text) {
+        return None;
+    }
+    Some(ShortBytes::from_digits(text))
+}
+
+/// Four digits.
+pub(crate) fn date_of(value: &Value) -> Option<ShortBytes<4>>
+    ensures { result ≡ date_in (view value.now) }
+{
+    match value.as_str() {
+        Some(text) => date_text(text.as_bytes()),
+        None => None,
+    }
+}
+
+ghost use Rattle.toml.specs.View.{items_view};
+ghost use Rattle.net_tables.specs.Values.{two_names};
+
+/// Two different names.
+pub(crate) fn ends_of(value: &Value) -> Option<(Name, Name)>
+    ensures { result ≡ ends_in (view value.now) }
+{
+    match value.as_array() {
+        Some(values) => two_names(values),
+        None => None,
+    }
+}
+
+#[tactic(auto, using(crate::proofs::Pairs::not_two, crate::proofs::Pairs::two))]
+fn two_names(values: &[Value]) -> Option<(Name, Name)>
+    ensures { result ≡ two_names (items_view values.now) }
+{
+    if values.len() != 2 {
+        return None;
+    }
+    let first = name_of(&values[0])?;
+    let second = name_of(&values[1])?;
+    if first == second {
+        return None;
+    }
+    Some((first, second))
+}
