@@ -7,7 +7,7 @@ use crate::short_bytes::{ShortBytes, all_digits};
 use std::marker::Model;
 
 /// A name of 1 to 8 ASCII letters and digits.
-#[derive(Clone, Copy, Debug, PartialEq, Eq)]
+#[derive(Clone, Copy, Debug, PartialEq, Eq, PartialOrd, Ord)]
 pub struct Name {
     text: ShortBytes<8>,
 }
@@ -46,7 +46,7 @@ impl Name {
 }
 
 /// An institution's id of 1 to 11 digits, not all zero.
-#[derive(Clone, Copy, Debug, PartialEq, Eq)]
+#[derive(Clone, Copy, Debug, PartialEq, Eq, PartialOrd, Ord)]
 pub struct Id {
     text: ShortBytes<11>,
 }
