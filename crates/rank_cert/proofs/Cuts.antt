@@ -1,9 +1,8 @@
 -- Where bytes are cut, their lines and parts are.
-use Rattle.std.proofs.Common.{◌≡◌, ℕ, ◌+◌, ◌-◌, ◌<◌, ◌≤◌, ◌==◌, ◌++◌, Bool, true, false, cond, List, [], ◌∷◌, Option, Some, None, refl, sym, ◌∙◌, ap, arith, length, take, drop, get_or, add-one, zero, suc, nat_lt}
+use Rattle.std.proofs.Common.{◌≡◌, ℕ, ◌+◌, ◌-◌, ◌<◌, ◌≤◌, ◌==◌, ◌++◌, Bool, true, false, cond, List, [], ◌∷◌, Some, None, refl, sym, ◌∙◌, arith, length, take, drop, get_or, add-one, nat_lt}
 use Rattle.std.specs.Prelude.{All, position}
-use Rattle.std.specs.List.{slice_split, onto_first}
 use Rattle.std.proofs.lemmas.List.{get_or-take, take-append-drop, length-take, length-drop, take_all}
-use Rattle.std.proofs.lemmas.List.Elements.{All-cons, All-head, All-tail, All-from_get_or, All-nil}
+use Rattle.std.proofs.lemmas.List.Elements.{All-head, All-tail, All-from_get_or}
 use Rattle.std.proofs.lemmas.List.Sums.{fails_before_first}
 use Rattle.std.specs.List.{position_or_len}
 use Rattle.std.proofs.lemmas.Bool.{eqb-true, ltb-false}
@@ -78,7 +77,7 @@ three_of_three line a behind b c cut next none = rw (fields-at line a behind cut
 pub three_of_more : (line a behind b last c d : List ℕ) → IsCut 32 line a behind → IsCut 32 behind b last → IsCut 32 last c d → three (fields line) ≡ None
 three_of_more line a behind b last c d cut next further =
     rw (fields-at line a behind cut, fields-at behind b last next, fields-at last c d further)
-      (more_than_three a b c (fields d) (omega (arith, length-slice_split (λ e. e == 32) d)))
+    (more_than_three a b c (fields d) (omega (arith, length-slice_split (λ e. e == 32) d)))
 
 -- a text is its first line and the lines behind it
 pub first_of-cut : (text line behind : List ℕ) → IsCut 10 text line behind → lines text ≡ line ∷ lines behind

@@ -69,7 +69,7 @@ impl Cert {
     pub fn rows(&self) -> &[Rank]
         ensures { result.now ≡ self.now }
     {
-        &self.rows
+        self.rows.as_slice()
     }
 
     /// The rank of a name at a prefix.

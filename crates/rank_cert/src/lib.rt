@@ -6,6 +6,8 @@ mod fault;
 mod parts;
 mod read;
 mod row;
+#[cfg(test)]
+mod tests;
 mod write;
 
 pub use cert::{Cert, Rank};

@@ -1,4 +1,4 @@
-use Rattle.std.proofs.Common.{sym, ◌∙◌}
+use Rattle.std.proofs.Common.{sym}
 use Rattle.rank_cert.proofs.Cuts.{cut_to_end, not_there}
 use Rattle.rank_cert.proofs.parts.cut.Goals as goal
 

@@ -1,4 +1,4 @@
-use Rattle.std.proofs.Common.{arith, sym, ◌∙◌}
+use Rattle.std.proofs.Common.{sym, ◌∙◌}
 use Rattle.rank_cert.proofs.Cuts.{first_of-cut, first_of-last, not_empty}
 use Rattle.rank_cert.proofs.parts.first_line.Goals as goal
 

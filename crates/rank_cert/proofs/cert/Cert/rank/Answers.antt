@@ -1,4 +1,4 @@
-use Rattle.std.proofs.Common.{sym, ◌∙◌}
+use Rattle.std.proofs.Common.{◌∙◌}
 use Rattle.rank_cert.proofs.cert.Cert.rank.Goals as goal
 
 pub returns : goal.returns
