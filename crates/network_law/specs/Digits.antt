@@ -1,0 +1,12 @@
+-- Bytes of elements, and card numbers among them.
+use Rattle.std.specs.Prelude.{ℕ, List, Bool, ◌&&◌, is_ok}
+use Rattle.card_digits.specs.Digits.{digits_of}
+use Rattle.card_digits.specs.Reading.{read_digits}
+use Rattle.card_digits.specs.Numbers.{passes_luhn}
+
+abbrev pub Bytes : Type 0
+Bytes = List ℕ
+
+-- a card number whose check digit is right
+unfoldable pub is_good_card : Bytes → Bool
+is_good_card bytes = is_ok (read_digits 8 19 bytes) && passes_luhn (digits_of bytes)
