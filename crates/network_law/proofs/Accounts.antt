@@ -1,87 +1,68 @@
 -- What is kept of advices, posts and sent advices, as lists: each step keeps it.
-use Rattle.std.proofs.Common.{◌≡◌, ℕ, ◌+◌, ◌≤◌, List, [], ◌∷◌, map, Bool, true, false, cond, ◌&&◌, if◌then◌else◌, ◌<◌, refl, sym, ap, ◌∙◌, subst, inl, inr, ⊎_elim, ◌⊎◌, arith, bytes_eq}
-use Rattle.std.proofs.lemmas.Bool.{and_parts, or_cases, cond_both}
+use Rattle.std.proofs.Common.{◌≡◌, ℕ, ◌+◌, ◌≤◌, List, [], ◌∷◌, map, Bool, true, false, cond, if◌then◌else◌, ◌<◌, refl, sym, ap, ◌∙◌, subst, inl, inr, ⊎_elim, ◌⊎◌, arith}
+use Rattle.std.proofs.lemmas.Bool.{or_cases, cond_both}
 use Rattle.std.specs.List.{list_any}
-use Rattle.network_law.specs.Messages.{Message, key_eq, same_bool, Identity, identity_of, identity_eq, content, card_of}
 use Rattle.net_rows.specs.Network.{Network, issuer}
 use Rattle.network_law.specs.Traces.{Input, Enter, Take, LinkUp, LinkDown, Tick, HostAnswer, NewDate, Advice, has_identity, add_advice, acked_by, home_is, is_at_home}
 use Rattle.network_law.specs.Runs.{IsIn}
-use Rattle.network_law.proofs.Emits.{key_eq_refl, key_eq_is, bytes_eq_refl, bytes_eq_is}
 use Rattle.network_law.proofs.Reversals.{in_acked, any_in}
 use Rattle.network_law.proofs.Chain.{same_card}
+use Rattle.iso_message.proofs.Equality.{identity_eq_refl, identity_eq_is}
+use Rattle.iso_message.specs.Fields.{Fields}
+use Rattle.iso_message.specs.Keys.{identity_of, identity_eq, content}
+use Rattle.iso_message.specs.declared.keys.AdviceId.{AdviceId}
+use Rattle.network_law.specs.Cards.{card_of}
 
 not_both : (b : Bool) → b ≡ true → b ≡ false → ⊥
 not_both b p q = cc
 
 -- identities
 
-same_bool_refl : (b : Bool) → same_bool b b ≡ true
-same_bool_refl true = refl
-same_bool_refl false = refl
-
-same_bool_is : (a b : Bool) → same_bool a b ≡ true → a ≡ b
-same_bool_is true true e = refl
-same_bool_is true false e = absurd (not_both false e refl)
-same_bool_is false true e = absurd (not_both false e refl)
-same_bool_is false false e = refl
-
-pub identity_eq_refl : (a : Identity) → identity_eq a a ≡ true
-identity_eq_refl a = rw (same_bool_refl a.reverses, key_eq_refl a.key, bytes_eq_refl a.maker) refl
-
-pub identity_eq_is : (a b : Identity) → identity_eq a b ≡ true → a ≡ b
-identity_eq_is a b e =
-    let p = and_parts (same_bool a.reverses b.reverses && key_eq a.key b.key) (bytes_eq a.maker b.maker) e in
-    let q = and_parts (same_bool a.reverses b.reverses) (key_eq a.key b.key) p.0 in
-    let x = same_bool_is a.reverses b.reverses q.0 in
-    let y = key_eq_is a.key b.key q.1 in
-    let z = bytes_eq_is a.maker b.maker p.1 in
-    λ j. record { reverses = x j; key = y j; maker = z j }
-
-pub any_is : (id : Identity) (as' : List Advice) → list_any (has_identity id) as' ≡ true → (a : Advice) × IsIn a as' × (identity_of a.message ≡ id)
+pub any_is : (id : AdviceId) (as' : List Advice) → list_any (has_identity id) as' ≡ true → (a : Advice) × IsIn a as' × (identity_of a.message ≡ id)
 any_is id [] e = absurd (not_both false e refl)
 any_is id (a ∷ as') e = ⊎_elim (λ here. (a, inl refl, identity_eq_is (identity_of a.message) id here)) (λ there. (let r = any_is id as' there in (r.0, inr r.1, r.2))) (or_cases (has_identity id a) (list_any (has_identity id) as') e)
 
-pub is_any : (id : Identity) (a : Advice) (as' : List Advice) → IsIn a as' → identity_of a.message ≡ id → list_any (has_identity id) as' ≡ true
+pub is_any : (id : AdviceId) (a : Advice) (as' : List Advice) → IsIn a as' → identity_of a.message ≡ id → list_any (has_identity id) as' ≡ true
 is_any id a as' m e = any_in (has_identity id) a as' m (ap (λ z. identity_eq z id) e ∙ identity_eq_refl id)
 
 -- messages with the same identity and content
 
-pub record Alike (x y : Message) : Type 0 where
+pub record Alike (x y : Fields) : Type 0 where
   pub id : identity_of x ≡ identity_of y
   pub content_is : content x ≡ content y
 
-pub alike_refl : (x : Message) → Alike x x
+pub alike_refl : (x : Fields) → Alike x x
 alike_refl x = record { id = refl; content_is = refl }
 
-pub alike_sym : (x y : Message) → Alike x y → Alike y x
+pub alike_sym : (x y : Fields) → Alike x y → Alike y x
 alike_sym x y a = record { id = sym a.id; content_is = sym a.content_is }
 
-pub alike_more : (x y z : Message) → Alike x y → Alike y z → Alike x z
+pub alike_more : (x y z : Fields) → Alike x y → Alike y z → Alike x z
 alike_more x y z a b = record { id = a.id ∙ b.id; content_is = a.content_is ∙ b.content_is }
 
-pub alike_is : (x y : Message) → x ≡ y → Alike x y
+pub alike_is : (x y : Fields) → x ≡ y → Alike x y
 alike_is x y e = record { id = ap identity_of e; content_is = ap content e }
 
-pub alike_card : (x y : Message) → Alike x y → card_of x ≡ card_of y
+pub alike_card : (x y : Fields) → Alike x y → card_of x ≡ card_of y
 alike_card x y a = same_card x y a.content_is
 
-pub alike_home : (t : Network) (n : ℕ) (x y : Message) → Alike x y → is_at_home t n x ≡ is_at_home t n y
+pub alike_home : (t : Network) (n : ℕ) (x y : Fields) → Alike x y → is_at_home t n x ≡ is_at_home t n y
 alike_home t n x y a = ap (λ c. home_is n (issuer t c)) (alike_card x y a)
 
 -- how often an identity is posted
 
-unfoldable pub posted_of : Identity → List Message → ℕ
+unfoldable pub posted_of : AdviceId → List Fields → ℕ
 posted_of id [] = 0
 posted_of id (x ∷ ps) = (if identity_eq (identity_of x) id then 1 else 0) + posted_of id ps
 
-pub record Accounts (t : Network) (n : ℕ) (as' : List Advice) (ps : List Message) (us : List (ℕ × Message)) : Type 0 where
-  pub home : (a : Advice) → IsIn a as' → is_at_home t n a.message ≡ true → (x : Message) × IsIn x ps × Alike x a.message
-  pub posted : (x : Message) → IsIn x ps → (a : Advice) × IsIn a as' × Alike a.message x × (is_at_home t n x ≡ true)
-  pub put : (u : ℕ × Message) → IsIn u us → (a : Advice) × IsIn a as' × Alike a.message u.1
-  pub one : (id : Identity) → posted_of id ps ≤ 1
+pub record Accounts (t : Network) (n : ℕ) (as' : List Advice) (ps : List Fields) (us : List (ℕ × Fields)) : Type 0 where
+  pub home : (a : Advice) → IsIn a as' → is_at_home t n a.message ≡ true → (x : Fields) × IsIn x ps × Alike x a.message
+  pub posted : (x : Fields) → IsIn x ps → (a : Advice) × IsIn a as' × Alike a.message x × (is_at_home t n x ≡ true)
+  pub put : (u : ℕ × Fields) → IsIn u us → (a : Advice) × IsIn a as' × Alike a.message u.1
+  pub one : (id : AdviceId) → posted_of id ps ≤ 1
   pub single : (a b : Advice) → IsIn a as' → IsIn b as' → identity_of a.message ≡ identity_of b.message → content a.message ≡ content b.message
 
-pub posted_none : (id : Identity) (ps : List Message) → ((x : Message) → IsIn x ps → identity_of x ≡ id → ⊥) → posted_of id ps ≡ 0
+pub posted_none : (id : AdviceId) (ps : List Fields) → ((x : Fields) → IsIn x ps → identity_of x ≡ id → ⊥) → posted_of id ps ≡ 0
 unfolding posted_of
 posted_none id [] none = refl
 posted_none id (x ∷ ps) none = go (identity_eq (identity_of x) id) refl (posted_none id ps (λ y m. none y (inr m)))
@@ -90,12 +71,12 @@ posted_none id (x ∷ ps) none = go (identity_eq (identity_of x) id) refl (poste
     go true at rest = absurd (none x (inl refl) (identity_eq_is (identity_of x) id at))
     go false at rest = rw at (omega (arith, rest))
 
-pub posted_some : (id : Identity) (ps : List Message) → 0 < posted_of id ps → (x : Message) × IsIn x ps × (identity_of x ≡ id)
+pub posted_some : (id : AdviceId) (ps : List Fields) → 0 < posted_of id ps → (x : Fields) × IsIn x ps × (identity_of x ≡ id)
 unfolding posted_of
 posted_some id [] more = absurd (omega (arith, more))
 posted_some id (x ∷ ps) more = go (identity_eq (identity_of x) id) refl (posted_some id ps)
   where
-    go : (b : Bool) → identity_eq (identity_of x) id ≡ b → (0 < posted_of id ps → (y : Message) × IsIn y ps × (identity_of y ≡ id)) → (y : Message) × IsIn y (x ∷ ps) × (identity_of y ≡ id)
+    go : (b : Bool) → identity_eq (identity_of x) id ≡ b → (0 < posted_of id ps → (y : Fields) × IsIn y ps × (identity_of y ≡ id)) → (y : Fields) × IsIn y (x ∷ ps) × (identity_of y ≡ id)
     go true at rest = (x, inl refl, identity_eq_is (identity_of x) id at)
     go false at rest =
         let more' : 0 < 0 + posted_of id ps = rw at at more in
@@ -117,7 +98,7 @@ in_acked_back i a (b ∷ as') m = ⊎_elim (λ e. (acked_by i b, inl refl, acked
     acked_message (HostAnswer c d) b = refl
     acked_message (NewDate d) b = refl
 
-pub accounts_acked : (t : Network) (n : ℕ) (i : Input) (as' : List Advice) (ps : List Message) (us : List (ℕ × Message)) → Accounts t n as' ps us → Accounts t n (map (acked_by i) as') ps us
+pub accounts_acked : (t : Network) (n : ℕ) (i : Input) (as' : List Advice) (ps : List Fields) (us : List (ℕ × Fields)) → Accounts t n as' ps us → Accounts t n (map (acked_by i) as') ps us
 accounts_acked t n i as' ps us q = record {
   home = λ a m e. (let b = in_acked a i as' m in let r = q.home b.0 b.1 (ap (is_at_home t n) b.2 ∙ e) in (r.0, r.1, alike_more r.0 b.0.message a.message r.2 (alike_is b.0.message a.message b.2)));
   posted = λ x m. (let r = q.posted x m in let b = in_acked_back i r.0 as' r.1 in (b.0, b.1, alike_more b.0.message r.0.message x (alike_is b.0.message r.0.message b.2) r.2, r.3));
@@ -128,12 +109,12 @@ accounts_acked t n i as' ps us q = record {
 
 -- an advice that is kept
 
-unfoldable pub kept_posts : Network → ℕ → Bool → Message → List Message → List Message
+unfoldable pub kept_posts : Network → ℕ → Bool → Fields → List Fields → List Fields
 kept_posts t n true x ps = ps
 kept_posts t n false x ps = cond (is_at_home t n x) (x ∷ ps) ps
 
-abbrev pub KeptSends : Bool → Message → List (ℕ × Message) → List (ℕ × Message) → Type 0
-KeptSends k x us us' = (u : ℕ × Message) → IsIn u us' → IsIn u us ⊎ ((k ≡ false) × Alike x u.1)
+abbrev pub KeptSends : Bool → Fields → List (ℕ × Fields) → List (ℕ × Fields) → Type 0
+KeptSends k x us us' = (u : ℕ × Fields) → IsIn u us' → IsIn u us ⊎ ((k ≡ false) × Alike x u.1)
 
 pub in_add_front : (a : Advice) (as' : List Advice) → list_any (has_identity (identity_of a.message)) as' ≡ false → add_advice a as' ≡ a ∷ as'
 in_add_front a as' e = rw e refl
@@ -141,17 +122,17 @@ in_add_front a as' e = rw e refl
 pub in_add_known : (a : Advice) (as' : List Advice) → list_any (has_identity (identity_of a.message)) as' ≡ true → add_advice a as' ≡ as'
 in_add_known a as' e = rw e refl
 
-accounts_new : (t : Network) (n : ℕ) (a : Advice) (as' : List Advice) (ps : List Message) (us us' : List (ℕ × Message)) → Accounts t n as' ps us → list_any (has_identity (identity_of a.message)) as' ≡ false → KeptSends false a.message us us' → Accounts t n (a ∷ as') (kept_posts t n false a.message ps) us'
+accounts_new : (t : Network) (n : ℕ) (a : Advice) (as' : List Advice) (ps : List Fields) (us us' : List (ℕ × Fields)) → Accounts t n as' ps us → list_any (has_identity (identity_of a.message)) as' ≡ false → KeptSends false a.message us us' → Accounts t n (a ∷ as') (kept_posts t n false a.message ps) us'
 unfolding kept_posts posted_of
 accounts_new t n a as' ps us us' q fresh sends = cond_both (is_at_home t n a.message) (a.message ∷ ps) ps (λ z. Accounts t n (a ∷ as') z us') at_home away
   where
     no_other : (b : Advice) → IsIn b as' → identity_of b.message ≡ identity_of a.message → ⊥
     no_other b m e = not_both (list_any (has_identity (identity_of a.message)) as') (is_any (identity_of a.message) b as' m e) fresh
 
-    no_post : (x : Message) → IsIn x ps → identity_of x ≡ identity_of a.message → ⊥
+    no_post : (x : Fields) → IsIn x ps → identity_of x ≡ identity_of a.message → ⊥
     no_post x m e = let r = q.posted x m in no_other r.0 r.1 (r.2.id ∙ e)
 
-    put' : (u : ℕ × Message) → IsIn u us' → (b : Advice) × IsIn b (a ∷ as') × Alike b.message u.1
+    put' : (u : ℕ × Fields) → IsIn u us' → (b : Advice) × IsIn b (a ∷ as') × Alike b.message u.1
     put' u m = ⊎_elim (λ old. (let r = q.put u old in (r.0, inr r.1, r.2))) (λ new. (a, inl refl, new.1)) (sends u m)
 
     single' : (b c : Advice) → IsIn b (a ∷ as') → IsIn c (a ∷ as') → identity_of b.message ≡ identity_of c.message → content b.message ≡ content c.message
@@ -169,7 +150,7 @@ accounts_new t n a as' ps us us' q fresh sends = cond_both (is_at_home t n a.mes
       single = single';
     }
       where
-        one' : (id : Identity) (b : Bool) → identity_eq (identity_of a.message) id ≡ b → (cond (identity_eq (identity_of a.message) id) 1 0) + posted_of id ps ≤ 1
+        one' : (id : AdviceId) (b : Bool) → identity_eq (identity_of a.message) id ≡ b → (cond (identity_eq (identity_of a.message) id) 1 0) + posted_of id ps ≤ 1
         one' id true at =
             let z : posted_of id ps ≡ 0 = posted_none id ps (λ x m e. no_post x m (e ∙ sym (identity_eq_is (identity_of a.message) id at))) in
             rw at (omega (arith, z))
@@ -184,13 +165,13 @@ accounts_new t n a as' ps us us' q fresh sends = cond_both (is_at_home t n a.mes
       single = single';
     }
 
-accounts_more : (t : Network) (n : ℕ) (as' : List Advice) (ps : List Message) (us us' : List (ℕ × Message)) → Accounts t n as' ps us → ((u : ℕ × Message) → IsIn u us' → IsIn u us ⊎ ((a : Advice) × IsIn a as' × Alike a.message u.1)) → Accounts t n as' ps us'
+accounts_more : (t : Network) (n : ℕ) (as' : List Advice) (ps : List Fields) (us us' : List (ℕ × Fields)) → Accounts t n as' ps us → ((u : ℕ × Fields) → IsIn u us' → IsIn u us ⊎ ((a : Advice) × IsIn a as' × Alike a.message u.1)) → Accounts t n as' ps us'
 accounts_more t n as' ps us us' q sends = record { home = q.home; posted = q.posted; put = λ u m. ⊎_elim (λ old. q.put u old) (λ new. new) (sends u m); one = q.one; single = q.single }
 
-pub accounts_sent : (t : Network) (n : ℕ) (as' : List Advice) (ps : List Message) (us us' : List (ℕ × Message)) → Accounts t n as' ps us → ((u : ℕ × Message) → IsIn u us' → IsIn u us ⊎ ((a : Advice) × IsIn a as' × Alike a.message u.1)) → Accounts t n as' ps us'
+pub accounts_sent : (t : Network) (n : ℕ) (as' : List Advice) (ps : List Fields) (us us' : List (ℕ × Fields)) → Accounts t n as' ps us → ((u : ℕ × Fields) → IsIn u us' → IsIn u us ⊎ ((a : Advice) × IsIn a as' × Alike a.message u.1)) → Accounts t n as' ps us'
 accounts_sent = accounts_more
 
-pub accounts_kept : (t : Network) (n : ℕ) (a : Advice) (x : Message) (k : Bool) (as' : List Advice) (ps : List Message) (us us' : List (ℕ × Message)) → Accounts t n as' ps us → a.message ≡ x → list_any (has_identity (identity_of x)) as' ≡ k → KeptSends k x us us' → Accounts t n (add_advice a as') (kept_posts t n k x ps) us'
+pub accounts_kept : (t : Network) (n : ℕ) (a : Advice) (x : Fields) (k : Bool) (as' : List Advice) (ps : List Fields) (us us' : List (ℕ × Fields)) → Accounts t n as' ps us → a.message ≡ x → list_any (has_identity (identity_of x)) as' ≡ k → KeptSends k x us us' → Accounts t n (add_advice a as') (kept_posts t n k x ps) us'
 unfolding kept_posts posted_of
 accounts_kept t n a x true as' ps us us' q e known sends =
     subst (λ z. Accounts t n z ps us') (sym (in_add_known a as' (ap (λ z. list_any (has_identity (identity_of z)) as') e ∙ known)))

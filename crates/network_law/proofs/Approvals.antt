@@ -2,11 +2,9 @@
 use Rattle.std.proofs.Common.{◌≡◌, ℕ, zero, suc, ◌<◌, List, [], ◌∷◌, ◌++◌, Option, Some, None, Bool, true, false, ◌&&◌, refl, sym, ap, ◌∙◌, subst, inl, inr, ⊎_elim, ◌⊎◌, arith, bytes_eq}
 use Rattle.std.proofs.lemmas.Bool.{and_parts, or_cases, or_right}
 use Rattle.std.proofs.lemmas.Option.{same_Some}
-use Rattle.network_law.specs.Digits.{Bytes}
-use Rattle.network_law.specs.Messages.{Message, K0100, is_request, is_answer, is_04xx, Key, key_of, key_eq, as_kind, code_of, code_94, code_00, response, card_of}
 use Rattle.net_rows.specs.Network.{Network, other_end}
 use Rattle.network_law.specs.Traces.{Input, Enter, Take, LinkUp, LinkDown, Tick, HostAnswer, NewDate, Output, Put, Event, In, Out, History, Handled, handled, Opening, opening, sent, has_00, is_00_of, brings_00, key_of_00, own_approval, Approval, approval_by, approval_of, approvals, ask_key, is_key, forwarded}
-use Rattle.network_law.specs.Decision.{decide, refusal, advice_kind}
+use Rattle.network_law.specs.Decision.{decide, refusal, sent_kind}
 use Rattle.network_law.specs.Runs.{IsFormed, IsIn, Has, Entry, history, Legal, IsRun, Ranks, IsRanked, HasSingleGates, LeadsToApproval, C3}
 use Rattle.network_law.proofs.Emits.{Allowed, forwarding, asking, standing_in, passing, declining, repeating, refusing, acking, sending, posting, OpenedFirst, Failed, ViaLink, ViaHost, decide_keeps, key_eq_is, bytes_eq_is, stays_open}
 use Rattle.network_law.proofs.Node.{NodeFacts, OpensNow, opening_in_cases, legal_facts, facts_out, keeps_issuers, answer_no_request, answer_is, response_is_of_kind, forwarded_has}
@@ -14,6 +12,14 @@ use Rattle.network_law.proofs.Elements.{response_key}
 use Rattle.network_law.proofs.Used.{OwnFacts, Stood, own_case, own_in_entry, has_00_more, brings_more, ask_key_more, answer_has_00, reply_message, response_code, acked_kind, advice_no_answer}
 use Rattle.network_law.proofs.Chain.{rank, forward_falls}
 use Rattle.network_law.proofs.Ends.{legal_at}
+use Rattle.network_law.specs.Cards.{Bytes, card_of}
+use Rattle.iso_message.specs.Fields.{Fields, as_kind}
+use Rattle.iso_message.specs.declared.kind.Kind.TheVariants.{K0100}
+use Rattle.iso_message.specs.Groups.{is_request, is_answer, is_04xx}
+use Rattle.card_digits.specs.declared.key.Key.{Key}
+use Rattle.iso_message.specs.Keys.{key_of, key_eq}
+use Rattle.iso_message.specs.Codes.{code_of, code_94, code_00}
+use Rattle.iso_message.specs.Made.{response}
 
 not_both : (b : Bool) → b ≡ true → b ≡ false → ⊥
 not_both b p q = cc
@@ -26,7 +32,7 @@ forwarded_more h i o k l e = rw e refl
 pub record Came00 (h : History) (k : Key) : Type 0 where
   pub link : ℕ
   pub serial : ℕ
-  pub message : Message
+  pub message : Fields
   pub has : Has (In (Take link serial message)) h
   pub is_00 : is_00_of k (Some message) ≡ true
   pub forwarded_on : forwarded h k ≡ Some link
@@ -54,18 +60,18 @@ more_origin t (Out i o) h k (inr (inl a)) = inr (inl (a.0, in_front (approval_of
 more_origin t (Out i o) h k (inr (inr a)) = inr (inr (a.0, inr a.1, ask_key_more h i o a.0 k a.2))
 
 -- a 0110 of k with 00 in the output
-pub record Is00 (k : Key) (m : Message) : Type 0 where
+pub record Is00 (k : Key) (m : Fields) : Type 0 where
   pub answer_kind : is_answer m.kind ≡ true
   pub key : key_of m ≡ k
   pub code : bytes_eq (code_of m) code_00 ≡ true
 
-pub is_00_parts : (k : Key) (m : Message) → is_00_of k (Some m) ≡ true → Is00 k m
+pub is_00_parts : (k : Key) (m : Fields) → is_00_of k (Some m) ≡ true → Is00 k m
 is_00_parts k m e =
     let p = and_parts (is_answer m.kind && key_eq (key_of m) k) (bytes_eq (code_of m) code_00) e in
     let q = and_parts (is_answer m.kind) (key_eq (key_of m) k) p.0 in
     record { answer_kind = q.0; key = key_eq_is (key_of m) k q.1; code = p.1 }
 
-sent_00 : (k : Key) (w : Option Message) → is_00_of k w ≡ true → (m : Message) × (w ≡ Some m) × Is00 k m
+sent_00 : (k : Key) (w : Option Fields) → is_00_of k w ≡ true → (m : Fields) × (w ≡ Some m) × Is00 k m
 sent_00 k None e = absurd (not_both false e refl)
 sent_00 k (Some m) e = (m, refl, is_00_parts k m e)
 
@@ -77,20 +83,20 @@ record InEntry (t : Network) (n : ℕ) (past : History) (i : Input) (h : History
   origin : (k : Key) → has_00 h k ≡ true → Origin t h k
 
 -- a 00 in the entry of a 0110 with 00 of the same key goes on by the link on which k was forwarded
-came_case : (t : Network) (n : ℕ) (past : History) (h : History) (o : Output) (k : Key) (l s : ℕ) (m x : Message) → OwnFacts t n past (Take l s m) h → Allowed t n past (Take l s m) h o → is_answer m.kind ≡ true → sent o ≡ Some x → Is00 k x → has_00 h k ≡ false → forwarded past k ≡ Some l
+came_case : (t : Network) (n : ℕ) (past : History) (h : History) (o : Output) (k : Key) (l s : ℕ) (m x : Fields) → OwnFacts t n past (Take l s m) h → Allowed t n past (Take l s m) h o → is_answer m.kind ≡ true → sent o ≡ Some x → Is00 k x → has_00 h k ≡ false → forwarded past k ≡ Some l
 unfolding handled
 came_case t n past h o k l s m x facts allowed ans is x00 none = go allowed
   where
     ends : {A : Type 0} (b : Bool) → b ≡ true → b ≡ false → A
     ends b p q = absurd (not_both b p q)
 
-    of_code : {A : Type 0} (y : Message) (c : Bytes) → response y c ≡ x → bytes_eq c code_00 ≡ false → A
+    of_code : {A : Type 0} (y : Fields) (c : Bytes) → response y c ≡ x → bytes_eq c code_00 ≡ false → A
     of_code y c same other = ends (bytes_eq c code_00) (ap (λ c. bytes_eq c code_00) (sym (response_code y c x same)) ∙ x00.code) other
 
     go : Allowed t n past (Take l s m) h o → forwarded past k ≡ Some l
     go (forwarding f) =
         let same : as_kind K0100 f.message ≡ x = same_Some _ _ (ap sent (sym f.is) ∙ is) in
-        ends (is_answer x.kind) x00.answer_kind (ap (λ z. is_answer (Message.kind z)) (sym same))
+        ends (is_answer x.kind) x00.answer_kind (ap (λ z. is_answer (Fields.kind z)) (sym same))
     go (asking f) = absurd (bad (ap sent (sym f.is) ∙ is))
       where
         bad : None ≡ Some x → ⊥
@@ -106,13 +112,13 @@ came_case t n past h o k l s m x facts allowed ans is x00 none = go allowed
             now : OpensNow t past (Take l s m) f.opens.key f.op → forwarded past k ≡ Some l
             now v =
                 let same : m ≡ f.op.message = ap (λ (z : Handled). z.message) (same_Some _ _ v.is_handled) in
-                ends (is_request m.kind) (ap (λ z. is_request (Message.kind z)) same ∙ v.request) (answer_no_request m.kind ans)
+                ends (is_request m.kind) (ap (λ z. is_request (Fields.kind z)) same ∙ v.request) (answer_no_request m.kind ans)
 
         failed : Failed t past (Take l s m) f.opens.key f.op → forwarded past k ≡ Some l
         failed w = ends false w.timer refl
     go (passing f) = ⊎_elim link host f.via
       where
-        take_link : {a b c d : ℕ} {y z : Message} → Take a b y ≡ Take c d z → a ≡ c
+        take_link : {a b c d : ℕ} {y z : Fields} → Take a b y ≡ Take c d z → a ≡ c
         take_link p = cc
 
         same : response f.op.message f.code ≡ x
@@ -141,10 +147,10 @@ came_case t n past h o k l s m x facts allowed ans is x00 none = go allowed
     go (refusing f) = of_code f.message code_94 (reply_message f.source _ h o x f.is is) refl
     go (acking f) =
         let same : response f.message f.code ≡ x = reply_message f.source _ h o x f.is is in
-        ends (is_answer x.kind) x00.answer_kind (ap (λ z. is_answer (Message.kind z)) (sym same) ∙ (ap is_answer (response_is_of_kind f.message f.code) ∙ acked_kind f.message.kind f.kind))
+        ends (is_answer x.kind) x00.answer_kind (ap (λ z. is_answer (Fields.kind z)) (sym same) ∙ (ap is_answer (response_is_of_kind f.message f.code) ∙ acked_kind f.message.kind f.kind))
     go (sending f) =
-        let same : as_kind (advice_kind (is_04xx f.message.kind) f.again) f.message ≡ x = same_Some _ _ (ap sent (sym f.is) ∙ is) in
-        ends (is_answer x.kind) x00.answer_kind (ap (λ z. is_answer (Message.kind z)) (sym same) ∙ advice_no_answer (is_04xx f.message.kind) f.again)
+        let same : as_kind (sent_kind (is_04xx f.message.kind) f.again) f.message ≡ x = same_Some _ _ (ap sent (sym f.is) ∙ is) in
+        ends (is_answer x.kind) x00.answer_kind (ap (λ z. is_answer (Fields.kind z)) (sym same) ∙ advice_no_answer (is_04xx f.message.kind) f.again)
     go (posting f) = absurd (bad (ap sent (sym f.is) ∙ is))
       where
         bad : None ≡ Some x → ⊥
@@ -159,7 +165,7 @@ first_00 : (t : Network) (n : ℕ) (past : History) (i : Input) (h : History) (o
 unfolding approvals forwarded
 first_00 t n past i h o k q allowed none e = go (brings_00 h k i) refl
   where
-    x : (m : Message) × (sent o ≡ Some m) × Is00 k m
+    x : (m : Fields) × (sent o ≡ Some m) × Is00 k m
     x = sent_00 k (sent o) e
 
     own : brings_00 h k i ≡ false → own_approval h i o ≡ Some k
@@ -220,7 +226,7 @@ legal_origins t n [] l = λ k e. absurd (not_both false e refl)
 legal_origins t n (e ∷ es) l = subst (HasOrigins t) (sym l.1.outputs) (origin_decide t n (history es) e.input l.1.formed l.1.accepted (legal_facts t n es l.0) (legal_origins t n es l.0))
 
 -- what was put out with 00
-put_00 : (h : History) (i : Input) (l s : ℕ) (m : Message) (k : Key) → Has (Out i (Put l s m)) h → is_00_of k (Some m) ≡ true → has_00 h k ≡ true
+put_00 : (h : History) (i : Input) (l s : ℕ) (m : Fields) (k : Key) → Has (Out i (Put l s m)) h → is_00_of k (Some m) ≡ true → has_00 h k ≡ true
 unfolding has_00
 put_00 [] i l s m k has e = absurd has
 put_00 (In j ∷ h) i l s m k has e = ⊎_elim (λ bad. absurd (differ bad)) (λ below. put_00 h i l s m k below e) has

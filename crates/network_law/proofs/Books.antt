@@ -2,11 +2,14 @@
 use Rattle.std.proofs.Common.{◌≡◌, List, [], ◌∷◌, filter, reverse, Option, Some, None, is_some, is_none, Bool, true, false, cond, not, ◌&&◌, refl, sym, ap, ◌∙◌}
 use Rattle.std.proofs.lemmas.Bool.{and_right}
 use Rattle.std.specs.Option.{option_or}
-use Rattle.network_law.specs.Messages.{Message, Key, key_eq, key_of, is_answer}
 use Rattle.net_rows.specs.Network.{Network}
 use Rattle.network_law.specs.Traces.{Input, Output, Out, History, opening, opened, answer, answers, sent, pending}
 use Rattle.network_law.proofs.Emits.{key_eq_is}
 use Rattle.network_law.proofs.Node.{answers_is}
+use Rattle.iso_message.specs.Fields.{Fields}
+use Rattle.card_digits.specs.declared.key.Key.{Key}
+use Rattle.iso_message.specs.Keys.{key_eq, key_of}
+use Rattle.iso_message.specs.Groups.{is_answer}
 
 -- what the book of pending requests is to hold
 pub pending_keys : Network → History → List Key
@@ -22,7 +25,7 @@ filter_twice p q r e (x ∷ xs) = go (p x) refl (q x) refl (filter_twice p q r e
     go false at b at' ih = rw (e x, at) ih
 
 -- an answer of k takes k off, and nothing else
-pub pending_answered : (t : Network) (h : History) (i : Input) (o : Output) (k : Key) (a : Message) → answers k (sent o) ≡ Some a → answer h k ≡ None → pending_keys t (Out i o ∷ h) ≡ filter (λ j. not (key_eq k j)) (pending_keys t h)
+pub pending_answered : (t : Network) (h : History) (i : Input) (o : Output) (k : Key) (a : Fields) → answers k (sent o) ≡ Some a → answer h k ≡ None → pending_keys t (Out i o ∷ h) ≡ filter (λ j. not (key_eq k j)) (pending_keys t h)
 unfolding pending_keys opened opening answer
 pending_answered t h i o k a e none = filter_twice (pending t h) (λ j. not (key_eq k j)) (pending t (Out i o ∷ h)) one (reverse (opened t h))
   where
@@ -43,7 +46,7 @@ pending_answered t h i o k a e none = filter_twice (pending t h) (λ j. not (key
             rw (at, here, none') (and_right (is_some (opening t h j)) false refl ∙ sym (and_right (is_some (opening t h j) && true) false refl))
         go false at = drop_none (answer h j) (other j at) at
           where
-            drop_none : (w' : Option Message) → answers j (sent o) ≡ None → key_eq k j ≡ false → (is_some (opening t h j) && is_none (option_or w' (answers j (sent o)))) ≡ (is_some (opening t h j) && is_none w' && not (key_eq k j))
+            drop_none : (w' : Option Fields) → answers j (sent o) ≡ None → key_eq k j ≡ false → (is_some (opening t h j) && is_none (option_or w' (answers j (sent o)))) ≡ (is_some (opening t h j) && is_none w' && not (key_eq k j))
             drop_none None n d = rw (n, d) (and_true (is_some (opening t h j)))
               where
                 and_true : (b : Bool) → (b && true) ≡ (b && true && true)

@@ -3,7 +3,6 @@ use Rattle.std.proofs.Common.{◌≡◌, ℕ, zero, suc, ◌+◌, ◌≤◌, ◌
 use Rattle.std.proofs.lemmas.Bool.{eqb-true, cases_order}
 use Rattle.std.proofs.lemmas.Option.{same_Some}
 use Rattle.std.specs.Option.{option_or}
-use Rattle.network_law.specs.Messages.{Message, K0100, is_request, Key, key_of, card_of, get, as_kind, content, Content, el}
 use Rattle.card_digits.specs.Digits.{digits_of}
 use Rattle.net_rows.specs.Network.{Network, issuer, other_end}
 use Rattle.net_rows.specs.declared.row.Issuer.{Issuer}
@@ -13,11 +12,17 @@ use Rattle.network_law.specs.Runs.{Has, Entry, history, Legal, NamesOwnLink, IsR
 use Rattle.network_law.proofs.Ends.{legal_at, is_node, not_home, back}
 use Rattle.network_law.proofs.Emits.{decide_keeps, key_eq_refl}
 use Rattle.network_law.proofs.Node.{NodeFacts, Sent, Opened, legal_facts, keeps_issuers, forwarded_has}
+use Rattle.iso_message.specs.Fields.{Fields, get, as_kind, el}
+use Rattle.iso_message.specs.declared.kind.Kind.TheVariants.{K0100}
+use Rattle.iso_message.specs.Groups.{is_request}
+use Rattle.card_digits.specs.declared.key.Key.{Key}
+use Rattle.iso_message.specs.Keys.{key_of, content, Content}
+use Rattle.network_law.specs.Cards.{card_of}
 
 -- takes are from own links
 
 abbrev TakesOwn : Network → ℕ → History → Type 0
-TakesOwn t n h = (l s : ℕ) (m : Message) → Has (In (Take l s m)) h → is_link_of t n l ≡ true
+TakesOwn t n h = (l s : ℕ) (m : Fields) → Has (In (Take l s m)) h → is_link_of t n l ≡ true
 
 pub legal_own : (t : Network) (n : ℕ) (es : List Entry) → Legal t n es → TakesOwn t n (history es)
 unfolding history
@@ -28,13 +33,13 @@ legal_own t n (e ∷ es) l = subst (TakesOwn t n) (sym l.1.outputs)
     (keeps_issuers t n (history es) (legal_facts t n es l.0))
     (λ k s m has. ⊎_elim (λ here. own e.input l.1.own k s m here) (λ below. legal_own t n es l.0 k s m below) has))
   where
-    no : (i : Input) (o : Output) (k s : ℕ) (m : Message) → Out i o ≡ In (Take k s m) → ⊥
+    no : (i : Input) (o : Output) (k s : ℕ) (m : Fields) → Out i o ≡ In (Take k s m) → ⊥
     no i o k s m p = cc
 
     in_parts : (i j : Input) → In i ≡ In j → i ≡ j
     in_parts i j p = cc
 
-    own : (i : Input) → NamesOwnLink t n i → (k s : ℕ) (m : Message) → In i ≡ In (Take k s m) → is_link_of t n k ≡ true
+    own : (i : Input) → NamesOwnLink t n i → (k s : ℕ) (m : Fields) → In i ≡ In (Take k s m) → is_link_of t n k ≡ true
     own i names k s m p = subst (NamesOwnLink t n) (in_parts i (Take k s m) p) names
 
 -- ranks as numbers, below a bound
@@ -63,7 +68,7 @@ falls ranks card low high f =
     record { less = omega (arith, a, b, d); bound = omega (arith, a, c) }
 
 -- a request on a link is the forward of its key
-pub has_forwarded : (h : History) (i : Input) (l s : ℕ) (x : Message) → Has (Out i (Put l s x)) h → is_request x.kind ≡ true → (w : ℕ) × (forwarded h (key_of x) ≡ Some w)
+pub has_forwarded : (h : History) (i : Input) (l s : ℕ) (x : Fields) → Has (Out i (Put l s x)) h → is_request x.kind ≡ true → (w : ℕ) × (forwarded h (key_of x) ≡ Some w)
 unfolding forwarded
 has_forwarded [] i l s x has r = absurd has
 has_forwarded (In j ∷ h) i l s x has r = ⊎_elim (λ bad. absurd (no bad)) (λ below. has_forwarded h i l s x below r) has
@@ -104,12 +109,12 @@ chain t traces k g zero = Some g
 chain t traces k g (suc j) = option_next (chain t traces k g j) (next t traces k)
 
 -- the content of a put request is that of its opening
-same_content : (m : Message) → content (as_kind K0100 m) ≡ content m
+same_content : (m : Fields) → content (as_kind K0100 m) ≡ content m
 unfolding content el get
 same_content m = refl
 
 -- messages of one content have one card
-pub same_card : (m m' : Message) → content m ≡ content m' → card_of m ≡ card_of m'
+pub same_card : (m m' : Fields) → content m ≡ content m' → card_of m ≡ card_of m'
 unfolding content card_of
 same_card m m' e = ap (λ (c : Content). digits_of c.card) e
 
@@ -152,7 +157,7 @@ module _ (t : Network) (ranks : Ranks) (traces : ℕ → List Entry) (run : IsRu
           inl (record { link = p.0; serial = p.1; input = p.2; source = p.3; from_input = put.0; put = put.1; back_to = back t p.0 n own; sent = (facts (other_end t n p.0)).puts put.0 p.0 p.1 op.message put.1 (Opened.request ((facts n).opens k op e)) })
 
   -- the forward of k at a node, and where it leads
-  forward_is : (n l s : ℕ) (i : Input) (x : Message) → Has (Out i (Put l s x)) (history (traces n)) → is_request x.kind ≡ true → key_of x ≡ k → forwarded (history (traces n)) k ≡ Some l
+  forward_is : (n l s : ℕ) (i : Input) (x : Fields) → Has (Out i (Put l s x)) (history (traces n)) → is_request x.kind ≡ true → key_of x ≡ k → forwarded (history (traces n)) k ≡ Some l
   forward_is n l s i x has r e =
       let f = has_forwarded (history (traces n)) i l s x has r in
       let g : forwarded (history (traces n)) k ≡ Some f.0 = ap (forwarded (history (traces n))) (sym e) ∙ f.1 in
@@ -160,7 +165,7 @@ module _ (t : Network) (ranks : Ranks) (traces : ℕ → List Entry) (run : IsRu
       let one = (facts n).one_put b.0 i f.0 b.1 l s b.2 x b.3 has b.4 r (b.5 ∙ sym e) in
       g ∙ ap Some one.0
 
-  pub next_is : (g j n l s : ℕ) (i : Input) (x : Message) → chain t traces k g j ≡ Some n → Has (Out i (Put l s x)) (history (traces n)) → is_request x.kind ≡ true → key_of x ≡ k → chain t traces k g (suc j) ≡ Some (other_end t n l)
+  pub next_is : (g j n l s : ℕ) (i : Input) (x : Fields) → chain t traces k g j ≡ Some n → Has (Out i (Put l s x)) (history (traces n)) → is_request x.kind ≡ true → key_of x ≡ k → chain t traces k g (suc j) ≡ Some (other_end t n l)
   unfolding chain option_next next link_next
   next_is g j n l s i x at has r e = rw (at, forward_is n l s i x has r e) refl
 
@@ -171,7 +176,7 @@ module _ (t : Network) (ranks : Ranks) (traces : ℕ → List Entry) (run : IsRu
   request_here n op e = Opened.request ((facts n).opens k op e)
 
   -- a request that stands on a link falls
-  sent_falls : (n l : ℕ) (x : Message) (sent : Sent t n (history (traces n)) l x) → n < length t.nodes → RankFalls ranks (card_of sent.op.message) (other_end t n l) n
+  sent_falls : (n l : ℕ) (x : Fields) (sent : Sent t n (history (traces n)) l x) → n < length t.nodes → RankFalls ranks (card_of sent.op.message) (other_end t n l) n
   sent_falls n l x sent less = falls ranks (card_of sent.op.message) (other_end t n l) n (ranked (card_of sent.op.message) sent.s n l sent.issued less (not_home sent.s n sent.away) sent.on_route)
 
   -- by induction on how far the rank is from the greatest
@@ -278,13 +283,13 @@ module _ (t : Network) (ranks : Ranks) (traces : ℕ → List Entry) (run : IsRu
       no lt = omega (arith, lt)
 
   -- a node that has put a request of k has it open
-  opened_of : (n l s : ℕ) (x : Message) → IsForward traces k n l s x → (op : Opening) × (opening t (history (traces n)) k ≡ Some op)
+  opened_of : (n l s : ℕ) (x : Fields) → IsForward traces k n l s x → (op : Opening) × (opening t (history (traces n)) k ≡ Some op)
   opened_of n l s x f =
       let sent = (facts n).puts f.input l s x f.put f.request in
       (sent.op, ap (opening t (history (traces n))) (sym f.key) ∙ sent.is)
 
   -- two nodes that put k to one node are one
-  one_sender : (n l s n' l' s' : ℕ) (x x' : Message) → IsForward traces k n l s x → IsForward traces k n' l' s' x' → other_end t n l ≡ other_end t n' l' → n ≡ n'
+  one_sender : (n l s n' l' s' : ℕ) (x x' : Fields) → IsForward traces k n l s x → IsForward traces k n' l' s' x' → other_end t n l ≡ other_end t n' l' → n ≡ n'
   one_sender n l s n' l' s' x x' f f' e =
       let o = opened_of n l s x f in
       let o' = opened_of n' l' s' x' f' in
@@ -298,11 +303,11 @@ module _ (t : Network) (ranks : Ranks) (traces : ℕ → List Entry) (run : IsRu
       let place : a.place ≡ b.place = omega (arith, same) in
       same_Some _ _ (sym a.at ∙ (ap (chain t traces k a.gate) place ∙ (ap (λ z. chain t traces k z b.place) g ∙ b.at)))
 
-  same_put : (n l s n' l' s' : ℕ) (x x' : Message) → IsForward traces k n l s x → IsForward traces k n' l' s' x' → n ≡ n' → (l ≡ l') × (s ≡ s') × (x ≡ x')
+  same_put : (n l s n' l' s' : ℕ) (x x' : Fields) → IsForward traces k n l s x → IsForward traces k n' l' s' x' → n ≡ n' → (l ≡ l') × (s ≡ s') × (x ≡ x')
   same_put n l s n' l' s' x x' f f' e =
       (facts n).one_put f.input f'.input l s l' s' x x' f.put (subst (λ z. Has (Out f'.input (Put l' s' x')) (history (traces z))) (sym e) f'.put) f.request f'.request (f.key ∙ sym f'.key)
 
-  pub one_forward : (n l s n' l' s' : ℕ) (x x' : Message) → IsForward traces k n l s x → IsForward traces k n' l' s' x' → other_end t n l ≡ other_end t n' l' → (n ≡ n') × (l ≡ l') × (s ≡ s')
+  pub one_forward : (n l s n' l' s' : ℕ) (x x' : Fields) → IsForward traces k n l s x → IsForward traces k n' l' s' x' → other_end t n l ≡ other_end t n' l' → (n ≡ n') × (l ≡ l') × (s ≡ s')
   one_forward n l s n' l' s' x x' f f' e =
       let m : n ≡ n' = one_sender n l s n' l' s' x x' f f' e in
       let p = same_put n l s n' l' s' x x' f f' m in
@@ -323,7 +328,7 @@ module _ (t : Network) (ranks : Ranks) (traces : ℕ → List Entry) (run : IsRu
       let nodes : n ≡ n' = home_of n n' b.s b'.s issuers b.home b'.home in
       (nodes, (facts n).one_ask q.input q'.input a a' q.message q'.message q.put (subst (λ z. Has (Out q'.input (Ask a' q'.message)) (history (traces z))) (sym nodes) q'.put) (q.key ∙ sym q'.key))
 
-  pub opened_by_put : (n l s : ℕ) (x : Message) (op : Opening) → IsForward traces k n l s x → opening t (history (traces (other_end t n l))) k ≡ Some op → op.input ≡ Take l s x
+  pub opened_by_put : (n l s : ℕ) (x : Fields) (op : Opening) → IsForward traces k n l s x → opening t (history (traces (other_end t n l))) k ≡ Some op → op.input ≡ Take l s x
   unfolding chain
   opened_by_put n l s x op f e = ⊎_elim from_link from_gate (came (other_end t n l) op e)
     where

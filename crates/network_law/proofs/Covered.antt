@@ -4,7 +4,6 @@ use Rattle.std.proofs.lemmas.Bool.{cond_both, eqb-true}
 use Rattle.std.proofs.lemmas.Option.{same_Some}
 use mathlib.Core.List.{reverse-cons}
 use Rattle.card_digits.specs.Numbers.{pad11}
-use Rattle.network_law.specs.Messages.{Message, group, is_04xx, Key, Identity, identity_of, content, card_of}
 use Rattle.net_rows.specs.Network.{Network, issuer, other_end}
 use Rattle.net_rows.specs.declared.row.Issuer.{Issuer}
 use Rattle.network_law.specs.Tables.{node_id, is_attached}
@@ -17,6 +16,12 @@ use Rattle.network_law.proofs.Reversals.{legal_sent, advice_04xx}
 use Rattle.network_law.proofs.Accounts.{Alike, alike_refl, alike_more, alike_card, alike_home, any_is, posted_some}
 use Rattle.network_law.proofs.Posts.{Acc, posts, legal_acc, post_has, post_counted, put_is_sent}
 use Rattle.network_law.proofs.Origins.{Made, TakenAs, Entered, AdviceFacts, legal_advices}
+use Rattle.iso_message.specs.Fields.{Fields}
+use Rattle.iso_message.specs.Groups.{group, is_04xx}
+use Rattle.card_digits.specs.declared.key.Key.{Key}
+use Rattle.iso_message.specs.declared.keys.AdviceId.{AdviceId}
+use Rattle.iso_message.specs.Keys.{identity_of, content}
+use Rattle.network_law.specs.Cards.{card_of}
 
 not_both : (b : Bool) → b ≡ true → b ≡ false → ⊥
 not_both b p q = cc
@@ -50,20 +55,20 @@ home_is_home n None e = absurd (not_both false e refl)
 home_is_home n (Some s) e = (s, refl, eqb-true s.home n e)
 
 -- the node at which an identity began
-record Began (t : Network) (traces : ℕ → List Entry) (x : Message) : Type 0 where
+record Began (t : Network) (traces : ℕ → List Entry) (x : Fields) : Type 0 where
   node : ℕ
   advice : Advice
   has : IsIn advice (advices t node (history (traces node)))
   alike : Alike advice.message x
-  how : ((node < length t.nodes) × ((identity_of x).maker ≡ pad11 (node_id t node))) ⊎ (((identity_of x).maker ≡ replicate 11 48) × (is_attached t node (identity_of x).key.acquirer ≡ true))
+  how : ((node < length t.nodes) × ((identity_of x).forwarder ≡ pad11 (node_id t node))) ⊎ (((identity_of x).forwarder ≡ replicate 11 48) × (is_attached t node (identity_of x).key.acquirer ≡ true))
 
-began_alike : (t : Network) (traces : ℕ → List Entry) (x y : Message) → Alike x y → Began t traces x → Began t traces y
+began_alike : (t : Network) (traces : ℕ → List Entry) (x y : Fields) → Alike x y → Began t traces x → Began t traces y
 began_alike t traces x y a b = record {
   node = Began.node b;
   advice = Began.advice b;
   has = Began.has b;
   alike = alike_more (Began.advice b).message x y (Began.alike b) a;
-  how = ⊎_elim (λ p. inl (p.0, ap Identity.maker (sym a.id) ∙ p.1)) (λ p. inr (ap Identity.maker (sym a.id) ∙ p.0, ap (λ z. is_attached t (Began.node b) (Key.acquirer (Identity.key z))) (sym a.id) ∙ p.1)) (Began.how b);
+  how = ⊎_elim (λ p. inl (p.0, ap AdviceId.forwarder (sym a.id) ∙ p.1)) (λ p. inr (ap AdviceId.forwarder (sym a.id) ∙ p.0, ap (λ z. is_attached t (Began.node b) (Key.acquirer (AdviceId.key z))) (sym a.id) ∙ p.1)) (Began.how b);
 }
 
 module _ (t : Network) (ranks : Ranks) (traces : ℕ → List Entry) (run : IsRun t traces) (ranked : IsRanked t ranks) (gates : HasSingleGates t) (ids : HasNodeIds t) where
@@ -77,7 +82,7 @@ module _ (t : Network) (ranks : Ranks) (traces : ℕ → List Entry) (run : IsRu
   adv n = legal_advices t n (traces n) (legal_at run n)
 
   -- an advice on a link falls
-  sent_falls : (n l s : ℕ) (i : Input) (x : Message) → Has (Out i (Put l s x)) (history (traces n)) → is_advice_group (group x.kind) ≡ true → RankFalls ranks (card_of x) (other_end t n l) n
+  sent_falls : (n l s : ℕ) (i : Input) (x : Fields) → Has (Out i (Put l s x)) (history (traces n)) → is_advice_group (group x.kind) ≡ true → RankFalls ranks (card_of x) (other_end t n l) n
   sent_falls n l s i x has g = go (is_04xx x.kind) refl
     where
       go : (b : Bool) → is_04xx x.kind ≡ b → RankFalls ranks (card_of x) (other_end t n l) n
@@ -96,7 +101,7 @@ module _ (t : Network) (ranks : Ranks) (traces : ℕ → List Entry) (run : IsRu
       o = (legal_facts t n (traces n) (legal_at run n)).opens k op e
 
   -- the advice that was taken, at the node that put it
-  record Above (n : ℕ) (x : Message) : Type 0 where
+  record Above (n : ℕ) (x : Fields) : Type 0 where
     node : ℕ
     advice : Advice
     has : IsIn advice (advices t node (history (traces node)))
@@ -104,7 +109,7 @@ module _ (t : Network) (ranks : Ranks) (traces : ℕ → List Entry) (run : IsRu
     less : rank ranks (card_of x) n < rank ranks (card_of x) node
     bound : rank ranks (card_of x) node ≤ highest
 
-  above : (n : ℕ) (x : Message) → TakenAs (history (traces n)) x → Above n x
+  above : (n : ℕ) (x : Fields) → TakenAs (history (traces n)) x → Above n x
   above n x s =
       let n' : ℕ = other_end t n s.link in
       let put = run.linked n s.link s.serial s.message s.has in
@@ -123,11 +128,11 @@ module _ (t : Network) (ranks : Ranks) (traces : ℕ → List Entry) (run : IsRu
       }
 
   made_here : (n : ℕ) (a : Advice) → IsIn a (advices t n (history (traces n))) → Made t n (history (traces n)) a.message → Began t traces a.message
-  made_here n a m w = record { node = n; advice = a; has = m; alike = alike_refl a.message; how = inl (live n w.key w.op w.opens, w.maker) }
+  made_here n a m w = record { node = n; advice = a; has = m; alike = alike_refl a.message; how = inl (live n w.key w.op w.opens, w.forwarder) }
 
   entered_here : (n : ℕ) (a : Advice) → IsIn a (advices t n (history (traces n))) → Entered t n a.message → Began t traces a.message
   unfolding identity_of
-  entered_here n a m w = record { node = n; advice = a; has = m; alike = alike_refl a.message; how = inr (w.maker, w.gate) }
+  entered_here n a m w = record { node = n; advice = a; has = m; alike = alike_refl a.message; how = inr (w.forwarder, w.gate) }
 
   began : (fuel n : ℕ) (a : Advice) → IsIn a (advices t n (history (traces n))) → highest < rank ranks (card_of a.message) n + fuel → Began t traces a.message
   began zero n a m far = ⊎_elim (λ w. made_here n a m w) (λ r. ⊎_elim too_far (λ w. entered_here n a m w) r) ((adv n).origins.from a m)
@@ -148,15 +153,15 @@ module _ (t : Network) (ranks : Ranks) (traces : ℕ → List Entry) (run : IsRu
           began_alike t traces (Above.advice b).message a.message (Above.alike b) (ih (Above.node b) (Above.advice b) (Above.has b) (omega (arith, less, far')))
 
   -- an identity began at one node
-  one_node : (x y : Message) (b : Began t traces x) (c : Began t traces y) → identity_of x ≡ identity_of y → Began.node b ≡ Began.node c
+  one_node : (x y : Fields) (b : Began t traces x) (c : Began t traces y) → identity_of x ≡ identity_of y → Began.node b ≡ Began.node c
   one_node x y b c e = ⊎_elim
       (λ p. ⊎_elim
-      (λ q. ids.single (Began.node b) (Began.node c) p.0 q.0 (sym p.1 ∙ (ap Identity.maker e ∙ q.1)))
-      (λ q. absurd (ids.not_zeros (Began.node b) p.0 (sym p.1 ∙ (ap Identity.maker e ∙ q.0))))
+      (λ q. ids.single (Began.node b) (Began.node c) p.0 q.0 (sym p.1 ∙ (ap AdviceId.forwarder e ∙ q.1)))
+      (λ q. absurd (ids.not_zeros (Began.node b) p.0 (sym p.1 ∙ (ap AdviceId.forwarder e ∙ q.0))))
       (Began.how c))
       (λ p. ⊎_elim
-      (λ q. absurd (ids.not_zeros (Began.node c) q.0 (sym q.1 ∙ (ap Identity.maker (sym e) ∙ p.0))))
-      (λ q. gates (identity_of x).key.acquirer (Began.node b) (Began.node c) p.1 (ap (λ z. is_attached t (Began.node c) (Key.acquirer (Identity.key z))) e ∙ q.1))
+      (λ q. absurd (ids.not_zeros (Began.node c) q.0 (sym q.1 ∙ (ap AdviceId.forwarder (sym e) ∙ p.0))))
+      (λ q. gates (identity_of x).key.acquirer (Began.node b) (Began.node c) p.1 (ap (λ z. is_attached t (Began.node c) (Key.acquirer (AdviceId.key z))) e ∙ q.1))
       (Began.how c))
       (Began.how b)
 
@@ -169,10 +174,10 @@ module _ (t : Network) (ranks : Ranks) (traces : ℕ → List Entry) (run : IsRu
       let there : IsIn (Began.advice y) (advices t (Began.node x) (history (traces (Began.node x)))) = subst (λ z. IsIn (Began.advice y) (advices t z (history (traces z)))) (sym same) (Began.has y) in
       sym (Began.alike x).content_is ∙ ((acc (Began.node x)).single (Began.advice x) (Began.advice y) (Began.has x) there ((Began.alike x).id ∙ (e ∙ sym (Began.alike y).id)) ∙ (Began.alike y).content_is)
 
-  Somewhere : Message → Type 0
+  Somewhere : Fields → Type 0
   Somewhere x = (m : ℕ) × (IsStored t traces x m ⊎ IsPosted t traces x m)
 
-  somewhere_alike : (x y : Message) → Alike x y → Somewhere x → Somewhere y
+  somewhere_alike : (x y : Fields) → Alike x y → Somewhere x → Somewhere y
   unfolding Somewhere
   somewhere_alike x y a w = (w.0, ⊎_elim (λ s. inl (s.0, s.1, s.2 ∙ a.id, s.3 ∙ a.content_is)) (λ p. inr (p.0, p.1, p.2, p.3 ∙ a.id, p.4 ∙ a.content_is, sym (alike_home t w.0 x y a) ∙ p.5)) w.1)
 
@@ -224,14 +229,14 @@ module _ (t : Network) (ranks : Ranks) (traces : ℕ → List Entry) (run : IsRu
           somewhere_alike (Below.advice b).message a.message (Below.alike b) (ih (Below.node b) (Below.advice b) (Below.has b) (omega (arith, less, far)))
 
   -- the advice of a post
-  posted_advice : (id : Identity) (n : ℕ) → 0 < post_count (history (traces n)) id → (a : Advice) × IsIn a (advices t n (history (traces n))) × (identity_of a.message ≡ id) × (is_at_home t n a.message ≡ true)
+  posted_advice : (id : AdviceId) (n : ℕ) → 0 < post_count (history (traces n)) id → (a : Advice) × IsIn a (advices t n (history (traces n))) × (identity_of a.message ≡ id) × (is_at_home t n a.message ≡ true)
   posted_advice id n more =
       let e = post_counted (history (traces n)) id in
       let x = posted_some id (posts (history (traces n))) (subst (λ z. 0 < z) e more) in
       let a = (acc n).posted x.0 x.1 in
       (a.0, a.1, a.2.id ∙ x.2, alike_home t n a.0.message x.0 a.2 ∙ a.3)
 
-  one_home : (id : Identity) (n m : ℕ) → 0 < post_count (history (traces n)) id → 0 < post_count (history (traces m)) id → n ≡ m
+  one_home : (id : AdviceId) (n m : ℕ) → 0 < post_count (history (traces n)) id → 0 < post_count (history (traces m)) id → n ≡ m
   one_home id n m p q =
       let a = posted_advice id n p in
       let b = posted_advice id m q in

@@ -1,68 +1,39 @@
 -- Elements of responses and made messages.
-use Rattle.std.proofs.Common.{◌≡◌, ℕ, ◌+◌, List, [], ◌∷◌, ◌++◌, Some, None, Bool, true, false, cond, refl, sym, ap, ◌∙◌, arith, eqb, nat_lt, unwrap_or, length, ◌≤◌, ◌-◌, take, drop, replicate}
-use Rattle.std.proofs.lemmas.Bool.{eqb-true, eq-eqb}
+use Rattle.std.proofs.Common.{◌≡◌, ℕ, ◌+◌, List, [], ◌∷◌, ◌++◌, Bool, true, false, cond, refl, sym, ap, ◌∙◌, arith, eqb, unwrap_or, length, ◌≤◌, ◌-◌, take, drop, replicate}
 use Rattle.std.proofs.lemmas.List.{length-append, length-replicate, drop_at, take_at}
 use lib.Seq.{drop-drop}
 use Rattle.card_digits.specs.Numbers.{pad11}
-use Rattle.network_law.specs.Digits.{Bytes}
-use Rattle.network_law.specs.Messages.{Message, Kind, K0100, K0101, K0110, K0120, K0121, K0130, K0400, K0401, K0410, K0420, K0421, K0430, is_request, is_04xx, key_of, own_key, original_key, el, get, find_element, without, placed, kept, is_one_of, set_element, content, response, response_kind, code_of, made_from, made_reversal, code_68, part}
-use Rattle.network_law.proofs.Node.{find_without, find_placed, el_set, request_no_04xx}
+use Rattle.network_law.proofs.Node.{el_set, request_no_04xx}
+use Rattle.network_law.specs.Cards.{Bytes}
+use Rattle.iso_message.proofs.Changes.{get_set_same, find_kept}
+use Rattle.iso_message.specs.Fields.{Fields, el, get, set_element}
+use Rattle.iso_message.specs.declared.kind.Kind.{Kind}
+use Rattle.iso_message.specs.declared.kind.Kind.TheVariants.{K0100, K0101, K0110, K0120, K0121, K0130, K0400, K0401, K0410, K0420, K0421, K0430}
+use Rattle.iso_message.specs.Groups.{is_request, is_04xx, response_kind}
+use Rattle.iso_message.specs.Keys.{key_of, own_key, original_key, content, part}
+use Rattle.iso_message.specs.Made.{response_numbers, advice_numbers, kept, is_one_of, response, made_from, made_reversal}
+use Rattle.iso_message.specs.Codes.{code_of, code_68}
 
-pub find_kept : (p : ℕ → Bool) (n : ℕ) (es : List (ℕ × Bytes)) → p n ≡ true → find_element n (kept p es) ≡ find_element n es
-unfolding find_element kept
-find_kept p n [] has = refl
-find_kept p n (e ∷ es) has = go (p e.0) refl (eqb n e.0) refl (find_kept p n es has)
-  where
-    go : (b : Bool) → p e.0 ≡ b → (c : Bool) → eqb n e.0 ≡ c → find_element n (kept p es) ≡ find_element n es → find_element n (cond (p e.0) (e ∷ kept p es) (kept p es)) ≡ cond (eqb n e.0) (Some e.1) (find_element n es)
-    go true at c at' ih = rw at (ap (cond (eqb n e.0) (Some e.1)) ih)
-    go false at true at' ih = absurd (no (sym has ∙ (ap p (eqb-true n e.0 at') ∙ at)))
-      where
-        no : true ≡ false → ⊥
-        no q = cc
-    go false at false at' ih = rw (at, at') ih
-
-pub find_gone : (k : ℕ) (es : List (ℕ × Bytes)) → find_element k (without k es) ≡ None
-unfolding find_element without
-find_gone k [] = refl
-find_gone k (e ∷ es) = go (eqb k e.0) refl (find_gone k es)
-  where
-    go : (b : Bool) → eqb k e.0 ≡ b → find_element k (without k es) ≡ None → find_element k (cond (eqb k e.0) (without k es) (e ∷ without k es)) ≡ None
-    go true at ih = rw at ih
-    go false at ih = rw (at, at) ih
-
-pub find_placed_same : (k : ℕ) (v : Bytes) (es : List (ℕ × Bytes)) → find_element k es ≡ None → find_element k (placed k v es) ≡ Some v
-unfolding find_element placed
-find_placed_same k v [] none = let same : eqb k k ≡ true = eq-eqb k k refl in rw same refl
-find_placed_same k v (e ∷ es) none = go (nat_lt k e.0) refl (eqb k e.0) refl (find_placed_same k v es) none
-  where
-    go : (b : Bool) → nat_lt k e.0 ≡ b → (c : Bool) → eqb k e.0 ≡ c → (find_element k es ≡ None → find_element k (placed k v es) ≡ Some v) → cond (eqb k e.0) (Some e.1) (find_element k es) ≡ None → find_element k (cond (nat_lt k e.0) ((k, v) ∷ e ∷ es) (e ∷ placed k v es)) ≡ Some v
-    go true at c at' ih n = let same : eqb k k ≡ true = eq-eqb k k refl in rw (at, same) refl
-    go false at true at' ih n = absurd (no (rw at' at n))
-      where
-        no : Some e.1 ≡ None → ⊥
-        no q = cc
-    go false at false at' ih n = rw (at, at') (ih (rw at' at n))
-
-pub el_set_same : (m : Message) (k : ℕ) (v : Bytes) → el (set_element m k v) k ≡ v
-unfolding el get set_element
-el_set_same m k v = ap (λ o. unwrap_or o []) (find_placed_same k v (without k m.elements) (find_gone k m.elements))
+pub el_set_same : (m : Fields) (k : ℕ) (v : Bytes) → el (set_element m k v) k ≡ v
+unfolding el
+el_set_same m k v = ap (λ o. unwrap_or o []) (get_set_same m k v)
 
 abbrev pub carried : ℕ → Bool
-carried = is_one_of (2 ∷ 3 ∷ 4 ∷ 7 ∷ 11 ∷ 15 ∷ 32 ∷ 33 ∷ 37 ∷ 41 ∷ 49 ∷ 90 ∷ [])
+carried = is_one_of response_numbers
 
 -- the response before its code is written
-abbrev pub carried_of : Message → Message
-carried_of m = record { kind = response_kind m.kind; elements = kept carried m.elements }
+abbrev pub carried_of : Fields → Fields
+carried_of m = record { kind = response_kind m.kind; elements = kept response_numbers m.elements }
 
-pub code_response : (m : Message) (c : Bytes) → code_of (response m c) ≡ c
+pub code_response : (m : Fields) (c : Bytes) → code_of (response m c) ≡ c
 unfolding code_of response
 code_response m c = el_set_same (carried_of m) 39 c
 
-kept_el : (m : Message) (k : Kind) (n : ℕ) → carried n ≡ true → el (record { kind = k; elements = kept carried m.elements }) n ≡ el m n
+kept_el : (m : Fields) (k : Kind) (n : ℕ) → carried n ≡ true → el (record { kind = k; elements = kept response_numbers m.elements }) n ≡ el m n
 unfolding el get
 kept_el m k n has = ap (λ o. unwrap_or o []) (find_kept carried n m.elements has)
 
-pub el_response : (m : Message) (c : Bytes) (n : ℕ) → eqb n 39 ≡ false → carried n ≡ true → el (response m c) n ≡ el m n
+pub el_response : (m : Fields) (c : Bytes) (n : ℕ) → eqb n 39 ≡ false → carried n ≡ true → el (response m c) n ≡ el m n
 unfolding response
 el_response m c n d has = el_set (carried_of m) 39 n c d ∙ kept_el m (response_kind m.kind) n has
 
@@ -80,7 +51,7 @@ response_no_04xx K0420 e = cc
 response_no_04xx K0421 e = cc
 response_no_04xx K0430 e = cc
 
-pub own_key_response : (m : Message) (c : Bytes) → own_key (response m c) ≡ own_key m
+pub own_key_response : (m : Fields) (c : Bytes) → own_key (response m c) ≡ own_key m
 unfolding own_key
 own_key_response m c =
     let a = el_response m c 32 refl refl in
@@ -88,7 +59,7 @@ own_key_response m c =
     let d = el_response m c 7 refl refl in
     λ j. record { acquirer = pad11 (a j); trace = b j; time = d j }
 
-pub response_key : (m : Message) (c : Bytes) → is_request m.kind ≡ true → key_of (response m c) ≡ key_of m
+pub response_key : (m : Fields) (c : Bytes) → is_request m.kind ≡ true → key_of (response m c) ≡ key_of m
 unfolding key_of
 response_key m c r = go (is_04xx (response m c).kind) refl (is_04xx m.kind) refl
   where
@@ -109,24 +80,24 @@ response_key m c r = go (is_04xx (response m c).kind) refl (is_04xx m.kind) refl
 -- made reversals
 
 abbrev pub made_kept : ℕ → Bool
-made_kept = is_one_of (2 ∷ 3 ∷ 4 ∷ 7 ∷ 11 ∷ 15 ∷ 32 ∷ 37 ∷ 41 ∷ 49 ∷ [])
+made_kept = is_one_of advice_numbers
 
-abbrev pub made_base : Kind → Message → Message
-made_base k m = record { kind = k; elements = kept made_kept m.elements }
+abbrev pub made_base : Kind → Fields → Fields
+made_base k m = record { kind = k; elements = kept advice_numbers m.elements }
 
-kept_made : (m : Message) (k : Kind) (n : ℕ) → made_kept n ≡ true → el (made_base k m) n ≡ el m n
+kept_made : (m : Fields) (k : Kind) (n : ℕ) → made_kept n ≡ true → el (made_base k m) n ≡ el m n
 unfolding el get
 kept_made m k n has = ap (λ o. unwrap_or o []) (find_kept made_kept n m.elements has)
 
-pub el_made : (k : Kind) (m : Message) (id code : Bytes) (n : ℕ) → eqb n 33 ≡ false → eqb n 39 ≡ false → made_kept n ≡ true → el (made_from k m id code) n ≡ el m n
+pub el_made : (k : Kind) (m : Fields) (id code : Bytes) (n : ℕ) → eqb n 33 ≡ false → eqb n 39 ≡ false → made_kept n ≡ true → el (made_from k m id code) n ≡ el m n
 unfolding made_from
 el_made k m id code n d d' has = el_set (set_element (made_base k m) 33 id) 39 n code d' ∙ (el_set (made_base k m) 33 n id d ∙ kept_made m k n has)
 
-pub el_made_reversal : (m : Message) (id : Bytes) (n : ℕ) → eqb n 33 ≡ false → eqb n 39 ≡ false → eqb n 90 ≡ false → made_kept n ≡ true → el (made_reversal m id) n ≡ el m n
+pub el_made_reversal : (m : Fields) (id : Bytes) (n : ℕ) → eqb n 33 ≡ false → eqb n 39 ≡ false → eqb n 90 ≡ false → made_kept n ≡ true → el (made_reversal m id) n ≡ el m n
 unfolding made_reversal
 el_made_reversal m id n d d' d'' has = el_set (made_from K0420 m id code_68) 90 n _ d'' ∙ el_made K0420 m id code_68 n d d' has
 
-pub content_made_reversal : (m : Message) (id : Bytes) → content (made_reversal m id) ≡ content m
+pub content_made_reversal : (m : Fields) (id : Bytes) → content (made_reversal m id) ≡ content m
 unfolding content
 content_made_reversal m id =
     let a = el_made_reversal m id 2 refl refl refl refl in
@@ -154,19 +125,19 @@ original_parts trace time acquirer a b c = (
   ap (take 11) (drop_two trace time (acquirer ++ replicate 11 48) 6 10 a b) ∙ take_at acquirer (replicate 11 48) 11 c,
 )
 
-reversal_original : (m : Message) (id : Bytes) → el (made_reversal m id) 90 ≡ original (el m 11) (el m 7) (pad11 (el m 32))
+reversal_original : (m : Fields) (id : Bytes) → el (made_reversal m id) 90 ≡ original (el m 11) (el m 7) (pad11 (el m 32))
 unfolding made_reversal
 reversal_original m id = el_set_same (made_from K0420 m id code_68) 90 (original (el m 11) (el m 7) (pad11 (el m 32)))
 
-pub reversal_kind : (m : Message) (id : Bytes) → (made_reversal m id).kind ≡ K0420
-unfolding made_reversal
+pub reversal_kind : (m : Fields) (id : Bytes) → (made_reversal m id).kind ≡ K0420
+unfolding made_reversal made_from set_element
 reversal_kind m id = refl
 
-pub original_is : (m x : Message) → part 20 11 (el x 90) ≡ pad11 (el m 32) → part 4 6 (el x 90) ≡ el m 11 → part 10 10 (el x 90) ≡ el m 7 → original_key x ≡ own_key m
+pub original_is : (m x : Fields) → part 20 11 (el x 90) ≡ pad11 (el m 32) → part 4 6 (el x 90) ≡ el m 11 → part 10 10 (el x 90) ≡ el m 7 → original_key x ≡ own_key m
 unfolding original_key own_key
 original_is m x a b c = λ j. record { acquirer = a j; trace = b j; time = c j }
 
-pub made_reversal_key : (m : Message) (id : Bytes) → length (el m 11) ≡ 6 → length (el m 7) ≡ 10 → length (el m 32) ≤ 11 → is_request m.kind ≡ true → key_of (made_reversal m id) ≡ key_of m
+pub made_reversal_key : (m : Fields) (id : Bytes) → length (el m 11) ≡ 6 → length (el m 7) ≡ 10 → length (el m 32) ≤ 11 → is_request m.kind ≡ true → key_of (made_reversal m id) ≡ key_of m
 unfolding key_of
 made_reversal_key m id a b c r = rw (reversal_kind m id, request_no_04xx m.kind r) keys
   where

@@ -5,26 +5,35 @@ use Rattle.std.proofs.lemmas.Option.{same_Some}
 use Rattle.std.proofs.lemmas.Slice.Eq.{bytes_eq-Decides}
 use Rattle.std.specs.Option.{option_or}
 use mathlib.Core.List.{reverse-cons}
-use Rattle.network_law.specs.Digits.{Bytes, is_good_card}
-use Rattle.network_law.specs.Messages.{Message, Kind, Group, IsRequest, IsAnswer, IsAdvice, IsReversal, IsAck, IsReply, group, K0100, K0101, K0110, K0120, K0121, K0130, K0400, K0401, K0410, K0420, K0421, K0430, is_request, is_answer, is_reversal, is_04xx, Key, key_eq, key_of, content, content_eq, identity_of, el, as_kind, code_of, code_00, code_05, code_14, code_68, code_92, code_94, code_96, made_reversal, made_stand_in, response, card_of}
 use Rattle.net_rows.specs.Network.{Network, issuer}
 use Rattle.net_rows.specs.declared.row.Issuer.{Issuer}
 use Rattle.network_law.specs.Tables.{is_home, node_id, route_links}
 use Rattle.network_law.specs.Traces.{Source, Gate, ByLink, Input, Enter, Take, LinkUp, LinkDown, Tick, HostAnswer, NewDate, Output, Put, Answer, Ask, Post, In, Out, History, count_of, ask_count, ask_key, Handled, handled, Opening, opening, opened, answer, pending, forwarded, fails, Advice, advices, known, stored, as_kept, is_at_home, brings_00, is_link, comes_late, ticks_by, is_due_at, asked, asks, key_asked, is_timer, was_put, reversed, load, is_up}
-use Rattle.network_law.specs.Decision.{decide, advice_due, reply, reply_output, next_put, emit, keep, send, send_by, own_way, advice_kind, standin, standin_code, fail, fail_all, send_all, failing, due_advices, on_request, on_issuer, on_forward, on_repeat, on_reversal, on_advice, on_answer, on_host, on_code, on_group, on_handled, same_source, first_up, as_code, answer_pending, other_content}
+use Rattle.network_law.specs.Decision.{decide, advice_due, reply, reply_output, next_put, emit, keep, send, send_by, own_way, sent_kind, standin, standin_code, fail, fail_all, send_all, failing, due_advices, on_request, on_issuer, on_forward, on_repeat, on_reversal, on_advice, on_answer, on_host, on_code, on_group, on_handled, same_source, first_up, as_code, answer_pending, other_content}
 use Rattle.network_law.specs.Runs.{IsIn}
+use Rattle.network_law.specs.Cards.{Bytes, is_good_card, card_of}
+use Rattle.iso_message.specs.Fields.{Fields, el, as_kind}
+use Rattle.iso_message.specs.declared.kind.Kind.{Kind}
+use Rattle.iso_message.specs.declared.kind.Group.{Group}
+use Rattle.iso_message.specs.Groups.{group, is_request, is_answer, is_reversal, is_04xx}
+use Rattle.iso_message.specs.declared.kind.Kind.TheVariants.{K0100, K0101, K0110, K0120, K0121, K0130, K0400, K0401, K0410, K0420, K0421, K0430}
+use Rattle.card_digits.specs.declared.key.Key.{Key}
+use Rattle.iso_message.specs.Keys.{key_eq, key_of, content, content_eq, identity_of}
+use Rattle.iso_message.specs.Codes.{code_of, code_00, code_05, code_14, code_68, code_92, code_94, code_96}
+use Rattle.iso_message.specs.Made.{made_reversal, made_stand_in, response}
+use Rattle.iso_message.specs.declared.kind.Group.TheVariants as groups
 
-abbrev pub handled_as : Network → History → Input → Message → Source → Type 0
+abbrev pub handled_as : Network → History → Input → Fields → Source → Type 0
 handled_as t past i m src = handled t past i ≡ Some (record { message = m; source = src })
 
 abbrev pub is_kept_group : Group → Bool
-is_kept_group IsAdvice = true
-is_kept_group IsReversal = true
+is_kept_group groups.StandInAdvice = true
+is_kept_group groups.Reversal = true
 is_kept_group _ = false
 
 -- where a message that is sent or posted as an advice comes from
-pub record Accepts (t : Network) (n : ℕ) (past : History) (i : Input) (h : History) (x : Message) : Type 0 where
-  pub message : Message
+pub record Accepts (t : Network) (n : ℕ) (past : History) (i : Input) (h : History) (x : Fields) : Type 0 where
+  pub message : Fields
   pub source : Source
   pub is_handled : handled_as t past i message source
   pub kept_group : is_kept_group (group message.kind) ≡ true
@@ -36,7 +45,7 @@ pub record Accepts (t : Network) (n : ℕ) (past : History) (i : Input) (h : His
   pub at : h ≡ reply i source (response message code_00) before
   pub was : (before ≡ In i ∷ past) ⊎ ((op : Opening) × (before ≡ reply i op.source (response op.message code_68) (In i ∷ past)))
 
-pub data Kept (t : Network) (n : ℕ) (past : History) (i : Input) (h : History) (x : Message) : Type 0 where
+pub data Kept (t : Network) (n : ℕ) (past : History) (i : Input) (h : History) (x : Fields) : Type 0 where
   -- it is stored
   due : (a : Advice) → IsIn a (advices t n past) → x ≡ a.message → Kept t n past i h x
   -- it is made: k failed, or a 00 came late
@@ -48,7 +57,7 @@ pub data Kept (t : Network) (n : ℕ) (past : History) (i : Input) (h : History)
 
 -- the request is put on a link
 pub record Forwarding (t : Network) (n : ℕ) (past : History) (i : Input) (h : History) (o : Output) : Type 0 where
-  pub message : Message
+  pub message : Fields
   pub source : Source
   pub link : ℕ
   pub s : Issuer
@@ -63,7 +72,7 @@ pub record Forwarding (t : Network) (n : ℕ) (past : History) (i : Input) (h : 
   pub is : o ≡ next_put link (as_kind K0100 message) h
 
 pub record Asking (t : Network) (n : ℕ) (past : History) (i : Input) (h : History) (o : Output) : Type 0 where
-  pub message : Message
+  pub message : Fields
   pub source : Source
   pub s : Issuer
   pub is_handled : handled_as t past i message source
@@ -99,10 +108,10 @@ pub record Failed (t : Network) (past : History) (i : Input) (key : Key) (op : O
 
 -- the key was pending, and its reversal is accepted in this entry
 pub record Reversing (t : Network) (n : ℕ) (past : History) (i : Input) (h : History) (key : Key) (op : Opening) : Type 0 where
-  pub message : Message
+  pub message : Fields
   pub source : Source
   pub is_handled : handled_as t past i message source
-  pub reversal : group message.kind ≡ IsReversal
+  pub reversal : group message.kind ≡ groups.Reversal
   pub key_is : key_of message ≡ key
   pub was : opening t past key ≡ Some op
   pub good : not (is_good_card (el message 2)) ≡ false
@@ -124,7 +133,7 @@ pub record StandingIn (t : Network) (n : ℕ) (past : History) (i : Input) (h : 
 pub record ViaLink (past : History) (i : Input) (key : Key) : Type 0 where
   pub link : ℕ
   pub serial : ℕ
-  pub message : Message
+  pub message : Fields
   pub input : i ≡ Take link serial message
   pub answer_kind : is_answer message.kind ≡ true
   pub key_is : key_of message ≡ key
@@ -164,14 +173,14 @@ pub record Declining (t : Network) (n : ℕ) (past : History) (i : Input) (h : H
 pub record Repeating (t : Network) (n : ℕ) (past : History) (i : Input) (h : History) (o : Output) : Type 0 where
   pub key : Key
   pub source : Source
-  pub before : Message
+  pub before : Fields
   pub answered : answer past key ≡ Some before
   pub no_timer : is_timer i ≡ false
   pub is : o ≡ reply_output source before h
 
 -- 94 to a message of a known key from another source or with other content
 pub record Refusing (t : Network) (n : ℕ) (past : History) (i : Input) (h : History) (o : Output) : Type 0 where
-  pub message : Message
+  pub message : Fields
   pub source : Source
   pub op : Opening
   pub is_handled : handled_as t past i message source
@@ -180,13 +189,13 @@ pub record Refusing (t : Network) (n : ℕ) (past : History) (i : Input) (h : Hi
   pub is : o ≡ reply_output source (response message code_94) h
 
 -- what an advice or reversal must be to be acknowledged
-pub record IsGood (t : Network) (past : History) (m : Message) : Type 0 where
+pub record IsGood (t : Network) (past : History) (m : Fields) : Type 0 where
   pub issued : is_none (issuer t (card_of m)) ≡ false
   pub agrees : is_reversal m.kind ≡ true → other_content (opening t past (key_of m)) m ≡ false
 
 -- an advice or reversal is acknowledged or refused
 pub record Acking (t : Network) (n : ℕ) (past : History) (i : Input) (h : History) (o : Output) : Type 0 where
-  pub message : Message
+  pub message : Fields
   pub source : Source
   pub code : Bytes
   pub is_handled : handled_as t past i message source
@@ -197,16 +206,16 @@ pub record Acking (t : Network) (n : ℕ) (past : History) (i : Input) (h : Hist
 
 -- an advice is put on a link or posted
 pub record Sending (t : Network) (n : ℕ) (past : History) (i : Input) (h : History) (o : Output) : Type 0 where
-  pub message : Message
+  pub message : Fields
   pub link : ℕ
   pub again : Bool
   pub kept : Kept t n past i h message
   pub away : is_at_home t n message ≡ false
   pub way : own_way t n h message (forwarded h (key_of message)) ≡ Some link
-  pub is : o ≡ next_put link (as_kind (advice_kind (is_04xx message.kind) again) message) h
+  pub is : o ≡ next_put link (as_kind (sent_kind (is_04xx message.kind) again) message) h
 
 pub record Posting (t : Network) (n : ℕ) (past : History) (i : Input) (h : History) (o : Output) : Type 0 where
-  pub message : Message
+  pub message : Fields
   pub kept : Kept t n past i h message
   pub home : is_at_home t n message ≡ true
   pub unknown : known t n past (identity_of message) ≡ false
@@ -244,7 +253,7 @@ key_eq_is a b e =
     let z = bytes_eq_is a.time b.time p.1 in
     λ j. record { acquirer = x j; trace = y j; time = z j }
 
-pub request_from_group : (k : Kind) → group k ≡ IsRequest → is_request k ≡ true
+pub request_from_group : (k : Kind) → group k ≡ groups.Request → is_request k ≡ true
 request_from_group K0100 e = refl
 request_from_group K0101 e = refl
 request_from_group K0110 e = cc
@@ -258,7 +267,7 @@ request_from_group K0420 e = cc
 request_from_group K0421 e = cc
 request_from_group K0430 e = cc
 
-pub reversal_from_group : (k : Kind) → group k ≡ IsReversal → is_reversal k ≡ true
+pub reversal_from_group : (k : Kind) → group k ≡ groups.Reversal → is_reversal k ≡ true
 reversal_from_group K0100 e = cc
 reversal_from_group K0101 e = cc
 reversal_from_group K0110 e = cc
@@ -272,7 +281,7 @@ reversal_from_group K0420 e = refl
 reversal_from_group K0421 e = refl
 reversal_from_group K0430 e = cc
 
-pub answer_from_group : (k : Kind) → group k ≡ IsAnswer → is_answer k ≡ true
+pub answer_from_group : (k : Kind) → group k ≡ groups.Answer → is_answer k ≡ true
 answer_from_group K0100 e = cc
 answer_from_group K0101 e = cc
 answer_from_group K0110 e = refl
@@ -299,14 +308,14 @@ pub stays_open : (t : Network) (past : History) (i : Input) (k : Key) (op : Open
 unfolding opening
 stays_open t past i k op e = rw e refl
 
-abbrev pub opening_now : History → Input → Message → Source → Opening
+abbrev pub opening_now : History → Input → Fields → Source → Opening
 opening_now past i m src = record { message = m; source = src; count = count_of past; input = i }
 
-pub opens_now : (t : Network) (past : History) (i : Input) (m : Message) (src : Source) → handled_as t past i m src → is_request m.kind ≡ true → opening t past (key_of m) ≡ None → opening t (In i ∷ past) (key_of m) ≡ Some (opening_now past i m src)
+pub opens_now : (t : Network) (past : History) (i : Input) (m : Fields) (src : Source) → handled_as t past i m src → is_request m.kind ≡ true → opening t past (key_of m) ≡ None → opening t (In i ∷ past) (key_of m) ≡ Some (opening_now past i m src)
 unfolding opening
 opens_now t past i m src e r f = rw (f, e, r, key_eq_refl (key_of m)) refl
 
-pub from_link : (t : Network) (past : History) (i : Input) (m : Message) (l : ℕ) → handled_as t past i m (ByLink l) → (s : ℕ) × (i ≡ Take l s m)
+pub from_link : (t : Network) (past : History) (i : Input) (m : Fields) (l : ℕ) → handled_as t past i m (ByLink l) → (s : ℕ) × (i ≡ Take l s m)
 unfolding handled
 from_link t past (Enter x) m l e = absurd (gate≢link (ap source_of (same_Some _ _ e)))
   where
@@ -327,13 +336,13 @@ from_link t past (HostAnswer a c) m l e = cc
 from_link t past (NewDate d) m l e = cc
 
 -- what is pending at a link, at a tick or at the host has an issuer
-abbrev pub Issued : Network → Message → Type 0
+abbrev pub Issued : Network → Fields → Type 0
 Issued t m = (s : Issuer) × (issuer t (card_of m) ≡ Some s)
 
 abbrev pub KeepsIssuers : Network → History → Type 0
 KeepsIssuers t past = (k : Key) (op : Opening) → opening t past k ≡ Some op → is_some (ticks_by t (forwarded past k) (asked past k)) ≡ true → Issued t op.message
 
-pub handled_no_timer : (t : Network) (past : History) (i : Input) (m : Message) (src : Source) → handled_as t past i m src → is_timer i ≡ false
+pub handled_no_timer : (t : Network) (past : History) (i : Input) (m : Fields) (src : Source) → handled_as t past i m src → is_timer i ≡ false
 unfolding handled
 handled_no_timer t past (Enter x) m src e = refl
 handled_no_timer t past (Take k s x) m src e = refl
@@ -343,7 +352,7 @@ handled_no_timer t past Tick m src e = cc
 handled_no_timer t past (HostAnswer a c) m src e = refl
 handled_no_timer t past (NewDate d) m src e = refl
 
-advice_no_reversal : (k : Kind) → group k ≡ IsAdvice → is_reversal k ≡ true → ⊥
+advice_no_reversal : (k : Kind) → group k ≡ groups.StandInAdvice → is_reversal k ≡ true → ⊥
 advice_no_reversal K0100 e r = cc
 advice_no_reversal K0101 e r = cc
 advice_no_reversal K0110 e r = cc
@@ -394,15 +403,15 @@ via_ticks t past i k (inr v) = go (forwarded past k)
     go (Some l) = refl
 
 module _ (t : Network) (n : ℕ) (past : History) (i : Input) (Q : History → Type 0) (close : (h : History) (o : Output) → Q h → Allowed t n past i h o → Q (Out i o ∷ h)) where
-  pub send_keeps : (x : Message) (h : History) → Kept t n past i h x → is_at_home t n x ≡ false → Q h → Q (send t n i x h)
+  pub send_keeps : (x : Fields) (h : History) → Kept t n past i h x → is_at_home t n x ≡ false → Q h → Q (send t n i x h)
   unfolding send
   send_keeps x h kept away q = go (own_way t n h x (forwarded h (key_of x))) refl
     where
       go : (w : Option ℕ) → own_way t n h x (forwarded h (key_of x)) ≡ w → Q (send_by i x w h)
       go None e = q
-      go (Some l) e = close h (next_put l (as_kind (advice_kind (is_04xx x.kind) (was_put h (identity_of x))) x) h) q (sending (record { message = x; link = l; again = was_put h (identity_of x); kept = kept; away = away; way = e; is = refl }))
+      go (Some l) e = close h (next_put l (as_kind (sent_kind (is_04xx x.kind) (was_put h (identity_of x))) x) h) q (sending (record { message = x; link = l; again = was_put h (identity_of x); kept = kept; away = away; way = e; is = refl }))
 
-  pub keep_keeps : (x : Message) (h : History) → Kept t n past i h x → Q h → Q (keep t n past i x h)
+  pub keep_keeps : (x : Fields) (h : History) → Kept t n past i h x → Q h → Q (keep t n past i x h)
   unfolding keep
   keep_keeps x h kept q =
       cond_both (known t n past (identity_of x)) h (cond (is_at_home t n x) (emit i (Post x) h) (send t n i x h)) Q (λ _. q)
@@ -433,14 +442,14 @@ module _ (t : Network) (n : ℕ) (past : History) (i : Input) (Q : History → T
   send_all_keeps [] h from q = q
   send_all_keeps (a ∷ as') h from q = send_all_keeps as' (send t n i a.message h) (λ b m. from b (inr m)) (send_keeps a.message h (due a (from a (inl refl)).0 refl) (from a (inl refl)).1 q)
 
-  declines : (m : Message) (src : Source) (c : Bytes) → handled_as t past i m src → is_request m.kind ≡ true → opening t past (key_of m) ≡ None → bytes_eq c code_00 ≡ false → bytes_eq c code_94 ≡ false → Q (In i ∷ past) → Q (reply i src (response m c) (In i ∷ past))
+  declines : (m : Fields) (src : Source) (c : Bytes) → handled_as t past i m src → is_request m.kind ≡ true → opening t past (key_of m) ≡ None → bytes_eq c code_00 ≡ false → bytes_eq c code_94 ≡ false → Q (In i ∷ past) → Q (reply i src (response m c) (In i ∷ past))
   declines m src c e r f n00 n94 q = close (In i ∷ past) (reply_output src (response m c) (In i ∷ past)) q (declining (record { op = opening_now past i m src; code = c; opens = record { key = key_of m; is = opens_now t past i m src e r f }; not_00 = n00; not_94 = n94; how = inl (record { fresh = f; first = refl; no_timer = handled_no_timer t past i m src e }); is = refl }))
 
-  forward_keeps : (m : Message) (src : Source) (s : Issuer) (w : Option ℕ) → handled_as t past i m src → is_request m.kind ≡ true → opening t past (key_of m) ≡ None → reversed t n past (key_of m) ≡ false → issuer t (card_of m) ≡ Some s → is_home s n ≡ false → first_up past (route_links t n (card_of m)) ≡ w → Q (In i ∷ past) → Q (on_forward t n past i m src w)
+  forward_keeps : (m : Fields) (src : Source) (s : Issuer) (w : Option ℕ) → handled_as t past i m src → is_request m.kind ≡ true → opening t past (key_of m) ≡ None → reversed t n past (key_of m) ≡ false → issuer t (card_of m) ≡ Some s → is_home s n ≡ false → first_up past (route_links t n (card_of m)) ≡ w → Q (In i ∷ past) → Q (on_forward t n past i m src w)
   forward_keeps m src s None e r f nr si away w q = standin_keeps (key_of m) (opening_now past i m src) (In i ∷ past) (opens_now t past i m src e r f) (inl (record { fresh = f; first = refl; no_timer = handled_no_timer t past i m src e })) (s, si) q
   forward_keeps m src s (Some l) e r f nr si away w q = close (In i ∷ past) (next_put l (as_kind K0100 m) (In i ∷ past)) q (forwarding (record { message = m; source = src; link = l; s = s; is_handled = e; request = r; fresh = f; issued = si; away = away; on_route = found_is_in (is_up past) (route_links t n (card_of m)) l w; not_reversed = nr; first = refl; is = refl }))
 
-  issuer_keeps : (m : Message) (src : Source) (o : Option Issuer) → handled_as t past i m src → is_request m.kind ≡ true → opening t past (key_of m) ≡ None → reversed t n past (key_of m) ≡ false → issuer t (card_of m) ≡ o → Q (In i ∷ past) → Q (on_issuer t n past i m src o)
+  issuer_keeps : (m : Fields) (src : Source) (o : Option Issuer) → handled_as t past i m src → is_request m.kind ≡ true → opening t past (key_of m) ≡ None → reversed t n past (key_of m) ≡ false → issuer t (card_of m) ≡ o → Q (In i ∷ past) → Q (on_issuer t n past i m src o)
   issuer_keeps m src None e r f nr si q = declines m src code_92 e r f refl refl q
   issuer_keeps m src (Some s) e r f nr si q =
       cond_both (nat_lt 65536 (load t n past + 2)) (reply i src (response m code_96) (In i ∷ past)) (cond (is_home s n) (emit i (Ask (suc (ask_count past)) (as_kind K0100 m)) (In i ∷ past)) (on_forward t n past i m src (first_up past (route_links t n (card_of m))))) Q
@@ -449,11 +458,11 @@ module _ (t : Network) (n : ℕ) (past : History) (i : Input) (Q : History → T
       (λ home. close (In i ∷ past) (Ask (suc (ask_count past)) (as_kind K0100 m)) q (asking (record { message = m; source = src; s = s; is_handled = e; request = r; fresh = f; issued = si; home = home; not_reversed = nr; first = refl; is = refl })))
       (λ away. forward_keeps m src s (first_up past (route_links t n (card_of m))) e r f nr si away refl q))
 
-  repeat_keeps : (m : Message) (src : Source) (o : Option Message) → handled_as t past i m src → answer past (key_of m) ≡ o → Q (In i ∷ past) → Q (on_repeat i src o (In i ∷ past))
+  repeat_keeps : (m : Fields) (src : Source) (o : Option Fields) → handled_as t past i m src → answer past (key_of m) ≡ o → Q (In i ∷ past) → Q (on_repeat i src o (In i ∷ past))
   repeat_keeps m src None h e q = q
   repeat_keeps m src (Some a) h e q = close (In i ∷ past) (reply_output src a (In i ∷ past)) q (repeating (record { key = key_of m; source = src; before = a; answered = e; no_timer = handled_no_timer t past i m src h; is = refl }))
 
-  pub request_keeps : (m : Message) (src : Source) (o : Option Opening) → handled_as t past i m src → is_request m.kind ≡ true → opening t past (key_of m) ≡ o → Q (In i ∷ past) → Q (on_request t n past i m src o)
+  pub request_keeps : (m : Fields) (src : Source) (o : Option Opening) → handled_as t past i m src → is_request m.kind ≡ true → opening t past (key_of m) ≡ o → Q (In i ∷ past) → Q (on_request t n past i m src o)
   unfolding on_request
   request_keeps m src (Some op) e r f q =
       cond_both (same_source op.source src && content_eq (content op.message) (content m)) (on_repeat i src (answer past (key_of m)) (In i ∷ past)) (reply i src (response m code_94) (In i ∷ past)) Q
@@ -466,13 +475,13 @@ module _ (t : Network) (n : ℕ) (past : History) (i : Input) (Q : History → T
       (λ _. declines m src code_14 e r f refl refl q)
       (λ _. issuer_keeps m src (issuer t (card_of m)) e r f nr refl q))
 
-  acks : (m : Message) (src : Source) (c : Bytes) (h : History) → handled_as t past i m src → is_kept_group (group m.kind) ≡ true → bytes_eq c code_94 ≡ false → (bytes_eq c code_00 ≡ true → IsGood t past m) → Q h → Q (reply i src (response m c) h)
+  acks : (m : Fields) (src : Source) (c : Bytes) (h : History) → handled_as t past i m src → is_kept_group (group m.kind) ≡ true → bytes_eq c code_94 ≡ false → (bytes_eq c code_00 ≡ true → IsGood t past m) → Q h → Q (reply i src (response m c) h)
   acks m src c h e g n94 good q = close h (reply_output src (response m c) h) q (acking (record { message = m; source = src; code = c; is_handled = e; kind = g; not_94 = n94; good = good; is = refl }))
 
   bad_code : {A : Type 0} → false ≡ true → A
   bad_code e = cc
 
-  answer_pending_keeps : (m : Message) (src : Source) (b : Bool) (o : Option Opening) → handled_as t past i m src → group m.kind ≡ IsReversal → not (is_good_card (el m 2)) ≡ false → is_none (issuer t (card_of m)) ≡ false → other_content (opening t past (key_of m)) m ≡ false → known t n past (identity_of m) ≡ false → opening t past (key_of m) ≡ o → Q (In i ∷ past) → Q (answer_pending t i b o code_68 (In i ∷ past))
+  answer_pending_keeps : (m : Fields) (src : Source) (b : Bool) (o : Option Opening) → handled_as t past i m src → group m.kind ≡ groups.Reversal → not (is_good_card (el m 2)) ≡ false → is_none (issuer t (card_of m)) ≡ false → other_content (opening t past (key_of m)) m ≡ false → known t n past (identity_of m) ≡ false → opening t past (key_of m) ≡ o → Q (In i ∷ past) → Q (answer_pending t i b o code_68 (In i ∷ past))
   answer_pending_keeps m src true (Some op) h g good issued same unknown e q = close (In i ∷ past) (reply_output op.source (response op.message code_68) (In i ∷ past)) q (declining (record { op = op; code = code_68; opens = record { key = key_of m; is = stays_open t past i (key_of m) op e }; not_00 = refl; not_94 = refl; how = inr (record { message = m; source = src; is_handled = h; reversal = g; key_is = refl; was = e; good = good; issued = issued; same = same; unknown = unknown; first = refl }); is = refl }))
   answer_pending_keeps m src true None h g good issued same unknown e q = q
   answer_pending_keeps m src false o h g good issued same unknown e q = q
@@ -482,7 +491,7 @@ module _ (t : Network) (n : ℕ) (past : History) (i : Input) (Q : History → T
   pending_was true None = inl refl
   pending_was false o = inl refl
 
-  pub reversal_keeps : (m : Message) (src : Source) → handled_as t past i m src → group m.kind ≡ IsReversal → Q (In i ∷ past) → Q (on_reversal t n past i m src)
+  pub reversal_keeps : (m : Fields) (src : Source) → handled_as t past i m src → group m.kind ≡ groups.Reversal → Q (In i ∷ past) → Q (on_reversal t n past i m src)
   unfolding on_reversal
   reversal_keeps m src e g q =
       let ok : is_kept_group (group m.kind) ≡ true = rw g refl in
@@ -500,7 +509,7 @@ module _ (t : Network) (n : ℕ) (past : History) (i : Input) (Q : History → T
       refuses None f other = cc
       refuses (Some op) f other = close (In i ∷ past) (reply_output src (response m code_94) (In i ∷ past)) q (refusing (record { message = m; source = src; op = op; is_handled = e; opens = f; differs = inr (reversal_from_group m.kind g, not-true _ other); is = refl }))
 
-  pub advice_keeps : (m : Message) (src : Source) → handled_as t past i m src → group m.kind ≡ IsAdvice → Q (In i ∷ past) → Q (on_advice t n past i m src)
+  pub advice_keeps : (m : Fields) (src : Source) → handled_as t past i m src → group m.kind ≡ groups.StandInAdvice → Q (In i ∷ past) → Q (on_advice t n past i m src)
   unfolding on_advice
   advice_keeps m src e g q =
       let ok : is_kept_group (group m.kind) ≡ true = rw g refl in
@@ -532,7 +541,7 @@ module _ (t : Network) (n : ℕ) (past : History) (i : Input) (Q : History → T
       (λ _. keep_keeps (made_reversal op.message (node_id t n)) (In i ∷ past) (reversing k op e (via_ticks t past i k via) refl) q)
       (λ _. q))
 
-  pub answer_keeps : (m : Message) (src : Source) → handled_as t past i m src → group m.kind ≡ IsAnswer → Q (In i ∷ past) → Q (on_answer t n past i m src)
+  pub answer_keeps : (m : Fields) (src : Source) → handled_as t past i m src → group m.kind ≡ groups.Answer → Q (In i ∷ past) → Q (on_answer t n past i m src)
   unfolding on_answer
   answer_keeps m Gate e g q = q
   answer_keeps m (ByLink l) e g q =
@@ -550,13 +559,13 @@ module _ (t : Network) (n : ℕ) (past : History) (i : Input) (Q : History → T
   host_keeps a c None is e q = q
   host_keeps a c (Some k) is e q = code_keeps k c code_05 (opening t past k) refl (inr (record { ask = a; code = c; input = is; key_asked = e })) (λ z. rw (is, e, key_eq_refl k, z) refl) refl refl q
 
-  group_keeps : (m : Message) (src : Source) (g : Group) → handled_as t past i m src → group m.kind ≡ g → Q (In i ∷ past) → Q (on_group t n past i m src g)
-  group_keeps m src IsRequest e g q = request_keeps m src (opening t past (key_of m)) e (request_from_group m.kind g) refl q
-  group_keeps m src IsAnswer e g q = answer_keeps m src e g q
-  group_keeps m src IsAdvice e g q = advice_keeps m src e g q
-  group_keeps m src IsReversal e g q = reversal_keeps m src e g q
-  group_keeps m src IsAck e g q = q
-  group_keeps m src IsReply e g q = q
+  group_keeps : (m : Fields) (src : Source) (g : Group) → handled_as t past i m src → group m.kind ≡ g → Q (In i ∷ past) → Q (on_group t n past i m src g)
+  group_keeps m src groups.Request e g q = request_keeps m src (opening t past (key_of m)) e (request_from_group m.kind g) refl q
+  group_keeps m src groups.Answer e g q = answer_keeps m src e g q
+  group_keeps m src groups.StandInAdvice e g q = advice_keeps m src e g q
+  group_keeps m src groups.Reversal e g q = reversal_keeps m src e g q
+  group_keeps m src groups.Acknowledgement e g q = q
+  group_keeps m src groups.Reply e g q = q
 
   pub handled_keeps : (o : Option Handled) → handled t past i ≡ o → Q (In i ∷ past) → Q (on_handled t n past i o)
   handled_keeps None e q = q

@@ -3,8 +3,6 @@
 use Rattle.std.proofs.Common.{◌≡◌, ℕ, List, [], ◌∷◌, Option, Some, None, is_some, true, false, refl, sym, ap, ◌∙◌, subst, inl, inr, ⊎_elim, ◌⊎◌, bytes_eq}
 use Rattle.std.proofs.lemmas.Bool.{cond_both}
 use Rattle.std.specs.Option.{option_or, option_and_then}
-use Rattle.network_law.specs.Digits.{Bytes}
-use Rattle.network_law.specs.Messages.{Message, Key, key_of, is_answer, is_request, response, code_of, code_94, code_00, made_reversal, made_stand_in}
 use Rattle.net_rows.specs.Network.{Network}
 use Rattle.network_law.specs.Tables.{node_id}
 use Rattle.network_law.specs.Traces.{Input, Tick, LinkDown, Output, Event, In, Out, History, Opening, opening, answer, answers, sent, forwarded, asked, ticks_by, is_timer, failed_key, pending, advices, is_ok_ack, handled, own_approval, count_of, add_made, reverses_key}
@@ -16,6 +14,13 @@ use Rattle.network_law.proofs.Elements.{code_response, response_key}
 use Rattle.network_law.proofs.Codes.{standin_not_94}
 use Rattle.network_law.proofs.Used.{add_made_keeps, add_accepted_keeps, sent_reply}
 use Rattle.network_law.proofs.Late.{reversal_more, made_added, response_answers}
+use Rattle.network_law.specs.Cards.{Bytes}
+use Rattle.iso_message.specs.Fields.{Fields}
+use Rattle.card_digits.specs.declared.key.Key.{Key}
+use Rattle.iso_message.specs.Keys.{key_of}
+use Rattle.iso_message.specs.Groups.{is_answer, is_request}
+use Rattle.iso_message.specs.Made.{response, made_reversal, made_stand_in}
+use Rattle.iso_message.specs.Codes.{code_of, code_94, code_00}
 
 none_some : {X : Type 0} (x : X) → None ≡ Some x → ⊥
 none_some x p = cc
@@ -32,7 +37,7 @@ marked_out t n k op i o h timer len r key q = record { opens = Marked.opens q; m
     fresh : answer h k ≡ None → (option_or (answer h k) (answers k (sent o)) ≡ None) ⊎ (has_reversal t n (Out i o ∷ h) k ≡ true)
     fresh none = go (answers k (sent o)) refl
       where
-        go : (w : Option Message) → answers k (sent o) ≡ w → (option_or (answer h k) (answers k (sent o)) ≡ None) ⊎ (has_reversal t n (Out i o ∷ h) k ≡ true)
+        go : (w : Option Fields) → answers k (sent o) ≡ w → (option_or (answer h k) (answers k (sent o)) ≡ None) ⊎ (has_reversal t n (Out i o ∷ h) k ≡ true)
         go None at = inl (rw (none, at) refl)
         go (Some a) at =
             let w = answers_is k (sent o) a at in
@@ -48,7 +53,7 @@ pub answered_out : (k : Key) (i : Input) (o : Output) (h : History) → is_some 
 unfolding answer
 answered_out k i o h e = go (answer h k) e
   where
-    go : (w : Option Message) → is_some w ≡ true → is_some (option_or w (answers k (sent o))) ≡ true
+    go : (w : Option Fields) → is_some w ≡ true → is_some (option_or w (answers k (sent o))) ≡ true
     go None e = cc
     go (Some a) e = refl
 
@@ -66,7 +71,7 @@ module _ (t : Network) (n : ℕ) (past : History) (i : Input) (facts : NodeFacts
       let said : answers k (sent (reply_output op.source (response op.message c) h)) ≡ Some (response op.message c) = ap (answers k) (sent_reply op.source (response op.message c) h) ∙ rw (kind, key, key_eq_refl k, code) refl in
       some (answer h k) (answers k (sent (reply_output op.source (response op.message c) h))) (ap is_some said)
     where
-      some : (a b : Option Message) → is_some b ≡ true → is_some (option_or a b) ≡ true
+      some : (a b : Option Fields) → is_some b ≡ true → is_some (option_or a b) ≡ true
       some None b e = e
       some (Some a) b e = refl
 

@@ -4,12 +4,10 @@ use Rattle.std.proofs.lemmas.Bool.{and_parts, and_from, or_cases, eq-eqb, cond_b
 use Rattle.std.proofs.lemmas.Option.{same_Some}
 use Rattle.std.specs.Option.{option_or, option_and_then}
 use Rattle.std.specs.List.{list_any}
-use Rattle.network_law.specs.Digits.{Bytes, is_good_card}
-use Rattle.network_law.specs.Messages.{Message, Kind, Group, IsRequest, IsAnswer, IsAdvice, IsReversal, IsAck, IsReply, group, K0100, K0101, K0110, K0120, K0121, K0130, K0400, K0401, K0410, K0420, K0421, K0430, is_request, is_answer, is_reversal, is_04xx, Key, key_of, key_eq, Identity, identity_of, identity_eq, el, as_kind, code_of, code_94, code_96, code_00, code_68, response, response_kind, made_reversal, made_stand_in, card_of}
 use Rattle.net_rows.specs.Network.{Network, issuer}
 use Rattle.network_law.specs.Tables.{is_home, node_id}
 use Rattle.network_law.specs.Traces.{Source, ByLink, Input, Enter, Take, LinkUp, LinkDown, Tick, HostAnswer, NewDate, Output, Event, In, Out, History, Handled, handled, Opening, opening, answer, answers, sent, is_00_of, brings_00, own_approval, Advice, advices, add_advice, add_made, add_accepted, acked_by, has_identity, reverses_key, late_key, code_is_not_00, failed_key, is_ok_ack, is_ack_kind, as_kept, is_timer, is_link, forwarded, forwards, pending, count_of, known, date_of}
-use Rattle.network_law.specs.Decision.{decide, refusal, reply, reply_output, advice_kind, standin_code, on_answer, on_code, on_reversal, on_handled, answer_pending, other_content}
+use Rattle.network_law.specs.Decision.{decide, refusal, reply, reply_output, sent_kind, standin_code, on_answer, on_code, on_reversal, on_handled, answer_pending, other_content}
 use Rattle.network_law.specs.Runs.{IsRun, IsFormed, Entry, history, Legal, HasLengths, answered_by, takes_00, took_00, takes_answer, has_reversal, C2}
 use Rattle.network_law.proofs.Emits.{Allowed, forwarding, asking, standing_in, passing, declining, repeating, refusing, acking, sending, posting, OpenedFirst, Failed, Reversing, ViaLink, ViaHost, Kept, accepting, handled_as, decide_keeps, keep_keeps, key_eq_refl, key_eq_is, bytes_eq_refl, bytes_eq_is, stays_open, ask_key_asked, is_kept_group}
 use Rattle.network_law.proofs.Node.{NodeFacts, EntryFacts, Opened, legal_facts, facts_in, facts_out, keeps_issuers, answer_no_request, answer_is, answers_is, response_is_of_kind, forwarded_has, asked_has, Sent}
@@ -18,6 +16,16 @@ use Rattle.network_law.proofs.Used.{any_more, add_made_keeps, add_accepted_keeps
 use Rattle.network_law.proofs.Codes.{answer_not_94}
 use Rattle.network_law.proofs.Approvals.{forwarded_more, is_00_parts}
 use Rattle.network_law.proofs.Ends.{legal_at}
+use Rattle.network_law.specs.Cards.{Bytes, is_good_card, card_of}
+use Rattle.iso_message.specs.Fields.{Fields, el, as_kind}
+use Rattle.iso_message.specs.declared.kind.Kind.{Kind}
+use Rattle.iso_message.specs.Groups.{group, is_request, is_answer, is_04xx, response_kind}
+use Rattle.iso_message.specs.declared.kind.Kind.TheVariants.{K0100, K0101, K0110, K0120, K0121, K0130, K0400, K0401, K0410, K0420, K0421, K0430}
+use Rattle.card_digits.specs.declared.key.Key.{Key}
+use Rattle.iso_message.specs.Keys.{same_kind, advice_kind, key_of, key_eq, identity_of}
+use Rattle.iso_message.specs.Codes.{code_of, code_94, code_96, code_00, code_68}
+use Rattle.iso_message.specs.Made.{response, made_reversal, made_stand_in}
+use Rattle.iso_message.specs.declared.kind.Group.TheVariants as groups
 
 not_both : (b : Bool) → b ≡ true → b ≡ false → ⊥
 not_both b p q = cc
@@ -50,19 +58,19 @@ reversal_more t n (Out i o) h k r =
 
 -- an advice that is added is there, or one of its identity is
 
-same_identity_reverses : (k : Key) (x : Message) (a : Advice) → is_04xx x.kind ≡ true → key_of x ≡ k → has_identity (identity_of x) a ≡ true → reverses_key k a ≡ true
+same_identity_reverses : (k : Key) (x : Fields) (a : Advice) → is_04xx x.kind ≡ true → key_of x ≡ k → has_identity (identity_of x) a ≡ true → reverses_key k a ≡ true
 unfolding identity_of
 same_identity_reverses k x a r e same =
-    let p = and_parts (Rattle.network_law.specs.Messages.same_bool (is_04xx a.message.kind) (is_04xx x.kind) && key_eq (key_of a.message) (key_of x)) (bytes_eq (identity_of a.message).maker (identity_of x).maker) same in
-    let q = and_parts (Rattle.network_law.specs.Messages.same_bool (is_04xx a.message.kind) (is_04xx x.kind)) (key_eq (key_of a.message) (key_of x)) p.0 in
+    let p = and_parts (same_kind (advice_kind (is_04xx a.message.kind)) (advice_kind (is_04xx x.kind)) && key_eq (key_of a.message) (key_of x)) (bytes_eq (identity_of a.message).forwarder (identity_of x).forwarder) same in
+    let q = and_parts (same_kind (advice_kind (is_04xx a.message.kind)) (advice_kind (is_04xx x.kind))) (key_eq (key_of a.message) (key_of x)) p.0 in
     and_from (is_04xx a.message.kind) (key_eq (key_of a.message) k) (kinds (is_04xx a.message.kind) (is_04xx x.kind) r q.0) (ap (key_eq (key_of a.message)) (sym e) ∙ q.1)
   where
-    kinds : (b c : Bool) → c ≡ true → Rattle.network_law.specs.Messages.same_bool b c ≡ true → b ≡ true
+    kinds : (b c : Bool) → c ≡ true → same_kind (advice_kind b) (advice_kind c) ≡ true → b ≡ true
     kinds true c r e = refl
     kinds false true r e = e
     kinds false false r e = r
 
-any_identity : (k : Key) (x : Message) (as' : List Advice) → is_04xx x.kind ≡ true → key_of x ≡ k → list_any (has_identity (identity_of x)) as' ≡ true → list_any (reverses_key k) as' ≡ true
+any_identity : (k : Key) (x : Fields) (as' : List Advice) → is_04xx x.kind ≡ true → key_of x ≡ k → list_any (has_identity (identity_of x)) as' ≡ true → list_any (reverses_key k) as' ≡ true
 any_identity k x [] r e same = same
 any_identity k x (a ∷ as') r e same = ⊎_elim (λ here. rw (same_identity_reverses k x a r e here) refl) (λ there. any_more (reverses_key k) a as' (any_identity k x as' r e there)) (or_cases (has_identity (identity_of x) a) (list_any (has_identity (identity_of x)) as') same)
 
@@ -89,22 +97,22 @@ answer_when (Out i o ∷ h) k e = go (answered_by h k) refl (answer_when h k) e
     go (Some j) at rest e = absurd (none_some j (sym (rw at at e)))
     go None at rest e = rw (rest at) (none (answers k (sent o)) (rw at at e))
       where
-        none : (w : Option Message) → cond (is_some w) (Some i) None ≡ None → w ≡ None
+        none : (w : Option Fields) → cond (is_some w) (Some i) None ≡ None → w ≡ None
         none None e = refl
         none (Some a) e = absurd (none_some i (sym e))
 
-pub when_answer : (h : History) (k : Key) (j : Input) → answered_by h k ≡ Some j → (a : Message) × (answer h k ≡ Some a)
+pub when_answer : (h : History) (k : Key) (j : Input) → answered_by h k ≡ Some j → (a : Fields) × (answer h k ≡ Some a)
 unfolding answered_by answer
 when_answer [] k j e = absurd (none_some j e)
 when_answer (In i ∷ h) k j e = when_answer h k j e
 when_answer (Out i o ∷ h) k j e = go (answer h k) refl (answered_by h k) refl (when_answer h k)
   where
-    go : (w : Option Message) → answer h k ≡ w → (v : Option Input) → answered_by h k ≡ v → ((j' : Input) → answered_by h k ≡ Some j' → (a : Message) × (answer h k ≡ Some a)) → (a : Message) × (option_or (answer h k) (answers k (sent o)) ≡ Some a)
+    go : (w : Option Fields) → answer h k ≡ w → (v : Option Input) → answered_by h k ≡ v → ((j' : Input) → answered_by h k ≡ Some j' → (a : Fields) × (answer h k ≡ Some a)) → (a : Fields) × (option_or (answer h k) (answers k (sent o)) ≡ Some a)
     go (Some a) at v at' rest = (a, rw at refl)
     go None at (Some j') at' rest = let r = rest j' at' in absurd (none_some r.0 (sym at ∙ r.1))
     go None at None at' rest = rw at (some (answers k (sent o)) (rw at' at e))
       where
-        some : (w : Option Message) → cond (is_some w) (Some i) None ≡ Some j → (a : Message) × (w ≡ Some a)
+        some : (w : Option Fields) → cond (is_some w) (Some i) None ≡ Some j → (a : Fields) × (w ≡ Some a)
         some None e = absurd (none_some j e)
         some (Some a) e = (a, refl)
 
@@ -123,10 +131,10 @@ AllSettled t n h = (k : Key) (l : ℕ) (j : Input) → forwarded h k ≡ Some l 
 
 -- what is accepted in this entry
 pub record Accepting (t : Network) (n : ℕ) (past : History) (i : Input) (k : Key) : Type 0 where
-  pub message : Message
+  pub message : Fields
   pub source : Source
   pub is_handled : handled_as t past i message source
-  pub reversal : group message.kind ≡ IsReversal
+  pub reversal : group message.kind ≡ groups.Reversal
   pub key_is : key_of message ≡ k
   pub good : not (is_good_card (el message 2)) ≡ false
   pub issued : is_none (issuer t (card_of message)) ≡ false
@@ -139,19 +147,19 @@ OpenAnswers t h = (k : Key) (j : Input) → answered_by h k ≡ Some j → (op :
 record EntryLate (t : Network) (n : ℕ) (past : History) (i : Input) (h : History) : Type 0 where
   entry : EntryFacts t n past i h
   forwarded_stays : (k : Key) (l : ℕ) → forwarded past k ≡ Some l → forwarded h k ≡ Some l
-  answer_stays : (k : Key) (a : Message) → answer past k ≡ Some a → answer h k ≡ Some a
+  answer_stays : (k : Key) (a : Fields) → answer past k ≡ Some a → answer h k ≡ Some a
   open_answers : OpenAnswers t h
   settled : (k : Key) (l : ℕ) (j : Input) → forwarded h k ≡ Some l → answered_by h k ≡ Some j → Settled t n h k j ⊎ Accepting t n past i k
 
 record NewAnswer (i : Input) (o : Output) (k : Key) : Type 0 where
-  message : Message
+  message : Fields
   is : sent o ≡ Some message
   answer_kind : is_answer message.kind ≡ true
   key : key_of message ≡ k
   not_94 : bytes_eq (code_of message) code_94 ≡ false
   again : answers k (sent o) ≡ Some message
 
-new_answer_is : (i : Input) (o : Output) (k : Key) (a : Message) → answers k (sent o) ≡ Some a → NewAnswer i o k
+new_answer_is : (i : Input) (o : Output) (k : Key) (a : Fields) → answers k (sent o) ≡ Some a → NewAnswer i o k
 new_answer_is i o k a e =
     let p = answers_is k (sent o) a e in
     record { message = a; is = p.0; answer_kind = p.1; key = p.2; not_94 = Rattle.network_law.proofs.Codes.answers_not_94 k (sent o) a e; again = e }
@@ -198,7 +206,7 @@ module _ (t : Network) (n : ℕ) (past : History) (i : Input) (facts : NodeFacts
       go : Allowed t n past i h o → Settled t n (Out i o ∷ h) k i ⊎ Accepting t n past i k
       go (forwarding f) =
           let same : as_kind K0100 f.message ≡ w.message = same_Some _ _ (ap sent (sym f.is) ∙ w.is) in
-          ends (is_answer w.message.kind) w.answer_kind (ap (λ z. is_answer (Message.kind z)) (sym same))
+          ends (is_answer w.message.kind) w.answer_kind (ap (λ z. is_answer (Fields.kind z)) (sym same))
       go (asking f) = absurd (none_some w.message (ap sent (sym f.is) ∙ w.is))
       go (standing_in f) = ⊎_elim first failed f.how
         where
@@ -276,10 +284,10 @@ module _ (t : Network) (n : ℕ) (past : History) (i : Input) (facts : NodeFacts
           ends (bytes_eq (code_of w.message) code_94) (ap (λ c. bytes_eq c code_94) (response_code f.message code_94 w.message same)) w.not_94
       go (acking f) =
           let same : response f.message f.code ≡ w.message = reply_message f.source _ h o w.message f.is w.is in
-          ends (is_answer w.message.kind) w.answer_kind (ap (λ z. is_answer (Message.kind z)) (sym same) ∙ (ap is_answer (response_is_of_kind f.message f.code) ∙ acked_kind f.message.kind f.kind))
+          ends (is_answer w.message.kind) w.answer_kind (ap (λ z. is_answer (Fields.kind z)) (sym same) ∙ (ap is_answer (response_is_of_kind f.message f.code) ∙ acked_kind f.message.kind f.kind))
       go (sending f) =
-          let same : as_kind (advice_kind (is_04xx f.message.kind) f.again) f.message ≡ w.message = same_Some _ _ (ap sent (sym f.is) ∙ w.is) in
-          ends (is_answer w.message.kind) w.answer_kind (ap (λ z. is_answer (Message.kind z)) (sym same) ∙ advice_no_answer (is_04xx f.message.kind) f.again)
+          let same : as_kind (sent_kind (is_04xx f.message.kind) f.again) f.message ≡ w.message = same_Some _ _ (ap sent (sym f.is) ∙ w.is) in
+          ends (is_answer w.message.kind) w.answer_kind (ap (λ z. is_answer (Fields.kind z)) (sym same) ∙ advice_no_answer (is_04xx f.message.kind) f.again)
       go (posting f) = absurd (none_some w.message (ap sent (sym f.is) ∙ w.is))
 
   -- an answered key is open
@@ -292,7 +300,7 @@ module _ (t : Network) (n : ℕ) (past : History) (i : Input) (facts : NodeFacts
       go : Allowed t n past i h o → (op : Opening) × (opening t h k ≡ Some op)
       go (forwarding f) =
           let same : as_kind K0100 f.message ≡ w.message = same_Some _ _ (ap sent (sym f.is) ∙ w.is) in
-          ends (is_answer w.message.kind) w.answer_kind (ap (λ z. is_answer (Message.kind z)) (sym same))
+          ends (is_answer w.message.kind) w.answer_kind (ap (λ z. is_answer (Fields.kind z)) (sym same))
       go (asking f) = absurd (none_some w.message (ap sent (sym f.is) ∙ w.is))
       go (standing_in f) = of_reply f.op f.opens.key (standin_code t n h f.op.message) f.opens.is (reply_message f.op.source _ h o w.message f.is w.is)
       go (passing f) = of_reply f.op f.key f.code (stays_open t past i f.key f.op f.opens) (reply_message f.op.source _ h o w.message f.is w.is)
@@ -306,10 +314,10 @@ module _ (t : Network) (n : ℕ) (past : History) (i : Input) (facts : NodeFacts
           ends (bytes_eq (code_of w.message) code_94) (ap (λ c. bytes_eq c code_94) (response_code f.message code_94 w.message same)) w.not_94
       go (acking f) =
           let same : response f.message f.code ≡ w.message = reply_message f.source _ h o w.message f.is w.is in
-          ends (is_answer w.message.kind) w.answer_kind (ap (λ z. is_answer (Message.kind z)) (sym same) ∙ (ap is_answer (response_is_of_kind f.message f.code) ∙ acked_kind f.message.kind f.kind))
+          ends (is_answer w.message.kind) w.answer_kind (ap (λ z. is_answer (Fields.kind z)) (sym same) ∙ (ap is_answer (response_is_of_kind f.message f.code) ∙ acked_kind f.message.kind f.kind))
       go (sending f) =
-          let same : as_kind (advice_kind (is_04xx f.message.kind) f.again) f.message ≡ w.message = same_Some _ _ (ap sent (sym f.is) ∙ w.is) in
-          ends (is_answer w.message.kind) w.answer_kind (ap (λ z. is_answer (Message.kind z)) (sym same) ∙ advice_no_answer (is_04xx f.message.kind) f.again)
+          let same : as_kind (sent_kind (is_04xx f.message.kind) f.again) f.message ≡ w.message = same_Some _ _ (ap sent (sym f.is) ∙ w.is) in
+          ends (is_answer w.message.kind) w.answer_kind (ap (λ z. is_answer (Fields.kind z)) (sym same) ∙ advice_no_answer (is_04xx f.message.kind) f.again)
       go (posting f) = absurd (none_some w.message (ap sent (sym f.is) ∙ w.is))
 
   -- a new forward is of a key that isn't answered
@@ -340,7 +348,7 @@ module _ (t : Network) (n : ℕ) (past : History) (i : Input) (facts : NodeFacts
       let now : answer (Out i o ∷ h) k ≡ Some a.0 = answer_kept a.0 a.1 in
       inr (inl (record { takes = other.takes; code = rw now (rw a.1 at other.code) }))
     where
-      answer_kept : (a : Message) → answer h k ≡ Some a → answer (Out i o ∷ h) k ≡ Some a
+      answer_kept : (a : Fields) → answer h k ≡ Some a → answer (Out i o ∷ h) k ≡ Some a
       answer_kept a e = rw e refl
   settled_more k l j fw an (inr (inr r)) = inr (inr (reversal_more t n (Out i o) h k r))
 
@@ -354,13 +362,13 @@ module _ (t : Network) (n : ℕ) (past : History) (i : Input) (facts : NodeFacts
     settled = λ k l j fw an. settled_then k l j (forwarded h k) refl (answered_by h k) refl fw an;
   }
     where
-      answer_kept : (k : Key) (a : Message) → answer h k ≡ Some a → option_or (answer h k) (answers k (sent o)) ≡ Some a
+      answer_kept : (k : Key) (a : Fields) → answer h k ≡ Some a → option_or (answer h k) (answers k (sent o)) ≡ Some a
       answer_kept k a e = rw e refl
 
-      is_new : (k : Key) (j : Input) → cond (is_some (answers k (sent o))) (Some i) None ≡ Some j → (a : Message) × (answers k (sent o) ≡ Some a) × (i ≡ j)
+      is_new : (k : Key) (j : Input) → cond (is_some (answers k (sent o))) (Some i) None ≡ Some j → (a : Fields) × (answers k (sent o) ≡ Some a) × (i ≡ j)
       is_new k j e = go (answers k (sent o)) refl e
         where
-          go : (w : Option Message) → answers k (sent o) ≡ w → cond (is_some (answers k (sent o))) (Some i) None ≡ Some j → (a : Message) × (answers k (sent o) ≡ Some a) × (i ≡ j)
+          go : (w : Option Fields) → answers k (sent o) ≡ w → cond (is_some (answers k (sent o))) (Some i) None ≡ Some j → (a : Fields) × (answers k (sent o) ≡ Some a) × (i ≡ j)
           go None at e = absurd (none_some j (rw at at e))
           go (Some a) at e = (a, at, same_Some i j (rw at at e))
 
@@ -381,11 +389,11 @@ module _ (t : Network) (n : ℕ) (past : History) (i : Input) (facts : NodeFacts
           let w = new_answer_is i o k x.0 x.1 in
           let r = Rattle.network_law.proofs.Node.forwards_is k o l (rw at at fw) in
           let same : r.1 ≡ NewAnswer.message w = same_Some _ _ (ap sent (sym r.2) ∙ NewAnswer.is w) in
-          absurd (not_both (is_request r.1.kind) r.3 (answer_no_request r.1.kind (ap (λ z. is_answer (Message.kind z)) same ∙ NewAnswer.answer_kind w)))
+          absurd (not_both (is_request r.1.kind) r.3 (answer_no_request r.1.kind (ap (λ z. is_answer (Fields.kind z)) same ∙ NewAnswer.answer_kind w)))
 
 -- an accepted reversal is among the advices
 
-pub ack_kind_of : (k : Kind) → group k ≡ IsReversal → is_ack_kind (group (response_kind k)) ≡ true
+pub ack_kind_of : (k : Kind) → group k ≡ groups.Reversal → is_ack_kind (group (response_kind k)) ≡ true
 ack_kind_of K0100 e = cc
 ack_kind_of K0101 e = cc
 ack_kind_of K0110 e = cc
@@ -399,7 +407,7 @@ ack_kind_of K0420 e = refl
 ack_kind_of K0421 e = refl
 ack_kind_of K0430 e = cc
 
-reversal_04xx : (k : Kind) → group k ≡ IsReversal → is_04xx k ≡ true
+reversal_04xx : (k : Kind) → group k ≡ groups.Reversal → is_04xx k ≡ true
 reversal_04xx K0100 e = cc
 reversal_04xx K0101 e = cc
 reversal_04xx K0110 e = cc
@@ -413,7 +421,7 @@ reversal_04xx K0420 e = refl
 reversal_04xx K0421 e = refl
 reversal_04xx K0430 e = refl
 
-pub kept_reversal : (m : Message) → group m.kind ≡ IsReversal → (is_04xx (as_kept m).kind ≡ true) × (key_of (as_kept m) ≡ key_of m)
+pub kept_reversal : (m : Fields) → group m.kind ≡ groups.Reversal → (is_04xx (as_kept m).kind ≡ true) × (key_of (as_kept m) ≡ key_of m)
 unfolding key_of
 kept_reversal m g = let r = reversal_04xx m.kind g in (rw r refl, rw r refl)
 
@@ -437,10 +445,10 @@ handled_out t h Tick j o = refl
 handled_out t h (HostAnswer a c) j o = refl
 handled_out t h (NewDate d) j o = refl
 
-accept_adds : (count : ℕ) (b : Bool) (o : Option Handled) (m : Message) (src : Source) (as' : List Advice) → b ≡ true → o ≡ Some (record { message = m; source = src }) → group m.kind ≡ IsReversal → list_any (reverses_key (key_of m)) (add_accepted count b o as') ≡ true
+accept_adds : (count : ℕ) (b : Bool) (o : Option Handled) (m : Fields) (src : Source) (as' : List Advice) → b ≡ true → o ≡ Some (record { message = m; source = src }) → group m.kind ≡ groups.Reversal → list_any (reverses_key (key_of m)) (add_accepted count b o as') ≡ true
 accept_adds count b o m src as' yes' e g = rw (yes', e, g) (added_reverses (key_of m) (record { message = as_kept m; count = count; own = false; acked = false }) as' (kept_reversal m g).0 (kept_reversal m g).1)
 
-accepted_now : (t : Network) (n : ℕ) (past : History) (i : Input) (h : History) (m : Message) (src : Source) → handled t h i ≡ Some (record { message = m; source = src }) → group m.kind ≡ IsReversal → has_reversal t n (reply i src (response m code_00) h) (key_of m) ≡ true
+accepted_now : (t : Network) (n : ℕ) (past : History) (i : Input) (h : History) (m : Fields) (src : Source) → handled t h i ≡ Some (record { message = m; source = src }) → group m.kind ≡ groups.Reversal → has_reversal t n (reply i src (response m code_00) h) (key_of m) ≡ true
 unfolding has_reversal advices
 accepted_now t n past i h m src e g =
     let kind : is_ack_kind (group (response m code_00).kind) ≡ true = ap (λ z. is_ack_kind (group z)) (response_is_of_kind m code_00) ∙ ack_kind_of m.kind g in
@@ -464,7 +472,7 @@ accepted_by_reversal t n past i k a =
     handled_before true None = handled_in t past i ∙ a.is_handled
     handled_before false o = handled_in t past i ∙ a.is_handled
 
-on_handled_reversal : (t : Network) (n : ℕ) (past : History) (i : Input) (o : Option Handled) (m : Message) (src : Source) → o ≡ Some (record { message = m; source = src }) → group m.kind ≡ IsReversal → on_handled t n past i o ≡ on_reversal t n past i m src
+on_handled_reversal : (t : Network) (n : ℕ) (past : History) (i : Input) (o : Option Handled) (m : Fields) (src : Source) → o ≡ Some (record { message = m; source = src }) → group m.kind ≡ groups.Reversal → on_handled t n past i o ≡ on_reversal t n past i m src
 on_handled_reversal t n past i o m src e g = rw (e, g) refl
 
 accepted_then : (t : Network) (n : ℕ) (past : History) (i : Input) (k : Key) → Accepting t n past i k → has_reversal t n (decide t n past i) k ≡ true
@@ -529,7 +537,7 @@ late_in t n past i form ok f before = record {
     settled_in k l j fw (inr (inr r)) = inr (inr (reversal_more t n (In i) past k r))
 
 -- a 00 that comes for a key that was answered otherwise
-came_late : (t : Network) (n : ℕ) (past : History) (k : Key) (l s : ℕ) (m : Message) → NodeFacts t n past → is_00_of k (Some m) ≡ true → forwarded past k ≡ Some l → code_is_not_00 (answer past k) ≡ true → has_reversal t n (In (Take l s m) ∷ past) k ≡ true
+came_late : (t : Network) (n : ℕ) (past : History) (k : Key) (l s : ℕ) (m : Fields) → NodeFacts t n past → is_00_of k (Some m) ≡ true → forwarded past k ≡ Some l → code_is_not_00 (answer past k) ≡ true → has_reversal t n (In (Take l s m) ∷ past) k ≡ true
 unfolding has_reversal advices
 came_late t n past k l s m f m00 fw other = go (list_any (reverses_key k) (advices t n past)) refl
   where
@@ -548,7 +556,7 @@ came_late t n past k l s m f m00 fw other = go (list_any (reverses_key k) (advic
 
 -- a 00 that comes for a pending key answers it
 
-group_of_answer : (k : Kind) → is_answer k ≡ true → group k ≡ IsAnswer
+group_of_answer : (k : Kind) → is_answer k ≡ true → group k ≡ groups.Answer
 group_of_answer K0100 e = cc
 group_of_answer K0101 e = cc
 group_of_answer K0110 e = refl
@@ -576,7 +584,7 @@ response_answers K0420 e = cc
 response_answers K0421 e = cc
 response_answers K0430 e = cc
 
-on_answer_is : (t : Network) (n : ℕ) (past : History) (i : Input) (l : ℕ) (m : Message) (op : Opening) → forwarded past (key_of m) ≡ Some l → opening t past (key_of m) ≡ Some op → answer past (key_of m) ≡ None → bytes_eq (code_of m) code_00 ≡ true → on_answer t n past i m (ByLink l) ≡ reply i op.source (response op.message code_00) (In i ∷ past)
+on_answer_is : (t : Network) (n : ℕ) (past : History) (i : Input) (l : ℕ) (m : Fields) (op : Opening) → forwarded past (key_of m) ≡ Some l → opening t past (key_of m) ≡ Some op → answer past (key_of m) ≡ None → bytes_eq (code_of m) code_00 ≡ true → on_answer t n past i m (ByLink l) ≡ reply i op.source (response op.message code_00) (In i ∷ past)
 unfolding on_answer
 on_answer_is t n past i l m op fw opened' none c =
     on_link (is_link l (forwarded past (key_of m))) link (on_code t n past i (key_of m) (code_of m) code_96 (opening t past (key_of m)))
@@ -594,7 +602,7 @@ on_answer_is t n past i l m op fw opened' none c =
     on_code_is : (k : Key) (c : Bytes) → pending t past k ≡ true → c ≡ code_00 → on_code t n past i k c code_96 (Some op) ≡ reply i op.source (response op.message code_00) (In i ∷ past)
     on_code_is k c p e = rw (p, e) refl
 
-taken_pending : (t : Network) (n : ℕ) (past : History) (k : Key) (l s : ℕ) (m : Message) → NodeFacts t n past → is_00_of k (Some m) ≡ true → forwarded past k ≡ Some l → answered_by past k ≡ None → answered_by (decide t n past (Take l s m)) k ≡ Some (Take l s m)
+taken_pending : (t : Network) (n : ℕ) (past : History) (k : Key) (l s : ℕ) (m : Fields) → NodeFacts t n past → is_00_of k (Some m) ≡ true → forwarded past k ≡ Some l → answered_by past k ≡ None → answered_by (decide t n past (Take l s m)) k ≡ Some (Take l s m)
 unfolding decide answered_by
 taken_pending t n past k l s m f m00 fw none =
     let b = forwarded_has past k l fw in

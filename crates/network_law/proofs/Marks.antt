@@ -4,11 +4,10 @@ use Rattle.std.proofs.lemmas.Bool.{and_parts, or_right, or_cases}
 use Rattle.std.proofs.lemmas.Option.{same_Some}
 use Rattle.std.specs.Option.{option_or, option_and_then}
 use Rattle.std.specs.List.{list_any}
-use Rattle.network_law.specs.Messages.{Message, K0100, Key, key_of, is_answer, is_04xx, identity_of, as_kind, made_reversal, made_stand_in}
 use Rattle.net_rows.specs.Network.{Network}
 use Rattle.network_law.specs.Tables.{node_id}
 use Rattle.network_law.specs.Traces.{Input, Enter, Take, LinkUp, LinkDown, Tick, HostAnswer, NewDate, Output, In, Out, History, handled, Opening, opening, opened, with_new, key_handled, answer, answers, sent, own_approval, Advice, advices, add_made, has_identity, failed_key, is_key, is_ok_ack, is_timer, pending, fails, count_of, known}
-use Rattle.network_law.specs.Decision.{decide, refusal, failing, send_all, due_advices, advice_kind, standin_code}
+use Rattle.network_law.specs.Decision.{decide, refusal, failing, send_all, due_advices, sent_kind, standin_code}
 use Rattle.network_law.specs.Runs.{IsFormed, IsIn, history, marked_failed, FailsAreMarked, FailsAreReversed}
 use Rattle.network_law.proofs.Emits.{Allowed, forwarding, asking, standing_in, passing, declining, repeating, refusing, acking, sending, posting, decide_keeps, stays_open, handled_no_timer, key_eq_refl, key_eq_is, failing_ticks}
 use Rattle.network_law.proofs.Node.{NodeFacts, EntryFacts, OpensNow, opening_in_cases, legal_facts, facts_in, facts_out, keeps_issuers, answers_is}
@@ -17,6 +16,12 @@ use Rattle.network_law.proofs.Used.{reply_message, add_made_keeps, add_accepted_
 use Rattle.network_law.proofs.Fails.{all_answered}
 use Rattle.network_law.proofs.Origins.{known_more, added_known}
 use Rattle.network_law.proofs.Covered.{filter_in, reverse_in}
+use Rattle.iso_message.specs.Fields.{Fields, as_kind}
+use Rattle.iso_message.specs.declared.kind.Kind.TheVariants.{K0100}
+use Rattle.card_digits.specs.declared.key.Key.{Key}
+use Rattle.iso_message.specs.Keys.{key_of, identity_of}
+use Rattle.iso_message.specs.Groups.{is_answer, is_04xx}
+use Rattle.iso_message.specs.Made.{made_reversal, made_stand_in}
 
 not_both : (b : Bool) → b ≡ true → b ≡ false → ⊥
 not_both b p q = cc
@@ -56,7 +61,7 @@ record Unmarked (t : Network) (n : ℕ) (past : History) (i : Input) (k : Key) (
 
 -- what the mark of a key says
 record MarkNow (t : Network) (h : History) (i : Input) (o : Output) (k : Key) : Type 0 where
-  message : Message
+  message : Fields
   is : sent o ≡ Some message
   timer : is_timer i ≡ true
   answer_kind : is_answer message.kind ≡ true
@@ -65,14 +70,14 @@ record MarkNow (t : Network) (h : History) (i : Input) (o : Output) (k : Key) : 
 mark_now : (t : Network) (h : History) (i : Input) (o : Output) (k : Key) → is_key k (failed_key t h i (sent o)) ≡ true → MarkNow t h i o k
 mark_now t h i o k e = by_message (sent o) refl e
   where
-    by_test : (y : Message) → sent o ≡ Some y → (b : Bool) → (is_timer i && is_answer y.kind && pending t h (key_of y)) ≡ b → is_key k (cond (is_timer i && is_answer y.kind && pending t h (key_of y)) (Some (key_of y)) None) ≡ true → MarkNow t h i o k
+    by_test : (y : Fields) → sent o ≡ Some y → (b : Bool) → (is_timer i && is_answer y.kind && pending t h (key_of y)) ≡ b → is_key k (cond (is_timer i && is_answer y.kind && pending t h (key_of y)) (Some (key_of y)) None) ≡ true → MarkNow t h i o k
     by_test y is true at e =
         let p = and_parts (is_timer i && is_answer y.kind) (pending t h (key_of y)) at in
         let r = and_parts (is_timer i) (is_answer y.kind) p.0 in
         record { message = y; is = is; timer = r.0; answer_kind = r.1; key = key_eq_is (key_of y) k (rw at at e) }
     by_test y is false at e = absurd (not_both false (rw at at e) refl)
 
-    by_message : (w : Option Message) → sent o ≡ w → is_key k (failed_key t h i (sent o)) ≡ true → MarkNow t h i o k
+    by_message : (w : Option Fields) → sent o ≡ w → is_key k (failed_key t h i (sent o)) ≡ true → MarkNow t h i o k
     by_message None is e = absurd (not_both false (rw is at e) refl)
     by_message (Some y) is e = by_test y is (is_timer i && is_answer y.kind && pending t h (key_of y)) refl (rw is at e)
 
@@ -87,7 +92,7 @@ unmarked_out t n past i facts k h o q allowed = record {
     ends b p r = absurd (not_both b p r)
 
     by_case : MarkNow t h i o k → Allowed t n past i h o → fails t past i k ≡ true
-    by_case w (forwarding f) = ends (is_answer (MarkNow.message w).kind) (MarkNow.answer_kind w) (ap (λ z. is_answer (Message.kind z)) (sym (same_Some (as_kind K0100 f.message) (MarkNow.message w) (ap sent (sym f.is) ∙ MarkNow.is w))))
+    by_case w (forwarding f) = ends (is_answer (MarkNow.message w).kind) (MarkNow.answer_kind w) (ap (λ z. is_answer (Fields.kind z)) (sym (same_Some (as_kind K0100 f.message) (MarkNow.message w) (ap sent (sym f.is) ∙ MarkNow.is w))))
     by_case w (asking f) = absurd (none_some (MarkNow.message w) (ap sent (sym f.is) ∙ MarkNow.is w))
     by_case w (standing_in f) =
         let now : opening t h f.opens.key ≡ Some f.op = (Unmarked.entry q).opening_is f.opens.key ∙ f.opens.is in
@@ -100,7 +105,7 @@ unmarked_out t n past i facts k h o q allowed = record {
     by_case w (repeating f) = ends (is_timer i) (MarkNow.timer w) f.no_timer
     by_case w (refusing f) = ends (is_timer i) (MarkNow.timer w) (handled_no_timer t past i f.message f.source f.is_handled)
     by_case w (acking f) = ends (is_timer i) (MarkNow.timer w) (handled_no_timer t past i f.message f.source f.is_handled)
-    by_case w (sending f) = ends (is_answer (MarkNow.message w).kind) (MarkNow.answer_kind w) (ap (λ z. is_answer (Message.kind z)) (sym (same_Some (as_kind (advice_kind (is_04xx f.message.kind) f.again) f.message) (MarkNow.message w) (ap sent (sym f.is) ∙ MarkNow.is w))) ∙ advice_no_answer (is_04xx f.message.kind) f.again)
+    by_case w (sending f) = ends (is_answer (MarkNow.message w).kind) (MarkNow.answer_kind w) (ap (λ z. is_answer (Fields.kind z)) (sym (same_Some (as_kind (sent_kind (is_04xx f.message.kind) f.again) f.message) (MarkNow.message w) (ap sent (sym f.is) ∙ MarkNow.is w))) ∙ advice_no_answer (is_04xx f.message.kind) f.again)
     by_case w (posting f) = absurd (none_some (MarkNow.message w) (ap sent (sym f.is) ∙ MarkNow.is w))
 
 unmarked_decide : (t : Network) (n : ℕ) (past : History) (i : Input) (k : Key) → IsFormed i → refusal t n past i ≡ None → NodeFacts t n past → marked_failed t (decide t n past i) k ≡ true → fails t past i k ≡ true
@@ -126,7 +131,7 @@ marked_out t n k op i o h timer q = record { opens = Marked.opens q; mark = ⊎_
     fresh : answer h k ≡ None → (option_or (answer h k) (answers k (sent o)) ≡ None) ⊎ (((marked_failed t h k || is_key k (failed_key t h i (sent o))) ≡ true) × (list_any (has_identity (identity_of (made_reversal op.message (node_id t n)))) (advices t n (Out i o ∷ h)) ≡ true))
     fresh none = go (answers k (sent o)) refl
       where
-        go : (w : Option Message) → answers k (sent o) ≡ w → (option_or (answer h k) (answers k (sent o)) ≡ None) ⊎ (((marked_failed t h k || is_key k (failed_key t h i (sent o))) ≡ true) × (list_any (has_identity (identity_of (made_reversal op.message (node_id t n)))) (advices t n (Out i o ∷ h)) ≡ true))
+        go : (w : Option Fields) → answers k (sent o) ≡ w → (option_or (answer h k) (answers k (sent o)) ≡ None) ⊎ (((marked_failed t h k || is_key k (failed_key t h i (sent o))) ≡ true) × (list_any (has_identity (identity_of (made_reversal op.message (node_id t n)))) (advices t n (Out i o ∷ h)) ≡ true))
         go None at = inl (rw (none, at) refl)
         go (Some a) at =
             let w = answers_is k (sent o) a at in
@@ -161,7 +166,7 @@ fails_at t past i k e = go (opening t past k) refl (answer past k) refl (parts i
     parts (HostAnswer a c) f = cc
     parts (NewDate d) f = cc
 
-    go : (w : Option Opening) → opening t past k ≡ w → (v : Option Message) → answer past k ≡ v → pending t past k ≡ true → FailsAt t past i k
+    go : (w : Option Opening) → opening t past k ≡ w → (v : Option Fields) → answer past k ≡ v → pending t past k ≡ true → FailsAt t past i k
     go None at v at' p = absurd (not_both false (rw at at p) refl)
     go (Some op) at (Some a) at' p = absurd (not_both (is_none (answer past k)) ((and_parts (is_some (opening t past k)) (is_none (answer past k)) p).1) (ap is_none at'))
     go (Some op) at None at' p = record { op = op; opens = at; unanswered = at'; timer = (parts i e).1; member = filter_in (fails t past i) (reverse (opened t past)) k (reverse_in (opened t past) k (opened_in t past k op at)) e }

@@ -1,28 +1,40 @@
 -- Where each advice of a node comes from, what acknowledges it, and the links by which it was sent.
-use Rattle.std.proofs.Common.{◌≡◌, ℕ, List, [], ◌∷◌, map, replicate, Option, Some, None, is_none, Bool, true, false, cond, not, ◌&&◌, refl, sym, ap, ◌∙◌, subst, inl, inr, ⊎_elim, ◌⊎◌, bytes_eq, eqb}
+use Rattle.std.proofs.Common.{◌≡◌, ℕ, List, [], ◌∷◌, map, replicate, Option, Some, None, is_none, Bool, true, false, cond, not, ◌&&◌, refl, sym, ap, ◌∙◌, subst, inl, inr, ⊎_elim, ◌⊎◌, bytes_eq}
 use Rattle.std.proofs.lemmas.Bool.{and_parts, or_cases, cond_both, not-false}
 use Rattle.std.proofs.lemmas.Option.{same_Some}
 use Rattle.std.specs.Option.{option_and_then}
 use Rattle.std.specs.List.{list_any}
 use Rattle.card_digits.specs.Numbers.{pad11}
-use Rattle.network_law.specs.Digits.{Bytes}
-use Rattle.network_law.specs.Messages.{Message, Kind, Group, IsRequest, IsAnswer, IsAdvice, IsReversal, IsAck, IsReply, group, K0100, K0101, K0110, K0120, K0121, K0130, K0400, K0401, K0410, K0420, K0421, K0430, is_request, is_answer, is_reversal, is_04xx, Key, key_of, own_key, original_key, Identity, identity_of, padded_or_zeros, get, find_element, without, placed, set_element, remove_element, kept, el, as_kind, code_of, code_94, code_68, code_00, content, response, response_kind, made_from, made_reversal, made_stand_in, card_of}
 use Rattle.net_rows.specs.Network.{Network, issuer}
 use Rattle.net_rows.specs.declared.row.Issuer.{Issuer}
 use Rattle.network_law.specs.Tables.{is_home, node_id, route_links, is_attached}
 use Rattle.network_law.specs.Traces.{Source, Input, Enter, Take, LinkUp, LinkDown, Tick, HostAnswer, NewDate, Output, Put, In, Out, Event, History, Handled, handled, Opening, opening, sent, own_approval, Advice, advices, add_advice, add_made, add_accepted, acked_by, is_ack, is_ack_of, has_identity, late_key, failed_key, is_ok_ack, is_advice_group, is_ack_kind, as_kept, dated, date_of, count_of, forwarded, is_up}
-use Rattle.network_law.specs.Decision.{decide, refusal, reply_output, advice_kind, own_way, entered_kind, standin_code}
+use Rattle.network_law.specs.Decision.{decide, refusal, reply_output, sent_kind, own_way, entered_kind, standin_code}
 use Rattle.network_law.specs.Runs.{IsFormed, IsIn, Has, Entry, history, Legal}
 use Rattle.network_law.proofs.Emits.{Allowed, forwarding, asking, standing_in, passing, declining, repeating, refusing, acking, sending, posting, Acking, Sending, Kept, due, reversing, standing, accepting, handled_as, Issued, decide_keeps, stays_open, is_kept_group, found_is_in, from_link}
-use Rattle.network_law.proofs.Node.{NodeFacts, EntryFacts, legal_facts, facts_out, keeps_issuers, find_without, find_placed, response_is_of_kind, put_parts}
-use Rattle.network_law.proofs.Elements.{find_gone, find_kept, find_placed_same, own_key_response, el_response, carried, made_base}
+use Rattle.network_law.proofs.Node.{NodeFacts, EntryFacts, legal_facts, facts_out, keeps_issuers, response_is_of_kind, put_parts}
+use Rattle.network_law.proofs.Elements.{own_key_response, el_response, carried, made_base}
 use Rattle.network_law.proofs.Used.{OwnFacts, own_in_entry, own_case, has_00_more, brings_more, reply_message, response_code, add_made_keeps, add_accepted_keeps}
 use Rattle.network_law.proofs.Late.{handled_in, handled_out}
 use Rattle.network_law.proofs.Codes.{reply_put, same_out}
 use Rattle.network_law.proofs.Reversals.{in_add, opened_of_key, identity_acked, ack_case, ok_ack_parts, request_no_ack, answer_no_ack, advice_no_ack, entered_reversal, when_none, home_is_not}
 use Rattle.network_law.proofs.Chain.{same_card}
-use Rattle.network_law.proofs.Accounts.{Alike, alike_sym, alike_is, alike_card, identity_eq_refl, is_any}
+use Rattle.network_law.proofs.Accounts.{Alike, alike_sym, alike_card}
+use Rattle.iso_message.proofs.Equality.{identity_eq_refl}
 use Rattle.network_law.proofs.Posts.{kept_alike, kept_is_advice, sent_alike, advice_kind_04xx, content_made_stand_in}
+use Rattle.network_law.specs.Cards.{Bytes, card_of}
+use Rattle.iso_message.proofs.Changes.{get_set, get_set_same, get_remove_same, find_kept}
+use Rattle.iso_message.specs.Fields.{Fields, get, set_element, remove_element, as_kind}
+use Rattle.iso_message.specs.declared.kind.Kind.{Kind}
+use Rattle.iso_message.specs.declared.kind.Group.{Group}
+use Rattle.iso_message.specs.Groups.{group, is_request, is_answer, is_reversal, is_04xx, response_kind}
+use Rattle.iso_message.specs.declared.kind.Kind.TheVariants.{K0100, K0101, K0110, K0120, K0121, K0130, K0400, K0401, K0410, K0420, K0421, K0430}
+use Rattle.card_digits.specs.declared.key.Key.{Key}
+use Rattle.iso_message.specs.Keys.{advice_kind, key_of, own_key, original_key, identity_of, padded_or_zeros, content}
+use Rattle.iso_message.specs.declared.keys.AdviceId.{AdviceId}
+use Rattle.iso_message.specs.Made.{kept, response_numbers, response, made_from, made_reversal, made_stand_in}
+use Rattle.iso_message.specs.Codes.{code_of, code_94, code_68, code_00}
+use Rattle.iso_message.specs.declared.kind.Group.TheVariants as groups
 
 not_both : (b : Bool) → b ≡ true → b ≡ false → ⊥
 not_both b p q = cc
@@ -32,29 +44,21 @@ none_some x p = cc
 
 -- elements
 
-get_set : (m : Message) (k n : ℕ) (v : Bytes) → eqb n k ≡ false → get (set_element m k v) n ≡ get m n
-unfolding get set_element
-get_set m k n v d = find_placed n k v (without k m.elements) d ∙ find_without n k m.elements d
-
-get_set_same : (m : Message) (k : ℕ) (v : Bytes) → get (set_element m k v) k ≡ Some v
-unfolding get set_element
-get_set_same m k v = find_placed_same k v (without k m.elements) (find_gone k m.elements)
-
-made_maker : (k : Kind) (m : Message) (id code : Bytes) → get (made_from k m id code) 33 ≡ Some id
+made_maker : (k : Kind) (m : Fields) (id code : Bytes) → get (made_from k m id code) 33 ≡ Some id
 unfolding made_from
 made_maker k m id code = get_set (set_element (made_base k m) 33 id) 39 33 code refl ∙ get_set_same (made_base k m) 33 id
 
-reversal_maker : (m : Message) (id : Bytes) → (identity_of (made_reversal m id)).maker ≡ pad11 id
+reversal_maker : (m : Fields) (id : Bytes) → (identity_of (made_reversal m id)).forwarder ≡ pad11 id
 unfolding identity_of made_reversal
 reversal_maker m id = ap padded_or_zeros (get_set (made_from K0420 m id code_68) 90 33 _ refl ∙ made_maker K0420 m id code_68)
 
-stand_in_maker : (m : Message) (id : Bytes) → (identity_of (made_stand_in m id)).maker ≡ pad11 id
+stand_in_maker : (m : Fields) (id : Bytes) → (identity_of (made_stand_in m id)).forwarder ≡ pad11 id
 unfolding identity_of made_stand_in
 stand_in_maker m id = ap padded_or_zeros (made_maker K0120 m id code_00)
 
-get_response : (m : Message) (c : Bytes) → get (response m c) 33 ≡ get m 33
+get_response : (m : Fields) (c : Bytes) → get (response m c) 33 ≡ get m 33
 unfolding response get
-get_response m c = get_set (record { kind = response_kind m.kind; elements = kept carried m.elements }) 39 33 c refl ∙ find_kept carried 33 m.elements refl
+get_response m c = get_set (record { kind = response_kind m.kind; elements = kept response_numbers m.elements }) 39 33 c refl ∙ find_kept carried 33 m.elements refl
 
 response_04xx : (k : Kind) → is_kept_group (group k) ≡ true → is_04xx (response_kind k) ≡ is_04xx k
 response_04xx K0100 e = cc
@@ -70,13 +74,13 @@ response_04xx K0420 e = refl
 response_04xx K0421 e = refl
 response_04xx K0430 e = cc
 
-original_response : (m : Message) (c : Bytes) → original_key (response m c) ≡ original_key m
+original_response : (m : Fields) (c : Bytes) → original_key (response m c) ≡ original_key m
 unfolding original_key
 original_response m c =
     let e = el_response m c 90 refl refl in
-    λ j. record { acquirer = Rattle.network_law.specs.Messages.part 20 11 (e j); trace = Rattle.network_law.specs.Messages.part 4 6 (e j); time = Rattle.network_law.specs.Messages.part 10 10 (e j) }
+    λ j. record { acquirer = Rattle.iso_message.specs.Keys.part 20 11 (e j); trace = Rattle.iso_message.specs.Keys.part 4 6 (e j); time = Rattle.iso_message.specs.Keys.part 10 10 (e j) }
 
-kept_response_key : (m : Message) (c : Bytes) → is_kept_group (group m.kind) ≡ true → key_of (response m c) ≡ key_of m
+kept_response_key : (m : Fields) (c : Bytes) → is_kept_group (group m.kind) ≡ true → key_of (response m c) ≡ key_of m
 unfolding key_of
 kept_response_key m c g = go (is_04xx m.kind) refl (ap is_04xx (response_is_of_kind m c) ∙ response_04xx m.kind g)
   where
@@ -84,59 +88,59 @@ kept_response_key m c g = go (is_04xx m.kind) refl (ap is_04xx (response_is_of_k
     go true at e = rw (e, at) (original_response m c)
     go false at e = rw (e, at) (own_key_response m c)
 
-response_identity : (m : Message) (c : Bytes) → is_kept_group (group m.kind) ≡ true → identity_of (response m c) ≡ identity_of m
+response_identity : (m : Fields) (c : Bytes) → is_kept_group (group m.kind) ≡ true → identity_of (response m c) ≡ identity_of m
 unfolding identity_of
 response_identity m c g =
     let a = ap is_04xx (response_is_of_kind m c) ∙ response_04xx m.kind g in
     let b = kept_response_key m c g in
     let d = get_response m c in
-    λ j. record { reverses = a j; key = b j; maker = padded_or_zeros (d j) }
+    λ j. record { kind = advice_kind (a j); key = b j; forwarder = padded_or_zeros (d j) }
 
 -- where an advice comes from
 
-pub record Made (t : Network) (n : ℕ) (h : History) (x : Message) : Type 0 where
+pub record Made (t : Network) (n : ℕ) (h : History) (x : Fields) : Type 0 where
   pub key : Key
   pub op : Opening
   pub opens : opening t h key ≡ Some op
-  pub maker : (identity_of x).maker ≡ pad11 (node_id t n)
+  pub forwarder : (identity_of x).forwarder ≡ pad11 (node_id t n)
 
-pub record TakenAs (h : History) (x : Message) : Type 0 where
+pub record TakenAs (h : History) (x : Fields) : Type 0 where
   pub link : ℕ
   pub serial : ℕ
-  pub message : Message
+  pub message : Fields
   pub has : Has (In (Take link serial message)) h
   pub kind : is_advice_group (group message.kind) ≡ true
   pub alike : Alike message x
 
-pub record Entered (t : Network) (n : ℕ) (x : Message) : Type 0 where
-  pub maker : (identity_of x).maker ≡ replicate 11 48
+pub record Entered (t : Network) (n : ℕ) (x : Fields) : Type 0 where
+  pub forwarder : (identity_of x).forwarder ≡ replicate 11 48
   pub gate : is_attached t n (key_of x).acquirer ≡ true
 
-abbrev pub From : Network → ℕ → History → Message → Type 0
+abbrev pub From : Network → ℕ → History → Fields → Type 0
 From t n h x = Made t n h x ⊎ (TakenAs h x ⊎ Entered t n x)
 
-more_from : (t : Network) (n : ℕ) (e : Event) (h : History) (x : Message) → From t n h x → From t n (e ∷ h) x
+more_from : (t : Network) (n : ℕ) (e : Event) (h : History) (x : Fields) → From t n h x → From t n (e ∷ h) x
 unfolding opening
-more_from t n (In i) h x (inl m) = inl (record { key = m.key; op = m.op; opens = stays_open t h i m.key m.op m.opens; maker = m.maker })
-more_from t n (Out i o) h x (inl m) = inl (record { key = m.key; op = m.op; opens = m.opens; maker = m.maker })
+more_from t n (In i) h x (inl m) = inl (record { key = m.key; op = m.op; opens = stays_open t h i m.key m.op m.opens; forwarder = m.forwarder })
+more_from t n (Out i o) h x (inl m) = inl (record { key = m.key; op = m.op; opens = m.opens; forwarder = m.forwarder })
 more_from t n e h x (inr (inl s)) = inr (inl (record { link = s.link; serial = s.serial; message = s.message; has = inr s.has; kind = s.kind; alike = s.alike }))
 more_from t n e h x (inr (inr g)) = inr (inr g)
 
-pub record AckTaken (h : History) (id : Identity) : Type 0 where
+pub record AckTaken (h : History) (id : AdviceId) : Type 0 where
   pub link : ℕ
   pub serial : ℕ
-  pub message : Message
+  pub message : Fields
   pub has : Has (In (Take link serial message)) h
   pub ack : is_ack (group message.kind) ≡ true
   pub code : bytes_eq (code_of message) code_00 ≡ true
   pub same : identity_of message ≡ id
 
-more_ack : (e : Event) (h : History) (id : Identity) → AckTaken h id → AckTaken (e ∷ h) id
+more_ack : (e : Event) (h : History) (id : AdviceId) → AckTaken h id → AckTaken (e ∷ h) id
 more_ack e h id a = record { link = a.link; serial = a.serial; message = a.message; has = inr a.has; ack = a.ack; code = a.code; same = a.same }
 
 -- the parts of an entry's advices
 
-in_made_new : (a : Advice) (make : Message → Message) (count : ℕ) (o : Option Opening) (as' : List Advice) → IsIn a (add_made make count o as') → ((op : Opening) × (o ≡ Some op) × (a.message ≡ make op.message) × (a.acked ≡ false)) ⊎ IsIn a as'
+in_made_new : (a : Advice) (make : Fields → Fields) (count : ℕ) (o : Option Opening) (as' : List Advice) → IsIn a (add_made make count o as') → ((op : Opening) × (o ≡ Some op) × (a.message ≡ make op.message) × (a.acked ≡ false)) ⊎ IsIn a as'
 in_made_new a make count None as' m = inr m
 in_made_new a make count (Some op) as' m = ⊎_elim (λ e. inl (op, refl, ap Advice.message (sym e), ap Advice.acked (sym e))) inr (in_add a (record { message = make op.message; count = count; own = true; acked = false }) as' m)
 
@@ -168,7 +172,7 @@ newly_acked (Take l s m) h b e = ⊎_elim inl (λ now. inr (taken now)) (or_case
     taken now =
         let p = and_parts (is_ack (group m.kind) && bytes_eq (code_of m) code_00) (has_identity (identity_of m) b) now in
         let q = and_parts (is_ack (group m.kind)) (bytes_eq (code_of m) code_00) p.0 in
-        record { link = l; serial = s; message = m; has = inl refl; ack = q.0; code = q.1; same = sym (Rattle.network_law.proofs.Accounts.identity_eq_is (identity_of b.message) (identity_of m) p.1) }
+        record { link = l; serial = s; message = m; has = inl refl; ack = q.0; code = q.1; same = sym (Rattle.iso_message.proofs.Equality.identity_eq_is (identity_of b.message) (identity_of m) p.1) }
 newly_acked (Enter m) h b e = inl e
 newly_acked (LinkUp l) h b e = inl e
 newly_acked (LinkDown l) h b e = inl e
@@ -206,38 +210,38 @@ request_no_advice K0420 e = cc
 request_no_advice K0421 e = cc
 request_no_advice K0430 e = cc
 
-enters : (t : Network) (n : ℕ) (past : History) (m : Message) → refusal t n past (Enter m) ≡ None → entered_kind m.kind ≡ true
+enters : (t : Network) (n : ℕ) (past : History) (m : Fields) → refusal t n past (Enter m) ≡ None → entered_kind m.kind ≡ true
 unfolding refusal
 enters t n past m ok = not-false _ (when_none (not (entered_kind m.kind)) 4 _ ok).0
 
-entered_source : (t : Network) (n : ℕ) (past : History) (m x : Message) (src : Source) → refusal t n past (Enter m) ≡ None → handled t past (Enter m) ≡ Some (record { message = x; source = src }) → is_advice_group (group x.kind) ≡ true → Entered t n x
-unfolding handled remove_element identity_of get set_element
+entered_source : (t : Network) (n : ℕ) (past : History) (m x : Fields) (src : Source) → refusal t n past (Enter m) ≡ None → handled t past (Enter m) ≡ Some (record { message = x; source = src }) → is_advice_group (group x.kind) ≡ true → Entered t n x
+unfolding handled remove_element identity_of set_element
 entered_source t n past m x src ok e g = go (is_request m.kind) refl
   where
     same : dated (date_of t past) (remove_element m 33) ≡ x
     same = ap (λ (z : Handled). z.message) (same_Some _ _ e)
 
     go : (b : Bool) → is_request m.kind ≡ b → Entered t n x
-    go true at = absurd (not_both (is_advice_group (group x.kind)) g (ap (λ z. is_advice_group (group (Message.kind z))) (sym same) ∙ kind))
+    go true at = absurd (not_both (is_advice_group (group x.kind)) g (ap (λ z. is_advice_group (group (Fields.kind z))) (sym same) ∙ kind))
       where
         kind : is_advice_group (group (dated (date_of t past) (remove_element m 33)).kind) ≡ false
         kind = rw at (request_no_advice m.kind at)
     go false at =
         let plain : remove_element m 33 ≡ x = sym (not_dated (date_of t past)) ∙ same in
-        let r : is_04xx x.kind ≡ true = ap (λ z. is_04xx (Message.kind z)) (sym plain) ∙ entered_04xx m.kind (enters t n past m ok) (ap (λ z. is_advice_group (group (Message.kind z))) plain ∙ g) in
+        let r : is_04xx x.kind ≡ true = ap (λ z. is_04xx (Fields.kind z)) (sym plain) ∙ entered_04xx m.kind (enters t n past m ok) (ap (λ z. is_advice_group (group (Fields.kind z))) plain ∙ g) in
         record {
-          maker = ap (λ z. padded_or_zeros (find_element 33 (Message.elements z))) (sym plain) ∙ ap padded_or_zeros (find_gone 33 m.elements);
+          forwarder = ap (λ z. padded_or_zeros (get z 33)) (sym plain) ∙ ap padded_or_zeros (get_remove_same m 33);
           gate = entered_reversal t n past m x src ok e r;
         }
       where
         not_dated : (date : Bytes) → dated date (remove_element m 33) ≡ remove_element m 33
         not_dated date = rw at refl
 
-kept_entered : (t : Network) (n : ℕ) (m : Message) → Entered t n m → Entered t n (as_kept m)
+kept_entered : (t : Network) (n : ℕ) (m : Fields) → Entered t n m → Entered t n (as_kept m)
 unfolding identity_of
-kept_entered t n m e = record { maker = ap Identity.maker (kept_alike m).id ∙ e.maker; gate = ap (λ z. is_attached t n (Key.acquirer (Identity.key z))) (kept_alike m).id ∙ e.gate }
+kept_entered t n m e = record { forwarder = ap AdviceId.forwarder (kept_alike m).id ∙ e.forwarder; gate = ap (λ z. is_attached t n (Key.acquirer (AdviceId.key z))) (kept_alike m).id ∙ e.gate }
 
-accepted_from : (t : Network) (n : ℕ) (past : History) (i : Input) (h : History) (m : Message) (src : Source) → refusal t n past i ≡ None → handled_as t past i m src → is_advice_group (group m.kind) ≡ true → Has (In i) h → From t n h (as_kept m)
+accepted_from : (t : Network) (n : ℕ) (past : History) (i : Input) (h : History) (m : Fields) (src : Source) → refusal t n past i ≡ None → handled_as t past i m src → is_advice_group (group m.kind) ≡ true → Has (In i) h → From t n h (as_kept m)
 unfolding handled
 accepted_from t n past (Enter x) h m src ok e g has = inr (inr (kept_entered t n m (entered_source t n past x m src ok e g)))
 accepted_from t n past (Take l s x) h m src ok e g has =
@@ -257,28 +261,28 @@ pub record Origins (t : Network) (n : ℕ) (h : History) : Type 0 where
   pub issued : (a : Advice) → IsIn a (advices t n h) → is_04xx a.message.kind ≡ false → Issued t a.message
 
 -- an acknowledgement on a link
-pub record AckSent (t : Network) (n : ℕ) (h : History) (l : ℕ) (x : Message) : Type 0 where
+pub record AckSent (t : Network) (n : ℕ) (h : History) (l : ℕ) (x : Fields) : Type 0 where
   pub serial : ℕ
-  pub message : Message
+  pub message : Fields
   pub has : Has (In (Take l serial message)) h
   pub kind : is_advice_group (group message.kind) ≡ true
   pub same : identity_of message ≡ identity_of x
   pub known_now : list_any (has_identity (identity_of x)) (advices t n h) ≡ true
 
 abbrev pub AcksKnown : Network → ℕ → History → Type 0
-AcksKnown t n h = (i : Input) (l s : ℕ) (x : Message) → Has (Out i (Put l s x)) h → is_ack (group x.kind) ≡ true → bytes_eq (code_of x) code_00 ≡ true → AckSent t n h l x
+AcksKnown t n h = (i : Input) (l s : ℕ) (x : Fields) → Has (Out i (Put l s x)) h → is_ack (group x.kind) ≡ true → bytes_eq (code_of x) code_00 ≡ true → AckSent t n h l x
 
 -- the way of a stand-in advice
-pub record StandSent (t : Network) (n l : ℕ) (x : Message) : Type 0 where
+pub record StandSent (t : Network) (n l : ℕ) (x : Fields) : Type 0 where
   pub s : Issuer
   pub issued : issuer t (card_of x) ≡ Some s
   pub away : is_home s n ≡ false
   pub on_route : IsIn l (route_links t n (card_of x))
 
 abbrev pub StandsKnown : Network → ℕ → History → Type 0
-StandsKnown t n h = (i : Input) (l s : ℕ) (x : Message) → Has (Out i (Put l s x)) h → is_advice_group (group x.kind) ≡ true → is_04xx x.kind ≡ false → StandSent t n l x
+StandsKnown t n h = (i : Input) (l s : ℕ) (x : Fields) → Has (Out i (Put l s x)) h → is_advice_group (group x.kind) ≡ true → is_04xx x.kind ≡ false → StandSent t n l x
 
-pub known_more : (t : Network) (n : ℕ) (e : Event) (h : History) (id : Identity) → list_any (has_identity id) (advices t n h) ≡ true → list_any (has_identity id) (advices t n (e ∷ h)) ≡ true
+pub known_more : (t : Network) (n : ℕ) (e : Event) (h : History) (id : AdviceId) → list_any (has_identity id) (advices t n h) ≡ true → list_any (has_identity id) (advices t n (e ∷ h)) ≡ true
 unfolding advices
 known_more t n (In i) h id r = add_made_keeps (has_identity id) (λ m. made_reversal m (node_id t n)) (count_of h) (option_and_then (opening t h) (late_key h (advices t n h) i)) (map (acked_by i) (advices t n h)) (identity_acked id i (advices t n h) ∙ r)
 known_more t n (Out i o) h id r =
@@ -290,7 +294,7 @@ pub added_known : (a : Advice) (as' : List Advice) → list_any (has_identity (i
 added_known a as' = cond_both (list_any (has_identity (identity_of a.message)) as') as' (a ∷ as') (λ z. list_any (has_identity (identity_of a.message)) z ≡ true) (λ e. e) (λ _. rw (identity_eq_refl (identity_of a.message)) refl)
 
 -- an acknowledged message is known then
-ack_known : (t : Network) (n : ℕ) (i : Input) (o : Output) (h : History) (m : Message) (src : Source) → handled t h i ≡ Some (record { message = m; source = src }) → is_advice_group (group m.kind) ≡ true → is_ok_ack (sent o) ≡ true → list_any (has_identity (identity_of (as_kept m))) (advices t n (Out i o ∷ h)) ≡ true
+ack_known : (t : Network) (n : ℕ) (i : Input) (o : Output) (h : History) (m : Fields) (src : Source) → handled t h i ≡ Some (record { message = m; source = src }) → is_advice_group (group m.kind) ≡ true → is_ok_ack (sent o) ≡ true → list_any (has_identity (identity_of (as_kept m))) (advices t n (Out i o ∷ h)) ≡ true
 unfolding advices
 ack_known t n i o h m src e g ack = go (is_ok_ack (sent o)) (handled t h i) (add_made (λ m. made_stand_in m (node_id t n)) (count_of h) (option_and_then (opening t h) (own_approval h i o)) (add_made (λ m. made_reversal m (node_id t n)) (count_of h) (option_and_then (opening t h) (failed_key t h i (sent o))) (advices t n h))) ack e
   where
@@ -301,34 +305,34 @@ ack_known t n i o h m src e g ack = go (is_ok_ack (sent o)) (handled t h i) (add
 acking_case : (t : Network) (n : ℕ) (past : History) (i : Input) (h : History) (o : Output) → EntryFacts t n past i h → Allowed t n past i h o → is_ok_ack (sent o) ≡ true → Acking t n past i h o
 acking_case t n past i h o facts allowed e = go allowed
   where
-    y : (y : Message) × (sent o ≡ Some y) × (is_ack_kind (group y.kind) ≡ true) × (bytes_eq (code_of y) code_00 ≡ true)
+    y : (y : Fields) × (sent o ≡ Some y) × (is_ack_kind (group y.kind) ≡ true) × (bytes_eq (code_of y) code_00 ≡ true)
     y = ok_ack_parts (sent o) e
 
     ends : {A : Type 0} → is_ack_kind (group y.0.kind) ≡ false → A
     ends f = absurd (not_both (is_ack_kind (group y.0.kind)) y.2 f)
 
-    of_request : {A : Type 0} (m : Message) (c : Bytes) → response m c ≡ y.0 → is_request m.kind ≡ true → A
-    of_request m c same r = ends (ap (λ z. is_ack_kind (group (Message.kind z))) (sym same) ∙ (ap (λ z. is_ack_kind (group z)) (response_is_of_kind m c) ∙ request_no_ack m.kind r))
+    of_request : {A : Type 0} (m : Fields) (c : Bytes) → response m c ≡ y.0 → is_request m.kind ≡ true → A
+    of_request m c same r = ends (ap (λ z. is_ack_kind (group (Fields.kind z))) (sym same) ∙ (ap (λ z. is_ack_kind (group z)) (response_is_of_kind m c) ∙ request_no_ack m.kind r))
 
     go : Allowed t n past i h o → Acking t n past i h o
-    go (forwarding f) = ends (ap (λ z. is_ack_kind (group (Message.kind z))) (sym (same_Some (as_kind K0100 f.message) y.0 (ap sent (sym f.is) ∙ y.1))))
+    go (forwarding f) = ends (ap (λ z. is_ack_kind (group (Fields.kind z))) (sym (same_Some (as_kind K0100 f.message) y.0 (ap sent (sym f.is) ∙ y.1))))
     go (asking f) = absurd (none_some y.0 (ap sent (sym f.is) ∙ y.1))
     go (standing_in f) = of_request f.op.message _ (reply_message f.op.source _ h o y.0 f.is y.1) (facts.node.opens f.opens.key f.op (facts.opening_is f.opens.key ∙ f.opens.is)).request
     go (passing f) = of_request f.op.message f.code (reply_message f.op.source _ h o y.0 f.is y.1) (facts.node.opens f.key f.op (facts.opening_is f.key ∙ stays_open t past i f.key f.op f.opens)).request
     go (declining f) = of_request f.op.message f.code (reply_message f.op.source _ h o y.0 f.is y.1) (facts.node.opens f.opens.key f.op (facts.opening_is f.opens.key ∙ f.opens.is)).request
-    go (repeating f) = ends (ap (λ z. is_ack_kind (group (Message.kind z))) (sym (reply_message f.source f.before h o y.0 f.is y.1)) ∙ answer_no_ack f.before.kind ((Rattle.network_law.proofs.Node.answer_is past f.key f.before f.answered).0))
+    go (repeating f) = ends (ap (λ z. is_ack_kind (group (Fields.kind z))) (sym (reply_message f.source f.before h o y.0 f.is y.1)) ∙ answer_no_ack f.before.kind ((Rattle.network_law.proofs.Node.answer_is past f.key f.before f.answered).0))
     go (refusing f) = absurd (not_both (bytes_eq code_94 code_00) (ap (λ c. bytes_eq c code_00) (sym (response_code f.message code_94 y.0 (reply_message f.source _ h o y.0 f.is y.1))) ∙ y.3) refl)
     go (acking f) = f
-    go (sending f) = ends (ap (λ z. is_ack_kind (group (Message.kind z))) (sym (same_Some (as_kind (advice_kind (is_04xx f.message.kind) f.again) f.message) y.0 (ap sent (sym f.is) ∙ y.1))) ∙ advice_no_ack (is_04xx f.message.kind) f.again)
+    go (sending f) = ends (ap (λ z. is_ack_kind (group (Fields.kind z))) (sym (same_Some (as_kind (sent_kind (is_04xx f.message.kind) f.again) f.message) y.0 (ap sent (sym f.is) ∙ y.1))) ∙ advice_no_ack (is_04xx f.message.kind) f.again)
     go (posting f) = absurd (none_some y.0 (ap sent (sym f.is) ∙ y.1))
 
 ack_is_kind : (g : Group) → is_ack g ≡ true → is_ack_kind g ≡ true
-ack_is_kind IsRequest e = cc
-ack_is_kind IsAnswer e = cc
-ack_is_kind IsAdvice e = cc
-ack_is_kind IsReversal e = cc
-ack_is_kind IsAck e = refl
-ack_is_kind IsReply e = cc
+ack_is_kind groups.Request e = cc
+ack_is_kind groups.Answer e = cc
+ack_is_kind groups.StandInAdvice e = cc
+ack_is_kind groups.Reversal e = cc
+ack_is_kind groups.Acknowledgement e = refl
+ack_is_kind groups.Reply e = cc
 
 -- only advices are put as advices
 response_no_advice : (k : Kind) → is_advice_group (group (response_kind k)) ≡ false
@@ -359,7 +363,7 @@ answer_no_advice K0420 e = cc
 answer_no_advice K0421 e = cc
 answer_no_advice K0430 e = refl
 
-sending_case : (t : Network) (n : ℕ) (past : History) (i : Input) (h : History) (o : Output) (l s : ℕ) (x : Message) → Allowed t n past i h o → o ≡ Put l s x → is_advice_group (group x.kind) ≡ true → Sending t n past i h o
+sending_case : (t : Network) (n : ℕ) (past : History) (i : Input) (h : History) (o : Output) (l s : ℕ) (x : Fields) → Allowed t n past i h o → o ≡ Put l s x → is_advice_group (group x.kind) ≡ true → Sending t n past i h o
 sending_case t n past i h o l s x allowed e g = go allowed
   where
     is_sent : sent o ≡ Some x
@@ -368,16 +372,16 @@ sending_case t n past i h o l s x allowed e g = go allowed
     ends : {A : Type 0} → is_advice_group (group x.kind) ≡ false → A
     ends f = absurd (not_both (is_advice_group (group x.kind)) g f)
 
-    of_response : {A : Type 0} (src : Source) (m : Message) (c : Bytes) → o ≡ reply_output src (response m c) h → A
-    of_response src m c is = ends (ap (λ z. is_advice_group (group (Message.kind z))) (sym (reply_message src (response m c) h o x is is_sent)) ∙ (ap (λ z. is_advice_group (group z)) (response_is_of_kind m c) ∙ response_no_advice m.kind))
+    of_response : {A : Type 0} (src : Source) (m : Fields) (c : Bytes) → o ≡ reply_output src (response m c) h → A
+    of_response src m c is = ends (ap (λ z. is_advice_group (group (Fields.kind z))) (sym (reply_message src (response m c) h o x is is_sent)) ∙ (ap (λ z. is_advice_group (group z)) (response_is_of_kind m c) ∙ response_no_advice m.kind))
 
     go : Allowed t n past i h o → Sending t n past i h o
-    go (forwarding f) = ends (ap (λ z. is_advice_group (group (Message.kind z))) (sym (same_Some (as_kind K0100 f.message) x (ap sent (sym f.is) ∙ is_sent))))
+    go (forwarding f) = ends (ap (λ z. is_advice_group (group (Fields.kind z))) (sym (same_Some (as_kind K0100 f.message) x (ap sent (sym f.is) ∙ is_sent))))
     go (asking f) = absurd (none_some x (ap sent (sym f.is) ∙ is_sent))
     go (standing_in f) = of_response f.op.source f.op.message (standin_code t n h f.op.message) f.is
     go (passing f) = of_response f.op.source f.op.message f.code f.is
     go (declining f) = of_response f.op.source f.op.message f.code f.is
-    go (repeating f) = ends (ap (λ z. is_advice_group (group (Message.kind z))) (sym (reply_message f.source f.before h o x f.is is_sent)) ∙ answer_no_advice f.before.kind ((Rattle.network_law.proofs.Node.answer_is past f.key f.before f.answered).0))
+    go (repeating f) = ends (ap (λ z. is_advice_group (group (Fields.kind z))) (sym (reply_message f.source f.before h o x f.is is_sent)) ∙ answer_no_advice f.before.kind ((Rattle.network_law.proofs.Node.answer_is past f.key f.before f.answered).0))
     go (refusing f) = of_response f.source f.message code_94 f.is
     go (acking f) = of_response f.source f.message f.code f.is
     go (sending f) = f
@@ -399,8 +403,8 @@ issued_of t c e = go (issuer t c) refl
     go None at = absurd (not_both true refl (rw at at e))
     go (Some s) at = (s, at)
 
-not_04xx : {A : Type 0} (m : Message) (id : Bytes) (x : Message) → x ≡ made_reversal m id → is_04xx x.kind ≡ false → A
-not_04xx m id x e f = absurd (not_both (is_04xx x.kind) (ap (λ z. is_04xx (Message.kind z)) e ∙ ap is_04xx (Rattle.network_law.proofs.Elements.reversal_kind m id)) f)
+not_04xx : {A : Type 0} (m : Fields) (id : Bytes) (x : Fields) → x ≡ made_reversal m id → is_04xx x.kind ≡ false → A
+not_04xx m id x e f = absurd (not_both (is_04xx x.kind) (ap (λ z. is_04xx (Fields.kind z)) e ∙ ap is_04xx (Rattle.network_law.proofs.Elements.reversal_kind m id)) f)
 
 origins_in : (t : Network) (n : ℕ) (h : History) (i : Input) → Origins t n h → Origins t n (In i ∷ h)
 unfolding advices
@@ -414,7 +418,7 @@ origins_in t n h i q = record { from = from'; acked = acked'; issued = issued' }
 
     from' : (a : Advice) → IsIn a (advices t n (In i ∷ h)) → From t n (In i ∷ h) a.message
     from' a m = ⊎_elim
-        (λ p. (let k = opened_of_key (opening t h) (late_key h (advices t n h) i) p.0 p.1 in inl (record { key = k.0; op = p.0; opens = stays_open t h i k.0 p.0 k.2; maker = ap (λ z. (identity_of z).maker) p.2 ∙ reversal_maker p.0.message (node_id t n) })))
+        (λ p. (let k = opened_of_key (opening t h) (late_key h (advices t n h) i) p.0 p.1 in inl (record { key = k.0; op = p.0; opens = stays_open t h i k.0 p.0 k.2; forwarder = ap (λ z. (identity_of z).forwarder) p.2 ∙ reversal_maker p.0.message (node_id t n) })))
         (λ p. subst (From t n (In i ∷ h)) (message_of a p.0 p.2) (more_from t n (In i) h p.0.message (q.from p.0 p.1)))
         (parts a m)
 
@@ -427,7 +431,7 @@ origins_in t n h i q = record { from = from'; acked = acked'; issued = issued' }
     issued' : (a : Advice) → IsIn a (advices t n (In i ∷ h)) → is_04xx a.message.kind ≡ false → Issued t a.message
     issued' a m e = ⊎_elim
         (λ p. not_04xx p.0.message (node_id t n) a.message p.2 e)
-        (λ p. subst (Issued t) (message_of a p.0 p.2) (q.issued p.0 p.1 (ap (λ z. is_04xx (Message.kind z)) (message_of a p.0 p.2) ∙ e)))
+        (λ p. subst (Issued t) (message_of a p.0 p.2) (q.issued p.0 p.1 (ap (λ z. is_04xx (Fields.kind z)) (message_of a p.0 p.2) ∙ e)))
         (parts a m)
 
 module _ (t : Network) (n : ℕ) (past : History) (i : Input) (ok : refusal t n past i ≡ None) (facts : NodeFacts t n past) (before : Origins t n past) (h : History) (o : Output) (q : Through t n past i h) (allowed : Allowed t n past i h o) where
@@ -445,8 +449,8 @@ module _ (t : Network) (n : ℕ) (past : History) (i : Input) (ok : refusal t n 
   from_out : (a : Advice) → PartOf a → From t n (Out i o ∷ h) a.message
   unfolding PartOf opening
   from_out a (inl p) = subst (From t n (Out i o ∷ h)) (sym p.4) (accepted_from t n past i (Out i o ∷ h) p.0.message p.0.source ok (sym (Through.handled_same q) ∙ p.2) p.3 (inr (Through.input q)))
-  from_out a (inr (inl p)) = let k = opened_of_key (opening t h) (own_approval h i o) p.0 p.1 in inl (record { key = k.0; op = p.0; opens = k.2; maker = ap (λ z. (identity_of z).maker) p.2 ∙ stand_in_maker p.0.message (node_id t n) })
-  from_out a (inr (inr (inl p))) = let k = opened_of_key (opening t h) (failed_key t h i (sent o)) p.0 p.1 in inl (record { key = k.0; op = p.0; opens = k.2; maker = ap (λ z. (identity_of z).maker) p.2 ∙ reversal_maker p.0.message (node_id t n) })
+  from_out a (inr (inl p)) = let k = opened_of_key (opening t h) (own_approval h i o) p.0 p.1 in inl (record { key = k.0; op = p.0; opens = k.2; forwarder = ap (λ z. (identity_of z).forwarder) p.2 ∙ stand_in_maker p.0.message (node_id t n) })
+  from_out a (inr (inr (inl p))) = let k = opened_of_key (opening t h) (failed_key t h i (sent o)) p.0 p.1 in inl (record { key = k.0; op = p.0; opens = k.2; forwarder = ap (λ z. (identity_of z).forwarder) p.2 ∙ reversal_maker p.0.message (node_id t n) })
   from_out a (inr (inr (inr m))) = more_from t n (Out i o) h a.message (Origins.from (Through.origins q) a m)
 
   acked_out : (a : Advice) → PartOf a → a.acked ≡ true → AckTaken (Out i o ∷ h) (identity_of a.message)
@@ -501,8 +505,8 @@ module _ (t : Network) (n : ℕ) (past : History) (i : Input) (ok : refusal t n 
           }
 
   -- the issuer of a stand-in advice that is sent
-  kept_issued : (x : Message) → Kept t n past i h x → is_04xx x.kind ≡ false → Issued t x
-  kept_issued x (due a m e) r = subst (Issued t) (sym e) (before.issued a m (ap (λ z. is_04xx (Message.kind z)) (sym e) ∙ r))
+  kept_issued : (x : Fields) → Kept t n past i h x → is_04xx x.kind ≡ false → Issued t x
+  kept_issued x (due a m e) r = subst (Issued t) (sym e) (before.issued a m (ap (λ z. is_04xx (Fields.kind z)) (sym e) ∙ r))
   kept_issued x (reversing key op o1 ticks e) r = not_04xx op.message (node_id t n) x e r
   kept_issued x (standing key op o1 s si e) r = (s, ap (λ z. issuer t (card_of z)) e ∙ (ap (issuer t) (same_card (made_stand_in op.message (node_id t n)) op.message (content_made_stand_in op.message (node_id t n))) ∙ si))
   kept_issued x (accepting a) r = let s = issued_of t (card_of a.message) a.issued in (s.0, ap (λ z. issuer t (card_of z)) a.is ∙ (ap (issuer t) (alike_card (as_kept a.message) a.message (kept_alike a.message)) ∙ s.1))
@@ -524,7 +528,7 @@ module _ (t : Network) (n : ℕ) (past : History) (i : Input) (ok : refusal t n 
       no_reversal K0421 e = cc
       no_reversal K0430 e = refl
 
-      way : (y : Message) (w : Option ℕ) (k : ℕ) → is_reversal y.kind ≡ false → own_way t n h y w ≡ Some k → IsIn k (route_links t n (card_of y))
+      way : (y : Fields) (w : Option ℕ) (k : ℕ) → is_reversal y.kind ≡ false → own_way t n h y w ≡ Some k → IsIn k (route_links t n (card_of y))
       way y None k e f = found_is_in (is_up h) (route_links t n (card_of y)) k f
       way y (Some b) k e f = found_is_in (is_up h) (route_links t n (card_of y)) k (rw e at f)
 
@@ -533,8 +537,8 @@ module _ (t : Network) (n : ℕ) (past : History) (i : Input) (ok : refusal t n 
           let is : o ≡ Put l s x = same_out i j o (Put l s x) e in
           let f = sending_case t n past i h o l s x allowed is g in
           let p = put_parts (sym f.is ∙ is) in
-          let kind : is_04xx f.message.kind ≡ false = sym (advice_kind_04xx (is_04xx f.message.kind) f.again) ∙ (ap (λ z. is_04xx (Message.kind z)) p.2 ∙ r) in
-          let card : card_of f.message ≡ card_of x = alike_card f.message (as_kind (advice_kind (is_04xx f.message.kind) f.again) f.message) (sent_alike f.message f.again) ∙ ap (λ z. card_of z) p.2 in
+          let kind : is_04xx f.message.kind ≡ false = sym (advice_kind_04xx (is_04xx f.message.kind) f.again) ∙ (ap (λ z. is_04xx (Fields.kind z)) p.2 ∙ r) in
+          let card : card_of f.message ≡ card_of x = alike_card f.message (as_kind (sent_kind (is_04xx f.message.kind) f.again) f.message) (sent_alike f.message f.again) ∙ ap (λ z. card_of z) p.2 in
           let si = kept_issued f.message f.kept kind in
           record {
             s = si.0;

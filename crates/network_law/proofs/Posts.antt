@@ -5,13 +5,11 @@ use Rattle.std.proofs.lemmas.Option.{same_Some}
 use Rattle.std.specs.Option.{option_or, option_and_then}
 use Rattle.std.specs.List.{list_any}
 use mathlib.Core.List.{reverse-cons}
-use Rattle.network_law.specs.Digits.{Bytes, is_good_card}
-use Rattle.network_law.specs.Messages.{Message, Kind, Group, IsRequest, IsAnswer, IsAdvice, IsReversal, IsAck, IsReply, group, K0100, K0101, K0110, K0120, K0121, K0130, K0400, K0401, K0410, K0420, K0421, K0430, is_request, is_answer, is_reversal, is_04xx, Key, key_of, key_eq, own_key, Identity, identity_of, identity_eq, padded_or_zeros, get, el, as_kind, code_of, code_94, code_96, code_92, code_68, code_14, code_05, code_00, content, content_eq, response, response_kind, made_reversal, made_stand_in, card_of}
 use Rattle.net_rows.specs.Network.{Network, issuer}
 use Rattle.net_rows.specs.declared.row.Issuer.{Issuer}
 use Rattle.network_law.specs.Tables.{is_home, node_id, route_links, single}
 use Rattle.network_law.specs.Traces.{Source, Gate, ByLink, Input, Enter, Take, LinkUp, LinkDown, Tick, HostAnswer, NewDate, Output, Put, Answer, Ask, Post, In, Out, History, Handled, handled, Opening, opening, opened, with_new, key_handled, answer, answers, sent, has_00, is_00_of, brings_00, own_approval, Advice, advices, add_advice, add_made, add_accepted, acked_by, has_identity, late_key, comes_late, code_is_not_00, failed_key, is_ok_ack, is_advice_group, is_ack_kind, as_kept, is_timer, is_link, forwarded, forwards, pending, fails, count_of, known, reversed, is_at_home, ask_key, ask_count, load, was_put, is_up}
-use Rattle.network_law.specs.Decision.{decide, reply, reply_output, next_put, emit, advice_kind, keep, send, send_by, own_way, standin, standin_code, fail, fail_all, failing, send_all, due_advices, on_request, on_issuer, on_forward, on_repeat, on_reversal, on_advice, on_answer, on_host, on_code, as_code, on_group, answer_pending, other_content, first_up, same_source}
+use Rattle.network_law.specs.Decision.{decide, reply, reply_output, next_put, emit, sent_kind, keep, send, send_by, own_way, standin, standin_code, fail, fail_all, failing, send_all, due_advices, on_request, on_issuer, on_forward, on_repeat, on_reversal, on_advice, on_answer, on_host, on_code, as_code, on_group, answer_pending, other_content, first_up, same_source}
 use Rattle.network_law.specs.Runs.{IsFormed, IsIn, Has, HasLengths, Entry, history, Legal}
 use Rattle.network_law.proofs.Emits.{handled_as, is_kept_group, key_eq_refl, key_eq_is, bytes_eq_is, stays_open, opening_now, opens_now, handled_no_timer, in_filter, filtered_in, in_append, in_reverse, due_from, from_link, request_from_group, answer_from_group}
 use Rattle.network_law.proofs.Node.{NodeFacts, answer_is, answers_is, response_is_of_kind, answer_no_request, OpensNow, opening_in_cases}
@@ -19,8 +17,22 @@ use Rattle.network_law.proofs.Elements.{code_response, response_key, made_revers
 use Rattle.network_law.proofs.Used.{sent_reply, answer_has_00, acked_kind, advice_no_answer}
 use Rattle.network_law.proofs.Late.{LateFacts, answer_when, when_answer, response_answers, handled_in, handled_out}
 use Rattle.network_law.proofs.Reversals.{as_kept_04xx, as_kept_content, as_kind_content, as_kind_key, late_none, no_own, no_failed, quiet_out, identity_acked, advices_in, advice_no_ack, answer_no_ack, request_no_ack, kept_no_answer, made_stand_in_kind}
-use Rattle.network_law.proofs.Accounts.{identity_eq_is, Alike, alike_more, alike_is, Accounts, accounts_acked, accounts_sent, accounts_kept, kept_posts, KeptSends, in_acked_back, in_add_known, posted_of}
+use Rattle.network_law.proofs.Accounts.{Alike, alike_more, alike_is, Accounts, accounts_acked, accounts_sent, accounts_kept, kept_posts, KeptSends, in_acked_back, in_add_known, posted_of}
+use Rattle.iso_message.proofs.Equality.{identity_eq_is}
 use Rattle.card_digits.specs.Numbers.{pad11}
+use Rattle.network_law.specs.Cards.{Bytes, is_good_card, card_of}
+use Rattle.iso_message.specs.declared.keys.AdviceKind.TheVariants.{StandIn, Reversal}
+use Rattle.iso_message.specs.Fields.{Fields, get, el, as_kind, set_element, remove_element}
+use Rattle.iso_message.specs.declared.kind.Kind.{Kind}
+use Rattle.iso_message.specs.declared.kind.Group.{Group}
+use Rattle.iso_message.specs.Groups.{group, is_request, is_answer, is_04xx, response_kind}
+use Rattle.iso_message.specs.declared.kind.Kind.TheVariants.{K0100, K0101, K0110, K0120, K0121, K0130, K0400, K0401, K0410, K0420, K0421, K0430}
+use Rattle.card_digits.specs.declared.key.Key.{Key}
+use Rattle.iso_message.specs.Keys.{advice_kind, key_of, key_eq, own_key, identity_of, identity_eq, padded_or_zeros, content, content_eq}
+use Rattle.iso_message.specs.declared.keys.AdviceId.{AdviceId}
+use Rattle.iso_message.specs.Codes.{code_of, code_94, code_96, code_92, code_68, code_14, code_05, code_00}
+use Rattle.iso_message.specs.Made.{response, made_reversal, made_stand_in, made_from}
+use Rattle.iso_message.specs.declared.kind.Group.TheVariants as groups
 
 not_both : (b : Bool) → b ≡ true → b ≡ false → ⊥
 not_both b p q = cc
@@ -30,20 +42,20 @@ none_some x p = cc
 
 -- posts and puts of advices
 
-abbrev pub post_in : Output → List Message
+abbrev pub post_in : Output → List Fields
 post_in (Post x) = x ∷ []
 post_in _ = []
 
-abbrev pub sends_in : Output → List (ℕ × Message)
+abbrev pub sends_in : Output → List (ℕ × Fields)
 sends_in (Put l s x) = if is_advice_group (group x.kind) then (l, x) ∷ [] else []
 sends_in _ = []
 
-unfoldable pub posts : History → List Message
+unfoldable pub posts : History → List Fields
 posts [] = []
 posts (In i ∷ h) = posts h
 posts (Out i o ∷ h) = post_in o ++ posts h
 
-unfoldable pub sends : History → List (ℕ × Message)
+unfoldable pub sends : History → List (ℕ × Fields)
 sends [] = []
 sends (In i ∷ h) = sends h
 sends (Out i o ∷ h) = sends_in o ++ sends h
@@ -96,55 +108,55 @@ ack_of_kept K0421 e = refl
 ack_of_kept K0430 e = cc
 
 pub kept_is_advice : (g : Group) → is_kept_group g ≡ true → is_advice_group g ≡ true
-kept_is_advice IsRequest e = cc
-kept_is_advice IsAnswer e = cc
-kept_is_advice IsAdvice e = refl
-kept_is_advice IsReversal e = refl
-kept_is_advice IsAck e = cc
-kept_is_advice IsReply e = cc
+kept_is_advice groups.Request e = cc
+kept_is_advice groups.Answer e = cc
+kept_is_advice groups.StandInAdvice e = refl
+kept_is_advice groups.Reversal e = refl
+kept_is_advice groups.Acknowledgement e = cc
+kept_is_advice groups.Reply e = cc
 
 pub advice_is_kept : (g : Group) → is_advice_group g ≡ true → is_kept_group g ≡ true
-advice_is_kept IsRequest e = cc
-advice_is_kept IsAnswer e = cc
-advice_is_kept IsAdvice e = refl
-advice_is_kept IsReversal e = refl
-advice_is_kept IsAck e = cc
-advice_is_kept IsReply e = cc
+advice_is_kept groups.Request e = cc
+advice_is_kept groups.Answer e = cc
+advice_is_kept groups.StandInAdvice e = refl
+advice_is_kept groups.Reversal e = refl
+advice_is_kept groups.Acknowledgement e = cc
+advice_is_kept groups.Reply e = cc
 
-advice_kind_group : (a b : Bool) → is_advice_group (group (advice_kind a b)) ≡ true
+advice_kind_group : (a b : Bool) → is_advice_group (group (sent_kind a b)) ≡ true
 advice_kind_group true true = refl
 advice_kind_group true false = refl
 advice_kind_group false true = refl
 advice_kind_group false false = refl
 
-pub advice_kind_04xx : (a b : Bool) → is_04xx (advice_kind a b) ≡ a
+pub advice_kind_04xx : (a b : Bool) → is_04xx (sent_kind a b) ≡ a
 advice_kind_04xx true true = refl
 advice_kind_04xx true false = refl
 advice_kind_04xx false true = refl
 advice_kind_04xx false false = refl
 
-pub as_kind_identity : (k : Kind) (m : Message) → is_04xx k ≡ is_04xx m.kind → identity_of (as_kind k m) ≡ identity_of m
+pub as_kind_identity : (k : Kind) (m : Fields) → is_04xx k ≡ is_04xx m.kind → identity_of (as_kind k m) ≡ identity_of m
 unfolding identity_of get
 as_kind_identity k m e =
     let b = as_kind_key k m e in
-    λ j. record { reverses = e j; key = b j; maker = padded_or_zeros (get m 33) }
+    λ j. record { kind = advice_kind (e j); key = b j; forwarder = padded_or_zeros (get m 33) }
 
-pub kept_alike : (m : Message) → Alike (as_kept m) m
+pub kept_alike : (m : Fields) → Alike (as_kept m) m
 kept_alike m = record { id = as_kind_identity (if is_04xx m.kind then K0420 else K0120) m (as_kept_04xx m); content_is = as_kept_content m }
 
-pub sent_alike : (x : Message) (again : Bool) → Alike x (as_kind (advice_kind (is_04xx x.kind) again) x)
-sent_alike x again = record { id = sym (as_kind_identity (advice_kind (is_04xx x.kind) again) x (advice_kind_04xx (is_04xx x.kind) again)); content_is = sym (as_kind_content (advice_kind (is_04xx x.kind) again) x) }
+pub sent_alike : (x : Fields) (again : Bool) → Alike x (as_kind (sent_kind (is_04xx x.kind) again) x)
+sent_alike x again = record { id = sym (as_kind_identity (sent_kind (is_04xx x.kind) again) x (advice_kind_04xx (is_04xx x.kind) again)); content_is = sym (as_kind_content (sent_kind (is_04xx x.kind) again) x) }
 
 -- the key of a made stand-in
-pub made_stand_in_key : (m : Message) (id : Bytes) → is_request m.kind ≡ true → key_of (made_stand_in m id) ≡ key_of m
-unfolding key_of own_key made_stand_in Rattle.network_law.specs.Messages.made_from Rattle.network_law.specs.Messages.set_element
+pub made_stand_in_key : (m : Fields) (id : Bytes) → is_request m.kind ≡ true → key_of (made_stand_in m id) ≡ key_of m
+unfolding key_of own_key made_stand_in Rattle.iso_message.specs.Made.made_from Rattle.iso_message.specs.Fields.set_element
 made_stand_in_key m id r =
     let a = el_made K0120 m id code_00 32 refl refl refl in
     let b = el_made K0120 m id code_00 11 refl refl refl in
     let c = el_made K0120 m id code_00 7 refl refl refl in
     rw (Rattle.network_law.proofs.Node.request_no_04xx m.kind r) (λ j. record { acquirer = Rattle.card_digits.specs.Numbers.pad11 (a j); trace = b j; time = c j })
 
-pub content_made_stand_in : (m : Message) (id : Bytes) → content (made_stand_in m id) ≡ content m
+pub content_made_stand_in : (m : Fields) (id : Bytes) → content (made_stand_in m id) ≡ content m
 unfolding content made_stand_in
 content_made_stand_in m id =
     let a = el_made K0120 m id code_00 2 refl refl refl in
@@ -160,7 +172,7 @@ answered_00 [] k e = refl
 answered_00 (In i ∷ h) k e = answered_00 h k e
 answered_00 (Out i o ∷ h) k e = go (answer h k) refl e (answered_00 h k)
   where
-    none_of : (w : Option Message) → answers k w ≡ None → is_00_of k w ≡ false
+    none_of : (w : Option Fields) → answers k w ≡ None → is_00_of k w ≡ false
     none_of None e = refl
     none_of (Some m) e = test (is_answer m.kind && key_eq (key_of m) k) refl (bytes_eq (code_of m) code_00) refl
       where
@@ -172,31 +184,31 @@ answered_00 (Out i o ∷ h) k e = go (answer h k) refl e (answered_00 h k)
             let n94 : bytes_eq (code_of m) code_94 ≡ false = ap (λ z. bytes_eq z code_94) same in
             absurd (none_some m (sym (rw (at, n94) at e)))
 
-    go : (w : Option Message) → answer h k ≡ w → option_or (answer h k) (answers k (sent o)) ≡ None → (answer h k ≡ None → has_00 h k ≡ false) → (has_00 h k || is_00_of k (sent o)) ≡ false
+    go : (w : Option Fields) → answer h k ≡ w → option_or (answer h k) (answers k (sent o)) ≡ None → (answer h k ≡ None → has_00 h k ≡ false) → (has_00 h k || is_00_of k (sent o)) ≡ false
     go (Some a) at e rest = absurd (none_some a (sym (rw at at e)))
     go None at e rest = let x = none_of (sent o) (rw at at e) in rw (rest at, x) refl
 
 -- identities of others
-pub no_identity : (id : Identity) (a : Advice) → (identity_of a.message ≡ id → ⊥) → has_identity id a ≡ false
+pub no_identity : (id : AdviceId) (a : Advice) → (identity_of a.message ≡ id → ⊥) → has_identity id a ≡ false
 no_identity id a other = go (has_identity id a) refl
   where
     go : (b : Bool) → has_identity id a ≡ b → has_identity id a ≡ false
     go true at = absurd (other (identity_eq_is (identity_of a.message) id at))
     go false at = at
 
-add_other : (id : Identity) (a : Advice) (as' : List Advice) → (identity_of a.message ≡ id → ⊥) → list_any (has_identity id) (add_advice a as') ≡ list_any (has_identity id) as'
+add_other : (id : AdviceId) (a : Advice) (as' : List Advice) → (identity_of a.message ≡ id → ⊥) → list_any (has_identity id) (add_advice a as') ≡ list_any (has_identity id) as'
 add_other id a as' other = cond_both (list_any (has_identity (identity_of a.message)) as') as' (a ∷ as') (λ z. list_any (has_identity id) z ≡ list_any (has_identity id) as') (λ _. refl) (λ _. rw (no_identity id a other) refl)
 
 -- the kinds of identities of made messages
-reversal_reverses : (m : Message) (id : Bytes) → (identity_of (made_reversal m id)).reverses ≡ true
+reversal_reverses : (m : Fields) (id : Bytes) → (identity_of (made_reversal m id)).kind ≡ Reversal
 unfolding identity_of
-reversal_reverses m id = ap is_04xx (reversal_kind m id)
+reversal_reverses m id = ap (λ k. advice_kind (is_04xx k)) (reversal_kind m id)
 
-stand_in_stands : (m : Message) (id : Bytes) → (identity_of (made_stand_in m id)).reverses ≡ false
+stand_in_stands : (m : Fields) (id : Bytes) → (identity_of (made_stand_in m id)).kind ≡ StandIn
 unfolding identity_of
-stand_in_stands m id = ap is_04xx (made_stand_in_kind m id)
+stand_in_stands m id = ap (λ k. advice_kind (is_04xx k)) (made_stand_in_kind m id)
 
-identity_key : (x : Message) → (identity_of x).key ≡ key_of x
+identity_key : (x : Fields) → (identity_of x).key ≡ key_of x
 unfolding identity_of
 identity_key x = refl
 
@@ -210,11 +222,11 @@ unfolding opening
 opening_out t i o h k = refl
 
 -- an answer of another key
-other_answers : (h : History) (i : Input) (j : Key) (o : Output) (m : Message) → sent o ≡ Some m → (key_of m ≡ j → ⊥) → answer (Out i o ∷ h) j ≡ answer h j
+other_answers : (h : History) (i : Input) (j : Key) (o : Output) (m : Fields) → sent o ≡ Some m → (key_of m ≡ j → ⊥) → answer (Out i o ∷ h) j ≡ answer h j
 unfolding answer
 other_answers h i j o m e other = rw e (go (answer h j) (is_answer m.kind) (key_eq (key_of m) j) refl)
   where
-    go : (w : Option Message) (a b : Bool) → key_eq (key_of m) j ≡ b → option_or w (cond (a && b && not (bytes_eq (code_of m) code_94)) (Some m) None) ≡ w
+    go : (w : Option Fields) (a b : Bool) → key_eq (key_of m) j ≡ b → option_or w (cond (a && b && not (bytes_eq (code_of m) code_94)) (Some m) None) ≡ w
     go (Some x) a b at = refl
     go None true true at = absurd (other (key_eq_is (key_of m) j at))
     go None true false at = refl
@@ -252,12 +264,12 @@ request_no_answer K0421 e = cc
 request_no_answer K0430 e = cc
 
 -- a request brings no 00
-request_brings_none : (t : Network) (past h : History) (j : Input) (m : Message) (src : Source) → handled_as t past j m src → is_request m.kind ≡ true → brings_00 h (key_of m) j ≡ false
+request_brings_none : (t : Network) (past h : History) (j : Input) (m : Fields) (src : Source) → handled_as t past j m src → is_request m.kind ≡ true → brings_00 h (key_of m) j ≡ false
 unfolding handled
 request_brings_none t past h (Enter x) m src e r = refl
 request_brings_none t past h (Take l s x) m src e r =
     let same : x ≡ m = ap (λ (z : Handled). z.message) (same_Some _ _ e) in
-    let a : is_answer x.kind ≡ false = ap (λ z. is_answer (Message.kind z)) same ∙ request_no_answer m.kind r in
+    let a : is_answer x.kind ≡ false = ap (λ z. is_answer (Fields.kind z)) same ∙ request_no_answer m.kind r in
     rw a refl
 request_brings_none t past h (LinkUp l) m src e r = refl
 request_brings_none t past h (LinkDown l) m src e r = refl
@@ -283,7 +295,7 @@ no_in i j o e = cc
 out_is : (i j : Input) (o p : Output) → Out i o ≡ Out j p → o ≡ p
 out_is i j o p e = cc
 
-ack_no_answer : (k : Kind) → group k ≡ IsAck → is_answer k ≡ false
+ack_no_answer : (k : Kind) → group k ≡ groups.Acknowledgement → is_answer k ≡ false
 ack_no_answer K0100 e = refl
 ack_no_answer K0101 e = refl
 ack_no_answer K0110 e = cc
@@ -297,7 +309,7 @@ ack_no_answer K0420 e = refl
 ack_no_answer K0421 e = refl
 ack_no_answer K0430 e = refl
 
-reply_no_answer : (k : Kind) → group k ≡ IsReply → is_answer k ≡ false
+reply_no_answer : (k : Kind) → group k ≡ groups.Reply → is_answer k ≡ false
 reply_no_answer K0100 e = refl
 reply_no_answer K0101 e = refl
 reply_no_answer K0110 e = cc
@@ -312,7 +324,7 @@ reply_no_answer K0421 e = refl
 reply_no_answer K0430 e = refl
 
 -- what is entered brings no late 00
-gate_brings_none : (t : Network) (past : History) (i : Input) (as' : List Advice) (m : Message) → handled_as t past i m Gate → late_key past as' i ≡ None
+gate_brings_none : (t : Network) (past : History) (i : Input) (as' : List Advice) (m : Fields) → handled_as t past i m Gate → late_key past as' i ≡ None
 unfolding handled
 gate_brings_none t past (Take l s x) as' m e = absurd (no_gate (ap (λ (z : Handled). z.source) (same_Some _ _ e)))
   where
@@ -342,18 +354,18 @@ module _ (t : Network) (n : ℕ) (past : History) (i : Input) where
       not_acked : (b : Bool) → b ≡ false → add_accepted (count_of h) b (handled t h i) (advices t n h) ≡ advices t n h
       not_acked b e = rw e refl
 
-  reply_posts : (src : Source) (m : Message) (h : History) → post_in (reply_output src m h) ≡ []
+  reply_posts : (src : Source) (m : Fields) (h : History) → post_in (reply_output src m h) ≡ []
   reply_posts Gate m h = refl
   reply_posts (ByLink l) m h = refl
 
-  reply_sends : (src : Source) (m : Message) (h : History) → is_advice_group (group m.kind) ≡ false → sends_in (reply_output src m h) ≡ []
+  reply_sends : (src : Source) (m : Fields) (h : History) → is_advice_group (group m.kind) ≡ false → sends_in (reply_output src m h) ≡ []
   reply_sends Gate m h e = refl
   reply_sends (ByLink l) m h e = rw e refl
 
-  acc_reply : (src : Source) (m : Message) (h : History) → is_timer i ≡ false → is_advice_group (group m.kind) ≡ false → own_approval h i (reply_output src m h) ≡ None → is_ok_ack (Some m) ≡ false → Acc t n h → Acc t n (reply i src m h)
+  acc_reply : (src : Source) (m : Fields) (h : History) → is_timer i ≡ false → is_advice_group (group m.kind) ≡ false → own_approval h i (reply_output src m h) ≡ None → is_ok_ack (Some m) ≡ false → Acc t n h → Acc t n (reply i src m h)
   acc_reply src m h timer kind own ack q = acc_quiet h (reply_output src m h) own (no_failed t h i (sent (reply_output src m h)) timer) (ap is_ok_ack (sent_reply src m h) ∙ ack) (reply_posts src m h) (reply_sends src m h kind) q
 
-  acc_code : (src : Source) (m : Message) (c : Bytes) (h : History) → is_timer i ≡ false → bytes_eq c code_00 ≡ false → Acc t n h → Acc t n (reply i src (response m c) h)
+  acc_code : (src : Source) (m : Fields) (c : Bytes) (h : History) → is_timer i ≡ false → bytes_eq c code_00 ≡ false → Acc t n h → Acc t n (reply i src (response m c) h)
   acc_code src m c h timer n00 q =
       let code : bytes_eq (code_of (response m c)) code_00 ≡ false = ap (λ z. bytes_eq z code_00) (code_response m c) ∙ n00 in
       acc_reply src (response m c) h timer (ap (λ z. is_advice_group (group z)) (response_is_of_kind m c) ∙ response_no_advice m.kind)
@@ -362,19 +374,19 @@ module _ (t : Network) (n : ℕ) (past : History) (i : Input) where
 
   -- what is kept
 
-  data KeptOut (x : Message) (h : History) (o : Output) : Type 0 where
+  data KeptOut (x : Fields) (h : History) (o : Output) : Type 0 where
     post_out : is_at_home t n x ≡ true → o ≡ Post x → KeptOut x h o
-    send_out : (l : ℕ) (again : Bool) → o ≡ next_put l (as_kind (advice_kind (is_04xx x.kind) again) x) h → KeptOut x h o
+    send_out : (l : ℕ) (again : Bool) → o ≡ next_put l (as_kind (sent_kind (is_04xx x.kind) again) x) h → KeptOut x h o
 
-  send_any : (x : Message) (h : History) (Q : History → Type 0) → ((o : Output) → KeptOut x h o → Q (Out i o ∷ h)) → Q h → Q (send t n i x h)
+  send_any : (x : Fields) (h : History) (Q : History → Type 0) → ((o : Output) → KeptOut x h o → Q (Out i o ∷ h)) → Q h → Q (send t n i x h)
   unfolding send
   send_any x h Q close q = go (own_way t n h x (forwarded h (key_of x))) refl
     where
       go : (w : Option ℕ) → own_way t n h x (forwarded h (key_of x)) ≡ w → Q (send_by i x w h)
       go None e = q
-      go (Some l) e = close (next_put l (as_kind (advice_kind (is_04xx x.kind) (was_put h (identity_of x))) x) h) (send_out l (was_put h (identity_of x)) refl)
+      go (Some l) e = close (next_put l (as_kind (sent_kind (is_04xx x.kind) (was_put h (identity_of x))) x) h) (send_out l (was_put h (identity_of x)) refl)
 
-  keep_any : (x : Message) (h : History) (Q : History → Type 0) → ((o : Output) → KeptOut x h o → Q (Out i o ∷ h)) → Q h → Q (keep t n past i x h)
+  keep_any : (x : Fields) (h : History) (Q : History → Type 0) → ((o : Output) → KeptOut x h o → Q (Out i o ∷ h)) → Q h → Q (keep t n past i x h)
   unfolding keep
   keep_any x h Q close q =
       cond_both (known t n past (identity_of x)) h (cond (is_at_home t n x) (emit i (Post x) h) (send t n i x h)) Q (λ _. q)
@@ -382,54 +394,54 @@ module _ (t : Network) (n : ℕ) (past : History) (i : Input) where
       (λ home. close (Post x) (post_out home refl))
       (λ away. send_any x h Q close q))
 
-  kept_out_quiet : (x : Message) (h : History) (o : Output) → KeptOut x h o → advices t n (Out i o ∷ h) ≡ advices t n h
+  kept_out_quiet : (x : Fields) (h : History) (o : Output) → KeptOut x h o → advices t n (Out i o ∷ h) ≡ advices t n h
   kept_out_quiet x h o (post_out home e) = quiet_out t n i o h (rw e refl) (rw e refl) ∙ rw e refl
   kept_out_quiet x h o (send_out l again e) =
-      let y : Message = as_kind (advice_kind (is_04xx x.kind) again) x in
-      let a : is_answer (advice_kind (is_04xx x.kind) again) ≡ false = advice_no_answer (is_04xx x.kind) again in
-      let b : is_ack_kind (group (advice_kind (is_04xx x.kind) again)) ≡ false = advice_no_ack (is_04xx x.kind) again in
-      quiet_out t n i o h (rw (e, a) refl) (rw e (failed (is_timer i) refl (as_kind (advice_kind (is_04xx x.kind) again) x) a)) ∙ rw (e, b) refl
+      let y : Fields = as_kind (sent_kind (is_04xx x.kind) again) x in
+      let a : is_answer (sent_kind (is_04xx x.kind) again) ≡ false = advice_no_answer (is_04xx x.kind) again in
+      let b : is_ack_kind (group (sent_kind (is_04xx x.kind) again)) ≡ false = advice_no_ack (is_04xx x.kind) again in
+      quiet_out t n i o h (rw (e, a) refl) (rw e (failed (is_timer i) refl (as_kind (sent_kind (is_04xx x.kind) again) x) a)) ∙ rw (e, b) refl
     where
-      failed : (b : Bool) → is_timer i ≡ b → (y : Message) → is_answer y.kind ≡ false → failed_key t h i (Some y) ≡ None
+      failed : (b : Bool) → is_timer i ≡ b → (y : Fields) → is_answer y.kind ≡ false → failed_key t h i (Some y) ≡ None
       failed true at y e = rw (at, e) refl
       failed false at y e = rw at refl
 
-  kept_out_answer : (x : Message) (h : History) (o : Output) (k : Key) → KeptOut x h o → answer (Out i o ∷ h) k ≡ answer h k
+  kept_out_answer : (x : Fields) (h : History) (o : Output) (k : Key) → KeptOut x h o → answer (Out i o ∷ h) k ≡ answer h k
   unfolding answer
   kept_out_answer x h o k (post_out home e) = rw e (same (answer h k))
     where
-      same : (w : Option Message) → option_or w None ≡ w
+      same : (w : Option Fields) → option_or w None ≡ w
       same None = refl
       same (Some a) = refl
   kept_out_answer x h o k (send_out l again e) =
-      let a : is_answer (advice_kind (is_04xx x.kind) again) ≡ false = advice_no_answer (is_04xx x.kind) again in
+      let a : is_answer (sent_kind (is_04xx x.kind) again) ≡ false = advice_no_answer (is_04xx x.kind) again in
       rw (e, a) (same (answer h k))
     where
-      same : (w : Option Message) → option_or w None ≡ w
+      same : (w : Option Fields) → option_or w None ≡ w
       same None = refl
       same (Some a) = refl
 
-  keep_advices : (x : Message) (h : History) → advices t n (keep t n past i x h) ≡ advices t n h
+  keep_advices : (x : Fields) (h : History) → advices t n (keep t n past i x h) ≡ advices t n h
   keep_advices x h = keep_any x h (λ z. advices t n z ≡ advices t n h) (λ o k. kept_out_quiet x h o k) refl
 
-  send_advices : (x : Message) (h : History) → advices t n (send t n i x h) ≡ advices t n h
+  send_advices : (x : Fields) (h : History) → advices t n (send t n i x h) ≡ advices t n h
   send_advices x h = send_any x h (λ z. advices t n z ≡ advices t n h) (λ o k. kept_out_quiet x h o k) refl
 
-  keep_answer : (x : Message) (h : History) (k : Key) → answer (keep t n past i x h) k ≡ answer h k
+  keep_answer : (x : Fields) (h : History) (k : Key) → answer (keep t n past i x h) k ≡ answer h k
   keep_answer x h k = keep_any x h (λ z. answer z k ≡ answer h k) (λ o w. kept_out_answer x h o k w) refl
 
-  send_answer : (x : Message) (h : History) (k : Key) → answer (send t n i x h) k ≡ answer h k
+  send_answer : (x : Fields) (h : History) (k : Key) → answer (send t n i x h) k ≡ answer h k
   send_answer x h k = send_any x h (λ z. answer z k ≡ answer h k) (λ o w. kept_out_answer x h o k w) refl
 
-  keep_opening : (x : Message) (h : History) (k : Key) → opening t (keep t n past i x h) k ≡ opening t h k
+  keep_opening : (x : Fields) (h : History) (k : Key) → opening t (keep t n past i x h) k ≡ opening t h k
   unfolding opening
   keep_opening x h k = keep_any x h (λ z. opening t z k ≡ opening t h k) (λ o w. refl) refl
 
-  send_opening : (x : Message) (h : History) (k : Key) → opening t (send t n i x h) k ≡ opening t h k
+  send_opening : (x : Fields) (h : History) (k : Key) → opening t (send t n i x h) k ≡ opening t h k
   unfolding opening
   send_opening x h k = send_any x h (λ z. opening t z k ≡ opening t h k) (λ o w. refl) refl
 
-  send_posts : (x : Message) (h : History) → posts (send t n i x h) ≡ posts h
+  send_posts : (x : Fields) (h : History) → posts (send t n i x h) ≡ posts h
   unfolding send posts
   send_posts x h = go (own_way t n h x (forwarded h (key_of x)))
     where
@@ -437,7 +449,7 @@ module _ (t : Network) (n : ℕ) (past : History) (i : Input) where
       go None = refl
       go (Some l) = refl
 
-  keep_posts : (x : Message) (h : History) → posts (keep t n past i x h) ≡ kept_posts t n (known t n past (identity_of x)) x (posts h)
+  keep_posts : (x : Fields) (h : History) → posts (keep t n past i x h) ≡ kept_posts t n (known t n past (identity_of x)) x (posts h)
   unfolding keep posts kept_posts
   keep_posts x h = go (known t n past (identity_of x)) (is_at_home t n x) refl
     where
@@ -446,17 +458,17 @@ module _ (t : Network) (n : ℕ) (past : History) (i : Input) where
       go false true at = rw at refl
       go false false at = rw at (send_posts x h)
 
-  send_sends : (x : Message) (h : History) (u : ℕ × Message) → IsIn u (sends (send t n i x h)) → IsIn u (sends h) ⊎ Alike x u.1
+  send_sends : (x : Fields) (h : History) (u : ℕ × Fields) → IsIn u (sends (send t n i x h)) → IsIn u (sends h) ⊎ Alike x u.1
   unfolding sends
   send_sends x h u m = send_any x h (λ z. IsIn u (sends z) → IsIn u (sends h) ⊎ Alike x u.1) out inl m
     where
       out : (o : Output) → KeptOut x h o → IsIn u (sends_in o ++ sends h) → IsIn u (sends h) ⊎ Alike x u.1
       out o (post_out home e) m = inl (rw e at m)
       out o (send_out l again e) m =
-          let g : is_advice_group (group (advice_kind (is_04xx x.kind) again)) ≡ true = advice_kind_group (is_04xx x.kind) again in
-          ⊎_elim (λ here. inr (alike_more x (as_kind (advice_kind (is_04xx x.kind) again) x) u.1 (sent_alike x again) (alike_is (as_kind (advice_kind (is_04xx x.kind) again) x) u.1 (ap (λ (z : ℕ × Message). z.1) here)))) inl (rw (e, g) at m)
+          let g : is_advice_group (group (sent_kind (is_04xx x.kind) again)) ≡ true = advice_kind_group (is_04xx x.kind) again in
+          ⊎_elim (λ here. inr (alike_more x (as_kind (sent_kind (is_04xx x.kind) again) x) u.1 (sent_alike x again) (alike_is (as_kind (sent_kind (is_04xx x.kind) again) x) u.1 (ap (λ (z : ℕ × Fields). z.1) here)))) inl (rw (e, g) at m)
 
-  keep_sends : (x : Message) (h : History) → KeptSends (known t n past (identity_of x)) x (sends h) (sends (keep t n past i x h))
+  keep_sends : (x : Fields) (h : History) → KeptSends (known t n past (identity_of x)) x (sends h) (sends (keep t n past i x h))
   unfolding keep sends
   keep_sends x h u m = go (known t n past (identity_of x)) refl (is_at_home t n x) refl m
     where
@@ -469,7 +481,7 @@ module _ (t : Network) (n : ℕ) (past : History) (i : Input) where
 
   record Stood (k : Key) (adv : List Advice) (h h' : History) : Type 0 where
     acc : Acc t n h'
-    others : (id : Identity) → (id.key ≡ k → ⊥) → list_any (has_identity id) (advices t n h') ≡ list_any (has_identity id) adv
+    others : (id : AdviceId) → (id.key ≡ k → ⊥) → list_any (has_identity id) (advices t n h') ≡ list_any (has_identity id) adv
     answers_same : (j : Key) → (j ≡ k → ⊥) → answer h' j ≡ answer h j
     opens_same : (j : Key) → opening t h' j ≡ opening t h j
 
@@ -481,7 +493,7 @@ module _ (t : Network) (n : ℕ) (past : History) (i : Input) where
       c : Bytes
       c = standin_code t n h op.message
 
-      r : Message
+      r : Fields
       r = response op.message c
 
       o : Output
@@ -490,7 +502,7 @@ module _ (t : Network) (n : ℕ) (past : History) (i : Input) where
       h2 : History
       h2 = reply i op.source (response op.message (standin_code t n h op.message)) h
 
-      st : Message
+      st : Fields
       st = made_stand_in op.message (node_id t n)
 
       ST : Advice
@@ -540,7 +552,7 @@ module _ (t : Network) (n : ℕ) (past : History) (i : Input) where
           let done = accounts_kept t n ST st (known t n past (identity_of st)) adv (posts h) (sends h) (sends (keep t n past i st h2)) q refl fresh sends3 in
           record {
             acc = subst (λ a. Accounts t n a (posts (keep t n past i st h2)) (sends (keep t n past i st h2))) (sym adv3) (subst (λ p. Accounts t n (add_advice ST adv) p (sends (keep t n past i st h2))) (sym posts3) done);
-            others = λ id no_k. ap (list_any (has_identity id)) adv3 ∙ add_other id ST adv (λ e. no_k (ap Identity.key (sym e) ∙ (identity_key st ∙ (made_stand_in_key op.message (node_id t n) req ∙ key))));
+            others = λ id no_k. ap (list_any (has_identity id)) adv3 ∙ add_other id ST adv (λ e. no_k (ap AdviceId.key (sym e) ∙ (identity_key st ∙ (made_stand_in_key op.message (node_id t n) req ∙ key))));
             answers_same = λ j no_k. keep_answer st h2 j ∙ other_answer j no_k;
             opens_same = λ j. keep_opening st h2 j ∙ opening_out t i (reply_output op.source (response op.message (standin_code t n h op.message)) h) h j;
           }
@@ -562,11 +574,11 @@ module _ (t : Network) (n : ℕ) (past : History) (i : Input) where
     was : opening t past k ≡ Some op
     opens : opening t h k ≡ Some op
     unanswered : answer h k ≡ None
-    same : (id : Identity) → id.key ≡ k → list_any (has_identity id) (advices t n h) ≡ known t n past id
+    same : (id : AdviceId) → id.key ≡ k → list_any (has_identity id) (advices t n h) ≡ known t n past id
 
   record Failed (k : Key) (h h' : History) : Type 0 where
     acc : Acc t n h'
-    others : (id : Identity) → (id.key ≡ k → ⊥) → list_any (has_identity id) (advices t n h') ≡ list_any (has_identity id) (advices t n h)
+    others : (id : AdviceId) → (id.key ≡ k → ⊥) → list_any (has_identity id) (advices t n h') ≡ list_any (has_identity id) (advices t n h)
     answers_same : (j : Key) → (j ≡ k → ⊥) → answer h' j ≡ answer h j
     opens_same : (j : Key) → opening t h' j ≡ opening t h j
 
@@ -574,7 +586,7 @@ module _ (t : Network) (n : ℕ) (past : History) (i : Input) where
   unfolding fail
   fail_acc facts k h ready timer q = subst (λ z. Failed k h (fail t n past i z h)) (sym (Ready.was ready)) (record {
     acc = Stood.acc stood;
-    others = λ id no_k. Stood.others stood id no_k ∙ add_other id REV (advices t n h) (λ e. no_k (ap Identity.key (sym e) ∙ (identity_key rev ∙ rev_key)));
+    others = λ id no_k. Stood.others stood id no_k ∙ add_other id REV (advices t n h) (λ e. no_k (ap AdviceId.key (sym e) ∙ (identity_key rev ∙ rev_key)));
     answers_same = λ j no_k. Stood.answers_same stood j no_k ∙ keep_answer rev h j;
     opens_same = λ j. Stood.opens_same stood j ∙ keep_opening rev h j;
   })
@@ -585,10 +597,10 @@ module _ (t : Network) (n : ℕ) (past : History) (i : Input) where
       w : Rattle.network_law.proofs.Node.Opened t n past k (Ready.op ready)
       w = facts.opens k (Ready.op ready) (Ready.was ready)
 
-      rev : Message
+      rev : Fields
       rev = made_reversal (Opening.message (Ready.op ready)) (node_id t n)
 
-      st : Message
+      st : Fields
       st = made_stand_in (Opening.message (Ready.op ready)) (node_id t n)
 
       h1 : History
@@ -631,7 +643,10 @@ module _ (t : Network) (n : ℕ) (past : History) (i : Input) where
       q1 = subst (λ p. Accounts t n (add_advice REV (advices t n h)) p (sends h1)) (sym (keep_posts rev h)) (accounts_kept t n REV rev (known t n past (identity_of rev)) (advices t n h) (posts h) (sends h) (sends h1) q refl (Ready.same ready (identity_of rev) (identity_key rev ∙ rev_key)) (keep_sends rev h))
 
       two : identity_of rev ≡ identity_of st → ⊥
-      two e = not_both (identity_of rev).reverses (reversal_reverses (Opening.message (Ready.op ready)) (node_id t n)) (ap Identity.reverses e ∙ stand_in_stands (Opening.message (Ready.op ready)) (node_id t n))
+      two e = apart (sym (reversal_reverses (Opening.message (Ready.op ready)) (node_id t n)) ∙ (ap AdviceId.kind e ∙ stand_in_stands (Opening.message (Ready.op ready)) (node_id t n)))
+        where
+          apart : Reversal ≡ StandIn → ⊥
+          apart p = cc
 
       stood : Stood k (add_advice REV (advices t n h)) h1 (standin t n past i op h1)
       stood = standin_acc k op h1 (add_advice REV (advices t n h)) q1 opens1 w.request w.key (answered_00 h1 k none1) (no_timer_00 i timer) mark (add_other (identity_of st) REV (advices t n h) two ∙ Ready.same ready (identity_of st) (identity_key st ∙ st_key))
@@ -662,7 +677,7 @@ module _ (t : Network) (n : ℕ) (past : History) (i : Input) where
   unfolding posts sends
   in_acc none q = subst (λ a. Accounts t n a (posts past) (sends past)) (sym (advices_in t n past i none)) (accounts_acked t n i (advices t n past) (posts past) (sends past) q)
 
-  known_same : late_key past (advices t n past) i ≡ None → (id : Identity) → list_any (has_identity id) (advices t n (In i ∷ past)) ≡ known t n past id
+  known_same : late_key past (advices t n past) i ≡ None → (id : AdviceId) → list_any (has_identity id) (advices t n (In i ∷ past)) ≡ known t n past id
   unfolding known
   known_same none id = ap (list_any (has_identity id)) (advices_in t n past i none) ∙ identity_acked id i (advices t n past)
 
@@ -679,7 +694,7 @@ module _ (t : Network) (n : ℕ) (past : History) (i : Input) where
       pend (HostAnswer a c) f = cc
       pend (NewDate d) f = cc
 
-      go : (w : Option Opening) → opening t past k ≡ w → (v : Option Message) → answer past k ≡ v → (is_some (opening t past k) && is_none (answer past k)) ≡ true → Ready (In i ∷ past) k
+      go : (w : Option Opening) → opening t past k ≡ w → (v : Option Fields) → answer past k ≡ v → (is_some (opening t past k) && is_none (answer past k)) ≡ true → Ready (In i ∷ past) k
       go None at v at' p = absurd (not_both false (rw at at p) refl)
       go (Some op) at (Some a) at' p = absurd (not_both (is_some (opening t past k) && is_none (answer past k)) p (and_right (is_some (opening t past k)) (is_none (answer past k)) (ap is_none at')))
       go (Some op) at None at' p = record { op = op; was = at; opens = stays_open t past i k op at; unanswered = at'; same = λ id e. known_same none id }
@@ -722,14 +737,14 @@ module _ (t : Network) (n : ℕ) (past : History) (i : Input) where
 
   -- requests
 
-  request_acc : (late : LateFacts t n past) (m : Message) (src : Source) (o : Option Opening) → handled_as t past i m src → is_request m.kind ≡ true → opening t past (key_of m) ≡ o → Acc t n (In i ∷ past) → Acc t n (on_request t n past i m src o)
+  request_acc : (late : LateFacts t n past) (m : Fields) (src : Source) (o : Option Opening) → handled_as t past i m src → is_request m.kind ≡ true → opening t past (key_of m) ≡ o → Acc t n (In i ∷ past) → Acc t n (on_request t n past i m src o)
   unfolding on_request
   request_acc late m src (Some op) e r f q =
       cond_both (same_source op.source src && content_eq (content op.message) (content m)) (on_repeat i src (answer past (key_of m)) (In i ∷ past)) (reply i src (response m code_94) (In i ∷ past)) (Acc t n)
       (λ _. again (answer past (key_of m)) refl)
       (λ _. acc_code src m code_94 (In i ∷ past) (handled_no_timer t past i m src e) refl q)
     where
-      again : (w : Option Message) → answer past (key_of m) ≡ w → Acc t n (on_repeat i src w (In i ∷ past))
+      again : (w : Option Fields) → answer past (key_of m) ≡ w → Acc t n (on_repeat i src w (In i ∷ past))
       again None at = q
       again (Some a) at =
           let p = answer_is past (key_of m) a at in
@@ -776,7 +791,7 @@ module _ (t : Network) (n : ℕ) (past : History) (i : Input) where
 
   -- reversals and advices
 
-  accept_mid : (m : Message) (src : Source) (h : History) → handled t h i ≡ Some (record { message = m; source = src }) → is_kept_group (group m.kind) ≡ true → is_timer i ≡ false → advices t n (reply i src (response m code_00) h) ≡ add_advice (record { message = as_kept m; count = count_of h; own = false; acked = false }) (advices t n h)
+  accept_mid : (m : Fields) (src : Source) (h : History) → handled t h i ≡ Some (record { message = m; source = src }) → is_kept_group (group m.kind) ≡ true → is_timer i ≡ false → advices t n (reply i src (response m code_00) h) ≡ add_advice (record { message = as_kept m; count = count_of h; own = false; acked = false }) (advices t n h)
   accept_mid m src h e g timer = quiet_out t n i (reply_output src (response m code_00) h) h own (no_failed t h i (sent (reply_output src (response m code_00) h)) timer) ∙ added (is_ok_ack (sent (reply_output src (response m code_00) h))) (handled t h i) ack e
     where
       own : own_approval h i (reply_output src (response m code_00) h) ≡ None
@@ -788,24 +803,24 @@ module _ (t : Network) (n : ℕ) (past : History) (i : Input) where
       added : (b : Bool) (o : Option Handled) → b ≡ true → o ≡ Some (record { message = m; source = src }) → add_accepted (count_of h) b o (advices t n h) ≡ add_advice (record { message = as_kept m; count = count_of h; own = false; acked = false }) (advices t n h)
       added b o e f = let g' = kept_is_advice (group m.kind) g in rw (e, f, g') refl
 
-  accept_posts : (m : Message) (src : Source) (h : History) → posts (reply i src (response m code_00) h) ≡ posts h
+  accept_posts : (m : Fields) (src : Source) (h : History) → posts (reply i src (response m code_00) h) ≡ posts h
   unfolding posts
   accept_posts m src h = ap (λ z. z ++ posts h) (reply_posts src (response m code_00) h)
 
-  accept_sends : (m : Message) (src : Source) (h : History) → sends (reply i src (response m code_00) h) ≡ sends h
+  accept_sends : (m : Fields) (src : Source) (h : History) → sends (reply i src (response m code_00) h) ≡ sends h
   unfolding sends
   accept_sends m src h = ap (λ z. z ++ sends h) (reply_sends src (response m code_00) h (ap (λ z. is_advice_group (group z)) (response_is_of_kind m code_00) ∙ response_no_advice m.kind))
 
-  again_acc : (m : Message) (src : Source) (h : History) → handled t h i ≡ Some (record { message = m; source = src }) → is_kept_group (group m.kind) ≡ true → is_timer i ≡ false → list_any (has_identity (identity_of m)) (advices t n h) ≡ true → Acc t n h → Acc t n (reply i src (response m code_00) h)
+  again_acc : (m : Fields) (src : Source) (h : History) → handled t h i ≡ Some (record { message = m; source = src }) → is_kept_group (group m.kind) ≡ true → is_timer i ≡ false → list_any (has_identity (identity_of m)) (advices t n h) ≡ true → Acc t n h → Acc t n (reply i src (response m code_00) h)
   again_acc m src h e g timer known' q =
       let a : advices t n (reply i src (response m code_00) h) ≡ advices t n h = accept_mid m src h e g timer ∙ in_add_known (record { message = as_kept m; count = count_of h; own = false; acked = false }) (advices t n h) (ap (λ z. list_any (has_identity z) (advices t n h)) (kept_alike m).id ∙ known') in
       subst (λ x. Accounts t n x (posts (reply i src (response m code_00) h)) (sends (reply i src (response m code_00) h))) (sym a) (subst (λ p. Accounts t n (advices t n h) p (sends (reply i src (response m code_00) h))) (sym (accept_posts m src h)) (subst (λ u. Accounts t n (advices t n h) (posts h) u) (sym (accept_sends m src h)) q))
 
-  accept_acc : (m : Message) (src : Source) (h : History) → handled t h i ≡ Some (record { message = m; source = src }) → is_kept_group (group m.kind) ≡ true → is_timer i ≡ false → ((id : Identity) → list_any (has_identity id) (advices t n h) ≡ known t n past id) → Acc t n h → Acc t n (keep t n past i (as_kept m) (reply i src (response m code_00) h))
+  accept_acc : (m : Fields) (src : Source) (h : History) → handled t h i ≡ Some (record { message = m; source = src }) → is_kept_group (group m.kind) ≡ true → is_timer i ≡ false → ((id : AdviceId) → list_any (has_identity id) (advices t n h) ≡ known t n past id) → Acc t n h → Acc t n (keep t n past i (as_kept m) (reply i src (response m code_00) h))
   accept_acc m src h e g timer same q =
       subst (λ a. Accounts t n a (posts (keep t n past i x h2)) (sends (keep t n past i x h2))) (sym adv3) (subst (λ p. Accounts t n (add_advice A (advices t n h)) p (sends (keep t n past i x h2))) (sym posts3) (accounts_kept t n A x (known t n past (identity_of x)) (advices t n h) (posts h) (sends h) (sends (keep t n past i x h2)) q refl (same (identity_of x)) sends3))
     where
-      x : Message
+      x : Fields
       x = as_kept m
 
       h2 : History
@@ -824,7 +839,7 @@ module _ (t : Network) (n : ℕ) (past : History) (i : Input) where
       sends3 = subst (λ z. KeptSends (known t n past (identity_of x)) x z (sends (keep t n past i x h2))) (accept_sends m src h) (keep_sends x h2)
 
   -- what a 68 to a pending request leaves
-  pending_acc : (m : Message) (src : Source) (b : Bool) (o : Option Opening) → handled_as t past i m src → is_kept_group (group m.kind) ≡ true → Acc t n (In i ∷ past) → (Acc t n (answer_pending t i b o code_68 (In i ∷ past))) × (handled t (answer_pending t i b o code_68 (In i ∷ past)) i ≡ Some (record { message = m; source = src })) × ((id : Identity) → list_any (has_identity id) (advices t n (answer_pending t i b o code_68 (In i ∷ past))) ≡ known t n past id)
+  pending_acc : (m : Fields) (src : Source) (b : Bool) (o : Option Opening) → handled_as t past i m src → is_kept_group (group m.kind) ≡ true → Acc t n (In i ∷ past) → (Acc t n (answer_pending t i b o code_68 (In i ∷ past))) × (handled t (answer_pending t i b o code_68 (In i ∷ past)) i ≡ Some (record { message = m; source = src })) × ((id : AdviceId) → list_any (has_identity id) (advices t n (answer_pending t i b o code_68 (In i ∷ past))) ≡ known t n past id)
   pending_acc m src true (Some op) e g q =
       let timer = handled_no_timer t past i m src e in
       let code : bytes_eq (code_of (response op.message code_68)) code_00 ≡ false = ap (λ z. bytes_eq z code_00) (code_response op.message code_68) in
@@ -834,7 +849,7 @@ module _ (t : Network) (n : ℕ) (past : History) (i : Input) where
   pending_acc m src true None e g q = (q, handled_in t past i ∙ e, known_same (late_none t past (advices t n past) i m src e (kept_no_answer m.kind g)))
   pending_acc m src false o e g q = (q, handled_in t past i ∙ e, known_same (late_none t past (advices t n past) i m src e (kept_no_answer m.kind g)))
 
-  reversal_acc : (m : Message) (src : Source) → handled_as t past i m src → group m.kind ≡ IsReversal → Acc t n (In i ∷ past) → Acc t n (on_reversal t n past i m src)
+  reversal_acc : (m : Fields) (src : Source) → handled_as t past i m src → group m.kind ≡ groups.Reversal → Acc t n (In i ∷ past) → Acc t n (on_reversal t n past i m src)
   unfolding on_reversal
   reversal_acc m src e g q =
       let timer = handled_no_timer t past i m src e in
@@ -849,7 +864,7 @@ module _ (t : Network) (n : ℕ) (past : History) (i : Input) where
       (λ is. again_acc m src (In i ∷ past) (handled_in t past i ∙ e) ok timer (known_same (late_none t past (advices t n past) i m src e (kept_no_answer m.kind ok)) (identity_of m) ∙ is) q)
       (λ _. (let p = pending_acc m src (pending t past (key_of m)) (opening t past (key_of m)) e ok q in accept_acc m src (answer_pending t i (pending t past (key_of m)) (opening t past (key_of m)) code_68 (In i ∷ past)) p.1 ok timer p.2 p.0)))))
 
-  advice_acc : (m : Message) (src : Source) → handled_as t past i m src → group m.kind ≡ IsAdvice → Acc t n (In i ∷ past) → Acc t n (on_advice t n past i m src)
+  advice_acc : (m : Fields) (src : Source) → handled_as t past i m src → group m.kind ≡ groups.StandInAdvice → Acc t n (In i ∷ past) → Acc t n (on_advice t n past i m src)
   unfolding on_advice
   advice_acc m src e g q =
       let timer = handled_no_timer t past i m src e in
@@ -866,7 +881,7 @@ module _ (t : Network) (n : ℕ) (past : History) (i : Input) where
   late_acc : (k : Key) (op : Opening) → late_key past (advices t n past) i ≡ Some k → opening t past k ≡ Some op → Acc t n past → Acc t n (keep t n past i (made_reversal op.message (node_id t n)) (In i ∷ past))
   unfolding posts sends known
   late_acc k op is opens q =
-      let x : Message = made_reversal op.message (node_id t n) in
+      let x : Fields = made_reversal op.message (node_id t n) in
       let A : Advice = record { message = made_reversal op.message (node_id t n); count = count_of past; own = true; acked = false } in
       let a1 : advices t n (In i ∷ past) ≡ add_advice A (map (acked_by i) (advices t n past)) = marks_in t n i past k op is opens in
       let fresh : list_any (has_identity (identity_of x)) (map (acked_by i) (advices t n past)) ≡ known t n past (identity_of x) = identity_acked (identity_of x) i (advices t n past) in
@@ -881,7 +896,7 @@ module _ (t : Network) (n : ℕ) (past : History) (i : Input) where
   code_acc : (late : LateFacts t n past) (facts : NodeFacts t n past) (k : Key) (c other : Bytes) (o : Option Opening) → opening t past k ≡ o → is_timer i ≡ false → late_key past (advices t n past) i ≡ cond (bytes_eq c code_00 && comes_late past (advices t n past) k) (Some k) None → (bytes_eq c code_00 ≡ true → brings_00 (In i ∷ past) k i ≡ true) → bytes_eq other code_00 ≡ false → Acc t n past → Acc t n (on_code t n past i k c other o)
   code_acc late facts k c other None e timer lk brought n00 q = in_acc (late_none_by k (bytes_eq c code_00 && comes_late past (advices t n past) k) lk (not_late (answer past k) refl)) q
     where
-      not_late : (w : Option Message) → answer past k ≡ w → (bytes_eq c code_00 && comes_late past (advices t n past) k) ≡ false
+      not_late : (w : Option Fields) → answer past k ≡ w → (bytes_eq c code_00 && comes_late past (advices t n past) k) ≡ false
       not_late w at =
           let none : answer past k ≡ None = unopened late k e in
           and_right (bytes_eq c code_00) (comes_late past (advices t n past) k) (and_left (code_is_not_00 (answer past k)) (not (list_any (Rattle.network_law.specs.Traces.reverses_key k) (advices t n past))) (ap code_is_not_00 none))
@@ -901,7 +916,7 @@ module _ (t : Network) (n : ℕ) (past : History) (i : Input) where
           let none : answer past k ≡ None = is_none_is (answer past k) p.1 in
           and_right (bytes_eq c code_00) (comes_late past (advices t n past) k) (and_left (code_is_not_00 (answer past k)) (not (list_any (Rattle.network_law.specs.Traces.reverses_key k) (advices t n past))) (ap code_is_not_00 none))
         where
-          is_none_is : (v : Option Message) → is_none v ≡ true → v ≡ None
+          is_none_is : (v : Option Fields) → is_none v ≡ true → v ≡ None
           is_none_is None e = refl
           is_none_is (Some a) e = absurd (not_both false e refl)
 
@@ -929,18 +944,18 @@ module _ (t : Network) (n : ℕ) (past : History) (i : Input) where
 
   -- by what is handled
 
-  gate_late : (m : Message) → handled_as t past i m Gate → late_key past (advices t n past) i ≡ None
+  gate_late : (m : Fields) → handled_as t past i m Gate → late_key past (advices t n past) i ≡ None
   gate_late m e = gate_brings_none t past i (advices t n past) m e
 
-  group_acc : (late : LateFacts t n past) (facts : NodeFacts t n past) (m : Message) (src : Source) (g : Group) → handled_as t past i m src → group m.kind ≡ g → Acc t n past → Acc t n (on_group t n past i m src g)
+  group_acc : (late : LateFacts t n past) (facts : NodeFacts t n past) (m : Fields) (src : Source) (g : Group) → handled_as t past i m src → group m.kind ≡ g → Acc t n past → Acc t n (on_group t n past i m src g)
   unfolding on_answer
-  group_acc late facts m src IsRequest e g q = request_acc late m src (opening t past (key_of m)) e (request_from_group m.kind g) refl (in_acc (late_none t past (advices t n past) i m src e (request_no_answer m.kind (request_from_group m.kind g))) q)
-  group_acc late facts m src IsAdvice e g q = advice_acc m src e g (in_acc (late_none t past (advices t n past) i m src e (kept_no_answer m.kind (rw g refl))) q)
-  group_acc late facts m src IsReversal e g q = reversal_acc m src e g (in_acc (late_none t past (advices t n past) i m src e (kept_no_answer m.kind (rw g refl))) q)
-  group_acc late facts m src IsAck e g q = in_acc (late_none t past (advices t n past) i m src e (ack_no_answer m.kind g)) q
-  group_acc late facts m src IsReply e g q = in_acc (late_none t past (advices t n past) i m src e (reply_no_answer m.kind g)) q
-  group_acc late facts m Gate IsAnswer e g q = in_acc (gate_late m e) q
-  group_acc late facts m (ByLink l) IsAnswer e g q =
+  group_acc late facts m src groups.Request e g q = request_acc late m src (opening t past (key_of m)) e (request_from_group m.kind g) refl (in_acc (late_none t past (advices t n past) i m src e (request_no_answer m.kind (request_from_group m.kind g))) q)
+  group_acc late facts m src groups.StandInAdvice e g q = advice_acc m src e g (in_acc (late_none t past (advices t n past) i m src e (kept_no_answer m.kind (rw g refl))) q)
+  group_acc late facts m src groups.Reversal e g q = reversal_acc m src e g (in_acc (late_none t past (advices t n past) i m src e (kept_no_answer m.kind (rw g refl))) q)
+  group_acc late facts m src groups.Acknowledgement e g q = in_acc (late_none t past (advices t n past) i m src e (ack_no_answer m.kind g)) q
+  group_acc late facts m src groups.Reply e g q = in_acc (late_none t past (advices t n past) i m src e (reply_no_answer m.kind g)) q
+  group_acc late facts m Gate groups.Answer e g q = in_acc (gate_late m e) q
+  group_acc late facts m (ByLink l) groups.Answer e g q =
       cond_both (is_link l (forwarded past (key_of m))) (on_code t n past i (key_of m) (code_of m) code_96 (opening t past (key_of m))) (In i ∷ past) (Acc t n)
       (λ on. code_acc late facts (key_of m) (code_of m) code_96 (opening t past (key_of m)) refl (handled_no_timer t past i m (ByLink l) e) (lk (is_link l (forwarded past (key_of m))) refl on) brought refl q)
       (λ off. in_acc (ap (late_key past (advices t n past)) f.1 ∙ not_here (bytes_eq (code_of m) code_00) refl off) q)
@@ -1026,7 +1041,7 @@ failing_once t past i = once_filter (fails t past i) (reverse (opened t past)) (
 
 acc_decide : (t : Network) (n : ℕ) (past : History) (i : Input) → LateFacts t n past → NodeFacts t n past → Acc t n past → Acc t n (decide t n past i)
 unfolding decide handled on_host ask_key
-acc_decide t n past (Enter m) late facts q = group_acc t n past (Enter m) late facts (Rattle.network_law.specs.Traces.dated (Rattle.network_law.specs.Traces.date_of t past) (Rattle.network_law.specs.Messages.remove_element m 33)) Gate (group (Rattle.network_law.specs.Traces.dated (Rattle.network_law.specs.Traces.date_of t past) (Rattle.network_law.specs.Messages.remove_element m 33)).kind) refl refl q
+acc_decide t n past (Enter m) late facts q = group_acc t n past (Enter m) late facts (Rattle.network_law.specs.Traces.dated (Rattle.network_law.specs.Traces.date_of t past) (Rattle.iso_message.specs.Fields.remove_element m 33)) Gate (group (Rattle.network_law.specs.Traces.dated (Rattle.network_law.specs.Traces.date_of t past) (Rattle.iso_message.specs.Fields.remove_element m 33)).kind) refl refl q
 acc_decide t n past (Take l s m) late facts q = group_acc t n past (Take l s m) late facts m (ByLink l) (group m.kind) refl refl q
 acc_decide t n past (LinkUp l) late facts q = in_acc t n past (LinkUp l) refl q
 acc_decide t n past (NewDate d) late facts q = in_acc t n past (NewDate d) refl q
@@ -1048,7 +1063,7 @@ legal_acc t n (e ∷ es) l = subst (Acc t n) (sym l.1.outputs) (acc_decide t n (
 
 -- posts and puts as events
 
-pub post_has : (h : History) (x : Message) → IsIn x (posts h) → (i : Input) × Has (Out i (Post x)) h
+pub post_has : (h : History) (x : Fields) → IsIn x (posts h) → (i : Input) × Has (Out i (Post x)) h
 unfolding posts
 post_has [] x m = absurd m
 post_has (In i ∷ h) x m = let r = post_has h x m in (r.0, inr r.1)
@@ -1057,7 +1072,7 @@ post_has (Out i (Put l s y) ∷ h) x m = let r = post_has h x m in (r.0, inr r.1
 post_has (Out i (Answer y) ∷ h) x m = let r = post_has h x m in (r.0, inr r.1)
 post_has (Out i (Ask a y) ∷ h) x m = let r = post_has h x m in (r.0, inr r.1)
 
-pub post_counted : (h : History) (id : Identity) → Rattle.network_law.specs.Runs.post_count h id ≡ posted_of id (posts h)
+pub post_counted : (h : History) (id : AdviceId) → Rattle.network_law.specs.Runs.post_count h id ≡ posted_of id (posts h)
 unfolding Rattle.network_law.specs.Runs.post_count posts posted_of
 post_counted [] id = refl
 post_counted (In i ∷ h) id = post_counted h id
@@ -1066,11 +1081,11 @@ post_counted (Out i (Put l s y) ∷ h) id = let e = post_counted h id in omega (
 post_counted (Out i (Answer y) ∷ h) id = let e = post_counted h id in omega (arith, e)
 post_counted (Out i (Ask a y) ∷ h) id = let e = post_counted h id in omega (arith, e)
 
-pub put_is_sent : (h : History) (i : Input) (l s : ℕ) (x : Message) → Has (Out i (Put l s x)) h → is_advice_group (group x.kind) ≡ true → IsIn (l, x) (sends h)
+pub put_is_sent : (h : History) (i : Input) (l s : ℕ) (x : Fields) → Has (Out i (Put l s x)) h → is_advice_group (group x.kind) ≡ true → IsIn (l, x) (sends h)
 unfolding sends
 put_is_sent [] i l s x m g = absurd m
 put_is_sent (In j ∷ h) i l s x m g = ⊎_elim (λ bad. absurd (no_in j i (Put l s x) bad)) (λ old. put_is_sent h i l s x old g) m
 put_is_sent (Out j o ∷ h) i l s x m g = ⊎_elim (λ here. (let e = out_is j i o (Put l s x) here in rw (e, g) (inl refl))) (λ old. later (sends_in o) (sends h) (put_is_sent h i l s x old g)) m
   where
-    later : (us vs : List (ℕ × Message)) → IsIn (l, x) vs → IsIn (l, x) (us ++ vs)
+    later : (us vs : List (ℕ × Fields)) → IsIn (l, x) vs → IsIn (l, x) (us ++ vs)
     later us vs m = in_later us vs (l, x) m

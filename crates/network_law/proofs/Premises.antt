@@ -3,8 +3,6 @@ use Rattle.std.proofs.Common.{◌≡◌, ℕ, zero, suc, ◌≤◌, ◌<◌, Lis
 use Rattle.std.proofs.lemmas.Bool.{and_parts, or_cases, eqb-true}
 use Rattle.card_digits.specs.Numbers.{pad11}
 use Rattle.card_digits.specs.Longest.{begins}
-use Rattle.network_law.specs.Digits.{Bytes}
-use Rattle.network_law.specs.Messages.{Message, K0430, code_00}
 use Rattle.net_rows.specs.Network.{other_end}
 use Rattle.network_law.specs.Tables.{route_links, is_attached, node_id}
 use Rattle.network_law.specs.Traces.{Input, Enter, Take, Tick, Put, Answer, Post, Event, In, Out, advices, stored}
@@ -13,6 +11,10 @@ use Rattle.network_law.specs.Runs.{IsIn, Entry, Legal, IsRun, history, Has, Rank
 use Rattle.network_law.proofs.Emits.{bytes_eq_refl}
 use Rattle.network_law.proofs.Rows.{M, M15, R, base, card, zeros6, amount1, time1, trace1, date1, acq, cur, id_a, id_h, four, e90, reversal}
 use Rattle.network_law.proofs.Covered.{C1_holds}
+use Rattle.network_law.specs.Cards.{Bytes}
+use Rattle.iso_message.specs.Fields.{Fields}
+use Rattle.iso_message.specs.declared.kind.Kind.TheVariants.{K0430}
+use Rattle.iso_message.specs.Codes.{code_00}
 
 not_both : (b : Bool) → b ≡ true → b ≡ false → ⊥
 not_both b p q = cc
@@ -67,7 +69,7 @@ ids = record { single = single; not_zeros = not_zeros }
 
 -- a run: A forwards, the key fails at A at the third tick, H posts the reversal, and A takes the acknowledgement
 
-abbrev ack : Message
+abbrev ack : Fields
 ack = record { kind = K0430; elements = (2, card) ∷ (3, zeros6) ∷ (4, amount1) ∷ (7, time1) ∷ (11, trace1) ∷ (15, date1) ∷ (32, acq) ∷ (33, id_a) ∷ (39, code_00) ∷ (49, cur) ∷ (90, e90) ∷ [] }
 
 at_a : List Entry

@@ -4,13 +4,11 @@ use Rattle.std.proofs.lemmas.Bool.{and_parts, and_from, or_right, cond_both, not
 use Rattle.std.proofs.lemmas.Option.{same_Some}
 use Rattle.std.specs.Option.{option_or, option_and_then}
 use Rattle.std.specs.List.{list_any}
-use Rattle.network_law.specs.Digits.{Bytes}
-use Rattle.network_law.specs.Messages.{Message, Kind, Group, IsRequest, IsAnswer, IsAdvice, IsReversal, IsAck, IsReply, group, K0100, K0101, K0110, K0120, K0121, K0130, K0400, K0401, K0410, K0420, K0421, K0430, is_request, is_answer, is_reversal, is_04xx, Key, key_of, key_eq, own_key, original_key, part, Identity, identity_of, el, as_kind, code_of, code_94, code_00, code_68, content, Content, content_eq, response, response_kind, made_reversal, made_stand_in, remove_element, card_of}
 use Rattle.net_rows.specs.Network.{Network, issuer, other_end}
 use Rattle.net_rows.specs.declared.row.Issuer.{Issuer}
 use Rattle.network_law.specs.Tables.{is_home, node_id, route_links, is_attached}
 use Rattle.network_law.specs.Traces.{Source, ByLink, Input, Enter, Take, LinkUp, LinkDown, Tick, HostAnswer, NewDate, Output, Put, In, Out, History, Handled, handled, Opening, opening, sent, own_approval, Advice, advices, add_advice, add_made, add_accepted, acked_by, has_identity, reverses_key, late_key, comes_late, failed_key, is_ok_ack, is_advice_group, is_ack_kind, as_kept, ask_key, asked, is_timer, is_link, forwarded, forwards, pending, count_of, known, reversed, home_is, dated, date_of, is_up, ticks_by}
-use Rattle.network_law.specs.Decision.{decide, refusal, reply_output, advice_kind, standin_code, other_content, own_way, first_up, when, strange_original, first_missing, required_entered, entered_kind, same_source}
+use Rattle.network_law.specs.Decision.{decide, refusal, reply_output, sent_kind, standin_code, other_content, own_way, first_up, when, strange_original, first_missing, required_entered, entered_kind, same_source}
 use Rattle.network_law.specs.Runs.{IsFormed, IsIn, Has, Entry, history, Legal, IsRun, Ranks, IsRanked, HasSingleGates, S5}
 use Rattle.network_law.proofs.Emits.{Allowed, forwarding, asking, standing_in, passing, declining, repeating, refusing, acking, sending, posting, Forwarding, Sending, Acking, StandingIn, OpenedFirst, Failed, Reversing, ViaLink, ViaHost, Kept, due, reversing, standing, accepting, handled_as, Issued, decide_keeps, key_eq_refl, key_eq_is, bytes_eq_refl, bytes_eq_is, stays_open, ask_key_asked, is_kept_group, is_link_is, found_is_in, via_ticks, IsGood, from_link, handled_no_timer, Accepts}
 use Rattle.network_law.proofs.Node.{NodeFacts, EntryFacts, Opened, OpensNow, opening_in_cases, legal_facts, facts_in, facts_out, keeps_issuers, answer_no_request, response_is_of_kind, response_no_request, forwarded_has, asked_has, Sent, el_dated, el_remove, put_parts, put_case}
@@ -20,6 +18,17 @@ use Rattle.network_law.proofs.Ends.{legal_at, is_node, not_home, back}
 use Rattle.network_law.proofs.Chain.{rank, highest, RankFalls, falls, same_card, legal_own, chain, step_back, Stands, stands, same_everywhere}
 use Rattle.network_law.proofs.Codes.{legal_codes, no_request_refused, content_eq_refl}
 use Rattle.network_law.proofs.Late.{kept_reversal, handled_in, handled_out}
+use Rattle.network_law.specs.Cards.{Bytes, card_of}
+use Rattle.iso_message.specs.Fields.{Fields, el, as_kind, remove_element, get, set_element}
+use Rattle.iso_message.specs.declared.kind.Kind.{Kind}
+use Rattle.iso_message.specs.Groups.{group, is_request, is_answer, is_reversal, is_04xx, response_kind}
+use Rattle.iso_message.specs.declared.kind.Kind.TheVariants.{K0100, K0101, K0110, K0120, K0121, K0130, K0400, K0401, K0410, K0420, K0421, K0430}
+use Rattle.card_digits.specs.declared.key.Key.{Key}
+use Rattle.iso_message.specs.Keys.{key_of, key_eq, own_key, original_key, part, identity_of, content, Content, content_eq}
+use Rattle.iso_message.specs.declared.keys.AdviceId.{AdviceId}
+use Rattle.iso_message.specs.Codes.{code_of, code_94, code_00, code_68}
+use Rattle.iso_message.specs.Made.{response, made_reversal, made_stand_in, made_from}
+use Rattle.iso_message.specs.declared.kind.Group.TheVariants as groups
 
 none_some : {X : Type 0} (x : X) → None ≡ Some x → ⊥
 none_some x p = cc
@@ -43,7 +52,7 @@ reversal_is_04xx K0420 e = refl
 reversal_is_04xx K0421 e = refl
 reversal_is_04xx K0430 e = refl
 
-pub kept_04xx : (k : Kind) → is_kept_group (group k) ≡ true → is_04xx k ≡ true → group k ≡ IsReversal
+pub kept_04xx : (k : Kind) → is_kept_group (group k) ≡ true → is_04xx k ≡ true → group k ≡ groups.Reversal
 kept_04xx K0100 g e = cc
 kept_04xx K0101 g e = cc
 kept_04xx K0110 g e = cc
@@ -58,22 +67,22 @@ kept_04xx K0421 g e = refl
 kept_04xx K0430 g e = cc
 
 -- the type as it is kept says what it was
-pub as_kept_04xx : (m : Message) → is_04xx (as_kept m).kind ≡ is_04xx m.kind
+pub as_kept_04xx : (m : Fields) → is_04xx (as_kept m).kind ≡ is_04xx m.kind
 as_kept_04xx m = go (is_04xx m.kind) refl
   where
     go : (b : Bool) → is_04xx m.kind ≡ b → is_04xx (as_kept m).kind ≡ is_04xx m.kind
     go true at = rw at refl
     go false at = rw at refl
 
-pub as_kept_content : (m : Message) → content (as_kept m) ≡ content m
+pub as_kept_content : (m : Fields) → content (as_kept m) ≡ content m
 unfolding content el
 as_kept_content m = refl
 
-pub as_kind_content : (k : Kind) (m : Message) → content (as_kind k m) ≡ content m
+pub as_kind_content : (k : Kind) (m : Fields) → content (as_kind k m) ≡ content m
 unfolding content el
 as_kind_content k m = refl
 
-pub as_kind_key : (k : Kind) (m : Message) → is_04xx k ≡ is_04xx m.kind → key_of (as_kind k m) ≡ key_of m
+pub as_kind_key : (k : Kind) (m : Fields) → is_04xx k ≡ is_04xx m.kind → key_of (as_kind k m) ≡ key_of m
 unfolding key_of original_key own_key
 as_kind_key k m e = rw e refl
 
@@ -90,30 +99,30 @@ content_eq_is a b e =
 
 -- where a reversal comes from
 
-pub record MadeHere (t : Network) (h : History) (x : Message) : Type 0 where
+pub record MadeHere (t : Network) (h : History) (x : Fields) : Type 0 where
   pub op : Opening
   pub opens : opening t h (key_of x) ≡ Some op
   pub same : content op.message ≡ content x
 
-pub record TakenFrom (h : History) (x : Message) : Type 0 where
+pub record TakenFrom (h : History) (x : Fields) : Type 0 where
   pub link : ℕ
   pub serial : ℕ
-  pub message : Message
+  pub message : Fields
   pub has : Has (In (Take link serial message)) h
   pub reversal : is_reversal message.kind ≡ true
   pub key : key_of message ≡ key_of x
   pub same : content message ≡ content x
 
-pub record AcceptedHere (t : Network) (n : ℕ) (h : History) (x : Message) : Type 0 where
+pub record AcceptedHere (t : Network) (n : ℕ) (h : History) (x : Fields) : Type 0 where
   pub agrees : (op : Opening) (l : ℕ) → opening t h (key_of x) ≡ Some op → forwarded h (key_of x) ≡ Some l → content op.message ≡ content x
   pub source : TakenFrom h x ⊎ (is_attached t n (key_of x).acquirer ≡ true)
 
-pub record Provenance (t : Network) (n : ℕ) (h : History) (x : Message) : Type 0 where
+pub record Provenance (t : Network) (n : ℕ) (h : History) (x : Fields) : Type 0 where
   pub issued : Issued t x
   pub from : MadeHere t h x ⊎ ((reversed t n h (key_of x) ≡ true) × AcceptedHere t n h x)
 
 -- a message with the same key and content has the same provenance
-provenance_of : (t : Network) (n : ℕ) (h : History) (x y : Message) → key_of x ≡ key_of y → content x ≡ content y → Provenance t n h x → Provenance t n h y
+provenance_of : (t : Network) (n : ℕ) (h : History) (x y : Fields) → key_of x ≡ key_of y → content x ≡ content y → Provenance t n h x → Provenance t n h y
 provenance_of t n h x y k c p = record {
   issued = (p.issued.0, ap (issuer t) (sym (same_card x y c)) ∙ p.issued.1);
   from = ⊎_elim
@@ -136,22 +145,22 @@ when_none true c rest e = absurd (no e)
     no p = cc
 when_none false c rest e = (refl, e)
 
-pub not_strange : (t : Network) (n : ℕ) (h : History) (m : Message) → refusal t n h (Enter m) ≡ None → strange_original m ≡ false
+pub not_strange : (t : Network) (n : ℕ) (h : History) (m : Fields) → refusal t n h (Enter m) ≡ None → strange_original m ≡ false
 unfolding refusal
 not_strange t n h m e =
     let a = when_none (not (entered_kind m.kind)) 4 _ e in
     let b = when_none (first_missing m (required_entered (group m.kind)) || strange_original m) 3 _ a.1 in
     (or_parts (first_missing m (required_entered (group m.kind))) (strange_original m) b.0).1
 
-not_strange_is : (m : Message) → is_04xx m.kind ≡ true → strange_original m ≡ false → part 20 11 (el m 90) ≡ (own_key m).acquirer
+not_strange_is : (m : Fields) → is_04xx m.kind ≡ true → strange_original m ≡ false → part 20 11 (el m 90) ≡ (own_key m).acquirer
 not_strange_is m r e =
     let a : (is_04xx m.kind && not (bytes_eq (part 0 4 (el m 90)) (48 ∷ 49 ∷ 48 ∷ 48 ∷ []) && bytes_eq (part 20 11 (el m 90)) (own_key m).acquirer)) ≡ false = e in
     let b : not (bytes_eq (part 0 4 (el m 90)) (48 ∷ 49 ∷ 48 ∷ 48 ∷ []) && bytes_eq (part 20 11 (el m 90)) (own_key m).acquirer) ≡ false = rw r at a in
     let c = and_parts (bytes_eq (part 0 4 (el m 90)) (48 ∷ 49 ∷ 48 ∷ 48 ∷ [])) (bytes_eq (part 20 11 (el m 90)) (own_key m).acquirer) (not-false _ b) in
     bytes_eq_is (part 20 11 (el m 90)) (own_key m).acquirer c.1
 
-dated_04xx : (date : Bytes) (m : Message) → is_04xx (dated date m).kind ≡ is_04xx m.kind
-unfolding Rattle.network_law.specs.Messages.set_element
+dated_04xx : (date : Bytes) (m : Fields) → is_04xx (dated date m).kind ≡ is_04xx m.kind
+unfolding Rattle.iso_message.specs.Fields.set_element
 dated_04xx date m = go (is_request m.kind) refl
   where
     go : (b : Bool) → is_request m.kind ≡ b → is_04xx (dated date m).kind ≡ is_04xx m.kind
@@ -159,16 +168,16 @@ dated_04xx date m = go (is_request m.kind) refl
     go false at = rw at refl
 
 -- an entered reversal names an acquirer of this node
-pub entered_reversal : (t : Network) (n : ℕ) (h : History) (m : Message) (x : Message) (src : Source) → refusal t n h (Enter m) ≡ None → handled t h (Enter m) ≡ Some (record { message = x; source = src }) → is_04xx x.kind ≡ true → is_attached t n (key_of x).acquirer ≡ true
+pub entered_reversal : (t : Network) (n : ℕ) (h : History) (m : Fields) (x : Fields) (src : Source) → refusal t n h (Enter m) ≡ None → handled t h (Enter m) ≡ Some (record { message = x; source = src }) → is_04xx x.kind ≡ true → is_attached t n (key_of x).acquirer ≡ true
 unfolding handled key_of original_key remove_element
 entered_reversal t n h m x src ok e r =
     let a : dated (date_of t h) (remove_element m 33) ≡ x = ap (λ (z : Handled). z.message) (same_Some _ _ e) in
     let el90 : el x 90 ≡ el m 90 = ap (λ z. el z 90) (sym a) ∙ (el_dated (date_of t h) (remove_element m 33) 90 refl ∙ el_remove m 33 90 refl) in
-    let kind : is_04xx m.kind ≡ true = sym (dated_04xx (date_of t h) (remove_element m 33)) ∙ (ap (λ z. is_04xx (Message.kind z)) a ∙ r) in
+    let kind : is_04xx m.kind ≡ true = sym (dated_04xx (date_of t h) (remove_element m 33)) ∙ (ap (λ z. is_04xx (Fields.kind z)) a ∙ r) in
     let acquirer : part 20 11 (el x 90) ≡ (own_key m).acquirer = ap (part 20 11) el90 ∙ not_strange_is m kind (not_strange t n h m ok) in
     rw r (subst (λ z. is_attached t n z ≡ true) (sym acquirer) (Rattle.network_law.proofs.Node.attached t n h m ok))
 
-reversal_source : (t : Network) (n : ℕ) (past : History) (i : Input) (h : History) (m : Message) (src : Source) → refusal t n past i ≡ None → handled_as t past i m src → is_reversal m.kind ≡ true → Has (In i) h → TakenFrom h m ⊎ (is_attached t n (key_of m).acquirer ≡ true)
+reversal_source : (t : Network) (n : ℕ) (past : History) (i : Input) (h : History) (m : Fields) (src : Source) → refusal t n past i ≡ None → handled_as t past i m src → is_reversal m.kind ≡ true → Has (In i) h → TakenFrom h m ⊎ (is_attached t n (key_of m).acquirer ≡ true)
 unfolding handled
 reversal_source t n past (Enter x) h m src ok e r has = inr (entered_reversal t n past x m src ok e (reversal_is_04xx m.kind r))
 reversal_source t n past (Take l s x) h m src ok e r has =
@@ -189,7 +198,7 @@ AllKnown t n h = (a : Advice) → IsIn a (advices t n h) → is_04xx a.message.k
 pub in_add : (a b : Advice) (as' : List Advice) → IsIn a (add_advice b as') → (b ≡ a) ⊎ IsIn a as'
 in_add a b as' m = cond_both (list_any (has_identity (identity_of b.message)) as') as' (b ∷ as') (λ z. IsIn a z → (b ≡ a) ⊎ IsIn a as') (λ _ m. inr m) (λ _ m. m) m
 
-pub in_made : (a : Advice) (make : Message → Message) (count : ℕ) (o : Option Opening) (as' : List Advice) → IsIn a (add_made make count o as') → ((op : Opening) × (o ≡ Some op) × (a.message ≡ make op.message)) ⊎ IsIn a as'
+pub in_made : (a : Advice) (make : Fields → Fields) (count : ℕ) (o : Option Opening) (as' : List Advice) → IsIn a (add_made make count o as') → ((op : Opening) × (o ≡ Some op) × (a.message ≡ make op.message)) ⊎ IsIn a as'
 in_made a make count None as' m = inr m
 in_made a make count (Some op) as' m = ⊎_elim (λ e. inl (op, refl, ap Advice.message (sym e))) inr (in_add a (record { message = make op.message; count = count; own = true; acked = false }) as' m)
 
@@ -223,7 +232,7 @@ in_acked a i (b ∷ as') m = ⊎_elim (λ e. (b, inl refl, acked_message i b ∙
     acked_own (NewDate d) b = refl
 
 -- a reversal that stands on a link
-pub record SentReversal (t : Network) (n : ℕ) (h : History) (l : ℕ) (x : Message) : Type 0 where
+pub record SentReversal (t : Network) (n : ℕ) (h : History) (l : ℕ) (x : Fields) : Type 0 where
   pub s : Issuer
   pub issued : issuer t (card_of x) ≡ Some s
   pub away : is_home s n ≡ false
@@ -231,16 +240,16 @@ pub record SentReversal (t : Network) (n : ℕ) (h : History) (l : ℕ) (x : Mes
   pub provenance : Provenance t n h x
 
 abbrev pub SentKnown : Network → ℕ → History → Type 0
-SentKnown t n h = (i : Input) (l s : ℕ) (x : Message) → Has (Out i (Put l s x)) h → is_reversal x.kind ≡ true → SentReversal t n h l x
+SentKnown t n h = (i : Input) (l s : ℕ) (x : Fields) → Has (Out i (Put l s x)) h → is_reversal x.kind ≡ true → SentReversal t n h l x
 
 -- more events: what agreed still agrees, unless the key is forwarded only now
 record Extends (t : Network) (h h' : History) (k : Key) : Type 0 where
-  has : (l s : ℕ) (m : Message) → Has (In (Take l s m)) h → Has (In (Take l s m)) h'
+  has : (l s : ℕ) (m : Fields) → Has (In (Take l s m)) h → Has (In (Take l s m)) h'
   reverses : (n : ℕ) → reversed t n h k ≡ true → reversed t n h' k ≡ true
   opens : (op : Opening) → opening t h k ≡ Some op → opening t h' k ≡ Some op
   back : (op : Opening) (l : ℕ) → opening t h' k ≡ Some op → forwarded h' k ≡ Some l → (l' : ℕ) × (opening t h k ≡ Some op) × (forwarded h k ≡ Some l')
 
-extend : (t : Network) (n : ℕ) (h h' : History) (x : Message) → Extends t h h' (key_of x) → Provenance t n h x → Provenance t n h' x
+extend : (t : Network) (n : ℕ) (h h' : History) (x : Fields) → Extends t h h' (key_of x) → Provenance t n h x → Provenance t n h' x
 extend t n h h' x more p = record {
   issued = p.issued;
   from = ⊎_elim
@@ -256,7 +265,7 @@ extend t n h h' x more p = record {
 }
 
 -- what is made here needs no such thing
-extend_made : (t : Network) (n : ℕ) (h h' : History) (x : Message) → ((op : Opening) → opening t h (key_of x) ≡ Some op → opening t h' (key_of x) ≡ Some op) → Issued t x → MadeHere t h x → Provenance t n h' x
+extend_made : (t : Network) (n : ℕ) (h h' : History) (x : Fields) → ((op : Opening) → opening t h (key_of x) ≡ Some op → opening t h' (key_of x) ≡ Some op) → Issued t x → MadeHere t h x → Provenance t n h' x
 extend_made t n h h' x opens issued m = record { issued = issued; from = inl (record { op = m.op; opens = opens m.op m.opens; same = m.same }) }
 
 extends_in : (t : Network) (n : ℕ) (h : History) (i : Input) (k : Key) → NodeFacts t n h → Extends t h (In i ∷ h) k
@@ -291,7 +300,7 @@ extends_out t h i o k not_now = record {
     by None at l fw = absurd (not_now l at (rw at at fw))
 
 -- made reversals
-made_provenance : (t : Network) (n : ℕ) (h : History) (k : Key) (op : Opening) (x : Message) → NodeFacts t n h → opening t h k ≡ Some op → Issued t op.message → x ≡ made_reversal op.message (node_id t n) → Provenance t n h x
+made_provenance : (t : Network) (n : ℕ) (h : History) (k : Key) (op : Opening) (x : Fields) → NodeFacts t n h → opening t h k ≡ Some op → Issued t op.message → x ≡ made_reversal op.message (node_id t n) → Provenance t n h x
 made_provenance t n h k op x f o issued e =
     let w = f.opens k op o in
     let key : key_of x ≡ k = ap key_of e ∙ (made_reversal_key op.message (node_id t n) w.formed.trace w.formed.time w.formed.acquirer w.request ∙ w.key) in
@@ -344,7 +353,7 @@ known_in t n h i form ok f before a m r = ⊎_elim made old (in_made a (λ x. ma
     old : IsIn a (map (acked_by i) (advices t n h)) → Provenance t n (In i ∷ h) a.message
     old q =
         let b = in_acked a i (advices t n h) q in
-        let p : Provenance t n h a.message = subst (λ z. Provenance t n h z) b.2 (before b.0 b.1 (ap (λ z. is_04xx (Message.kind z)) b.2 ∙ r)) in
+        let p : Provenance t n h a.message = subst (λ z. Provenance t n h z) b.2 (before b.0 b.1 (ap (λ z. is_04xx (Fields.kind z)) b.2 ∙ r)) in
         extend t n h (In i ∷ h) a.message (extends_in t n h i (key_of a.message) f) p
 
 sent_in : (t : Network) (n : ℕ) (h : History) (i : Input) → NodeFacts t n h → SentKnown t n h → SentKnown t n (In i ∷ h)
@@ -373,7 +382,7 @@ kept_no_answer K0420 g = refl
 kept_no_answer K0421 g = refl
 kept_no_answer K0430 g = refl
 
-pub advice_04xx : (k : Kind) → is_advice_group (group k) ≡ true → is_04xx k ≡ true → (group k ≡ IsReversal) × (is_reversal k ≡ true)
+pub advice_04xx : (k : Kind) → is_advice_group (group k) ≡ true → is_04xx k ≡ true → (group k ≡ groups.Reversal) × (is_reversal k ≡ true)
 advice_04xx K0100 g e = cc
 advice_04xx K0101 g e = cc
 advice_04xx K0110 g e = cc
@@ -415,39 +424,39 @@ answer_no_ack K0420 e = refl
 answer_no_ack K0421 e = refl
 answer_no_ack K0430 e = cc
 
-pub advice_no_ack : (a b : Bool) → is_ack_kind (group (advice_kind a b)) ≡ false
+pub advice_no_ack : (a b : Bool) → is_ack_kind (group (sent_kind a b)) ≡ false
 advice_no_ack true true = refl
 advice_no_ack true false = refl
 advice_no_ack false true = refl
 advice_no_ack false false = refl
 
-pub ok_ack_parts : (w : Option Message) → is_ok_ack w ≡ true → (y : Message) × (w ≡ Some y) × (is_ack_kind (group y.kind) ≡ true) × (bytes_eq (code_of y) code_00 ≡ true)
+pub ok_ack_parts : (w : Option Fields) → is_ok_ack w ≡ true → (y : Fields) × (w ≡ Some y) × (is_ack_kind (group y.kind) ≡ true) × (bytes_eq (code_of y) code_00 ≡ true)
 ok_ack_parts None e = absurd (not_both false e refl)
 ok_ack_parts (Some y) e = let p = and_parts (is_ack_kind (group y.kind)) (bytes_eq (code_of y) code_00) e in (y, refl, p.0, p.1)
 
 -- what is acknowledged with 00 is good
-pub ack_case : (t : Network) (n : ℕ) (past : History) (i : Input) (h : History) (o : Output) → EntryFacts t n past i h → Allowed t n past i h o → is_ok_ack (sent o) ≡ true → (m : Message) × (src : Source) × handled_as t past i m src × IsGood t past m
+pub ack_case : (t : Network) (n : ℕ) (past : History) (i : Input) (h : History) (o : Output) → EntryFacts t n past i h → Allowed t n past i h o → is_ok_ack (sent o) ≡ true → (m : Fields) × (src : Source) × handled_as t past i m src × IsGood t past m
 ack_case t n past i h o facts allowed e = go allowed
   where
-    y : (y : Message) × (sent o ≡ Some y) × (is_ack_kind (group y.kind) ≡ true) × (bytes_eq (code_of y) code_00 ≡ true)
+    y : (y : Fields) × (sent o ≡ Some y) × (is_ack_kind (group y.kind) ≡ true) × (bytes_eq (code_of y) code_00 ≡ true)
     y = ok_ack_parts (sent o) e
 
     ends : {A : Type 0} → is_ack_kind (group y.0.kind) ≡ false → A
     ends f = absurd (not_both (is_ack_kind (group y.0.kind)) y.2 f)
 
-    of_request : {A : Type 0} (m : Message) (c : Bytes) → response m c ≡ y.0 → is_request m.kind ≡ true → A
-    of_request m c same r = ends (ap (λ z. is_ack_kind (group (Message.kind z))) (sym same) ∙ (ap (λ z. is_ack_kind (group z)) (response_is_of_kind m c) ∙ request_no_ack m.kind r))
+    of_request : {A : Type 0} (m : Fields) (c : Bytes) → response m c ≡ y.0 → is_request m.kind ≡ true → A
+    of_request m c same r = ends (ap (λ z. is_ack_kind (group (Fields.kind z))) (sym same) ∙ (ap (λ z. is_ack_kind (group z)) (response_is_of_kind m c) ∙ request_no_ack m.kind r))
 
-    go : Allowed t n past i h o → (m : Message) × (src : Source) × handled_as t past i m src × IsGood t past m
-    go (forwarding f) = ends (ap (λ z. is_ack_kind (group (Message.kind z))) (sym (same_Some (as_kind K0100 f.message) y.0 (ap sent (sym f.is) ∙ y.1))))
+    go : Allowed t n past i h o → (m : Fields) × (src : Source) × handled_as t past i m src × IsGood t past m
+    go (forwarding f) = ends (ap (λ z. is_ack_kind (group (Fields.kind z))) (sym (same_Some (as_kind K0100 f.message) y.0 (ap sent (sym f.is) ∙ y.1))))
     go (asking f) = absurd (none_some y.0 (ap sent (sym f.is) ∙ y.1))
     go (standing_in f) = of_request f.op.message _ (reply_message f.op.source _ h o y.0 f.is y.1) (facts.node.opens f.opens.key f.op (facts.opening_is f.opens.key ∙ f.opens.is)).request
     go (passing f) = of_request f.op.message f.code (reply_message f.op.source _ h o y.0 f.is y.1) (facts.node.opens f.key f.op (facts.opening_is f.key ∙ stays_open t past i f.key f.op f.opens)).request
     go (declining f) = of_request f.op.message f.code (reply_message f.op.source _ h o y.0 f.is y.1) (facts.node.opens f.opens.key f.op (facts.opening_is f.opens.key ∙ f.opens.is)).request
-    go (repeating f) = ends (ap (λ z. is_ack_kind (group (Message.kind z))) (sym (reply_message f.source f.before h o y.0 f.is y.1)) ∙ answer_no_ack f.before.kind ((Rattle.network_law.proofs.Node.answer_is past f.key f.before f.answered).0))
+    go (repeating f) = ends (ap (λ z. is_ack_kind (group (Fields.kind z))) (sym (reply_message f.source f.before h o y.0 f.is y.1)) ∙ answer_no_ack f.before.kind ((Rattle.network_law.proofs.Node.answer_is past f.key f.before f.answered).0))
     go (refusing f) = absurd (not_both (bytes_eq code_94 code_00) (ap (λ c. bytes_eq c code_00) (sym (Rattle.network_law.proofs.Used.response_code f.message code_94 y.0 (reply_message f.source _ h o y.0 f.is y.1))) ∙ y.3) refl)
     go (acking f) = (f.message, f.source, f.is_handled, f.good (ap (λ c. bytes_eq c code_00) (sym (Rattle.network_law.proofs.Used.response_code f.message f.code y.0 (reply_message f.source _ h o y.0 f.is y.1))) ∙ y.3))
-    go (sending f) = ends (ap (λ z. is_ack_kind (group (Message.kind z))) (sym (same_Some (as_kind (advice_kind (is_04xx f.message.kind) f.again) f.message) y.0 (ap sent (sym f.is) ∙ y.1))) ∙ advice_no_ack (is_04xx f.message.kind) f.again)
+    go (sending f) = ends (ap (λ z. is_ack_kind (group (Fields.kind z))) (sym (same_Some (as_kind (sent_kind (is_04xx f.message.kind) f.again) f.message) y.0 (ap sent (sym f.is) ∙ y.1))) ∙ advice_no_ack (is_04xx f.message.kind) f.again)
     go (posting f) = absurd (none_some y.0 (ap sent (sym f.is) ∙ y.1))
 
 -- a reversal that is good, at its node
@@ -455,7 +464,7 @@ record GoodHere (t : Network) (n : ℕ) (past : History) (i : Input) (h : Histor
   entry : EntryFacts t n past i h
   input : Has (In i) h
 
-good_accepted : (t : Network) (n : ℕ) (past : History) (i : Input) (h : History) (m x : Message) (src : Source) → refusal t n past i ≡ None → GoodHere t n past i h → handled_as t past i m src → is_reversal m.kind ≡ true → IsGood t past m → key_of x ≡ key_of m → content x ≡ content m → reversed t n h (key_of x) ≡ true → Provenance t n h x
+good_accepted : (t : Network) (n : ℕ) (past : History) (i : Input) (h : History) (m x : Fields) (src : Source) → refusal t n past i ≡ None → GoodHere t n past i h → handled_as t past i m src → is_reversal m.kind ≡ true → IsGood t past m → key_of x ≡ key_of m → content x ≡ content m → reversed t n h (key_of x) ≡ true → Provenance t n h x
 good_accepted t n past i h m x src ok here e r good key same rev = record {
   issued = issued_of (issuer t (card_of m)) refl good.issued;
   from = inr (rev, record { agrees = λ op l o f. agrees op (ap (opening t h) (sym key) ∙ o); source = ⊎_elim (λ s. inl (record { link = s.link; serial = s.serial; message = s.message; has = s.has; reversal = s.reversal; key = s.key ∙ sym key; same = s.same ∙ sym same })) (λ g. inr (ap (λ z. is_attached t n (Key.acquirer z)) key ∙ g)) (reversal_source t n past i h m src ok e r (GoodHere.input here)) });
@@ -474,10 +483,10 @@ good_accepted t n past i h m x src ok here e r good key same rev = record {
         now : OpensNow t past i (key_of m) op → content op.message ≡ content x
         now v =
             let q : op.message ≡ m = ap (λ (z : Handled). z.message) (same_Some _ _ (sym v.is_handled ∙ e)) in
-            absurd (not_both (is_04xx m.kind) (reversal_is_04xx m.kind r) (Rattle.network_law.proofs.Node.request_no_04xx m.kind (ap (λ z. is_request (Message.kind z)) (sym q) ∙ v.request)))
+            absurd (not_both (is_04xx m.kind) (reversal_is_04xx m.kind r) (Rattle.network_law.proofs.Node.request_no_04xx m.kind (ap (λ z. is_request (Fields.kind z)) (sym q) ∙ v.request)))
 
-pub made_stand_in_kind : (m : Message) (id : Bytes) → (made_stand_in m id).kind ≡ K0120
-unfolding made_stand_in Rattle.network_law.specs.Messages.made_from Rattle.network_law.specs.Messages.set_element
+pub made_stand_in_kind : (m : Fields) (id : Bytes) → (made_stand_in m id).kind ≡ K0120
+unfolding made_stand_in Rattle.iso_message.specs.Made.made_from Rattle.iso_message.specs.Fields.set_element
 made_stand_in_kind m id = refl
 
 pub any_in : {X : Type 0} (p : X → Bool) (x : X) (xs : List X) → IsIn x xs → p x ≡ true → list_any p xs ≡ true
@@ -492,7 +501,7 @@ reversed_back : (t : Network) (n : ℕ) (past : History) (i : Input) (k : Key) �
 unfolding reversed advices
 reversed_back t n past i k r = acked_back (advices t n past) (made_back (λ m. made_reversal m (node_id t n)) (count_of past) (option_and_then (opening t past) (late_key past (advices t n past) i)) (map (acked_by i) (advices t n past)) r)
   where
-    made_back : (make : Message → Message) (count : ℕ) (o : Option Opening) (as' : List Advice) → list_any (accepted_of k) (add_made make count o as') ≡ true → list_any (accepted_of k) as' ≡ true
+    made_back : (make : Fields → Fields) (count : ℕ) (o : Option Opening) (as' : List Advice) → list_any (accepted_of k) (add_made make count o as') ≡ true → list_any (accepted_of k) as' ≡ true
     made_back make count None as' e = e
     made_back make count (Some op) as' e = cond_both (list_any (has_identity (identity_of (make op.message))) as') as' (record { message = make op.message; count = count; own = true; acked = false } ∷ as') (λ z. list_any (accepted_of k) z ≡ true → list_any (accepted_of k) as' ≡ true) (λ _ x. x) (λ _ x. x) e
 
@@ -517,7 +526,7 @@ record Through (t : Network) (n : ℕ) (past : History) (i : Input) (h : History
   entry : EntryFacts t n past i h
   input : Has (In i) h
   handled_same : handled t h i ≡ handled t past i
-  past_known : (x : Message) → Provenance t n past x → Provenance t n h x
+  past_known : (x : Fields) → Provenance t n past x → Provenance t n h x
   all_known : AllKnown t n h
   sent_known : SentKnown t n h
 
@@ -527,18 +536,18 @@ pub quiet_out : (t : Network) (n : ℕ) (i : Input) (o : Output) (h : History) �
 unfolding advices
 quiet_out t n i o h a b = rw (a, b) refl
 
-pub no_failed : (t : Network) (h : History) (i : Input) (w : Option Message) → is_timer i ≡ false → failed_key t h i w ≡ None
+pub no_failed : (t : Network) (h : History) (i : Input) (w : Option Fields) → is_timer i ≡ false → failed_key t h i w ≡ None
 no_failed t h i None e = refl
 no_failed t h i (Some y) e = rw e refl
 
-pub no_own : (h : History) (i : Input) (o : Output) (y : Message) → sent o ≡ Some y → (is_answer y.kind && bytes_eq (code_of y) code_00) ≡ false → own_approval h i o ≡ None
+pub no_own : (h : History) (i : Input) (o : Output) (y : Fields) → sent o ≡ Some y → (is_answer y.kind && bytes_eq (code_of y) code_00) ≡ false → own_approval h i o ≡ None
 no_own h i o y e f = rw (e, f) refl
 
-pub late_none : (t : Network) (past : History) (as' : List Advice) (i : Input) (m : Message) (src : Source) → handled_as t past i m src → is_answer m.kind ≡ false → late_key past as' i ≡ None
+pub late_none : (t : Network) (past : History) (as' : List Advice) (i : Input) (m : Fields) (src : Source) → handled_as t past i m src → is_answer m.kind ≡ false → late_key past as' i ≡ None
 unfolding handled
 late_none t past as' (Take l s x) m src e f =
     let same : x ≡ m = ap (λ (z : Handled). z.message) (same_Some _ _ e) in
-    let g : is_answer x.kind ≡ false = ap (λ z. is_answer (Message.kind z)) same ∙ f in
+    let g : is_answer x.kind ≡ false = ap (λ z. is_answer (Fields.kind z)) same ∙ f in
     rw g refl
 late_none t past as' (Enter x) m src e f = refl
 late_none t past as' (LinkUp l) m src e f = refl
@@ -547,7 +556,7 @@ late_none t past as' Tick m src e f = refl
 late_none t past as' (HostAnswer a c) m src e f = absurd (none_some _ e)
 late_none t past as' (NewDate d) m src e f = refl
 
-pub identity_acked : (id : Identity) (i : Input) (as' : List Advice) → list_any (has_identity id) (map (acked_by i) as') ≡ list_any (has_identity id) as'
+pub identity_acked : (id : AdviceId) (i : Input) (as' : List Advice) → list_any (has_identity id) (map (acked_by i) as') ≡ list_any (has_identity id) as'
 identity_acked id i [] = refl
 identity_acked id i (a ∷ as') = ap (λ b. b || list_any (has_identity id) (map (acked_by i) as')) (one i a) ∙ ap (λ b. has_identity id a || b) (identity_acked id i as')
   where
@@ -564,29 +573,29 @@ pub advices_in : (t : Network) (n : ℕ) (past : History) (i : Input) → late_k
 unfolding advices
 advices_in t n past i e = rw e refl
 
-identity_kept : (m : Message) → group m.kind ≡ IsReversal → identity_of (as_kept m) ≡ identity_of m
-unfolding identity_of Rattle.network_law.specs.Messages.get
+identity_kept : (m : Fields) → group m.kind ≡ groups.Reversal → identity_of (as_kept m) ≡ identity_of m
+unfolding identity_of Rattle.iso_message.specs.Fields.get
 identity_kept m g =
     let a = as_kept_04xx m in
     let b = (kept_reversal m g).1 in
-    λ j. record { reverses = a j; key = b j; maker = Rattle.network_law.specs.Messages.padded_or_zeros (Rattle.network_law.specs.Messages.get m 33) }
+    λ j. record { kind = Rattle.iso_message.specs.Keys.advice_kind (a j); key = b j; forwarder = Rattle.iso_message.specs.Keys.padded_or_zeros (Rattle.iso_message.specs.Fields.get m 33) }
 
 -- an accepted reversal is marked when its acknowledgement is put out
-reversed_now : (t : Network) (n : ℕ) (past : History) (i : Input) (h : History) (x : Message) → Accepts t n past i h x → is_04xx x.kind ≡ true → reversed t n h (key_of x) ≡ true
+reversed_now : (t : Network) (n : ℕ) (past : History) (i : Input) (h : History) (x : Fields) → Accepts t n past i h x → is_04xx x.kind ≡ true → reversed t n h (key_of x) ≡ true
 unfolding reversed known
 reversed_now t n past i h x a r =
     rw a.at (subst (λ z. list_any (accepted_of (key_of x)) z ≡ true) (sym out) added)
   where
-    m : Message
+    m : Fields
     m = a.message
 
     ro : Output
     ro = reply_output a.source (response a.message code_00) a.before
 
     r0 : is_04xx a.message.kind ≡ true
-    r0 = sym (as_kept_04xx a.message) ∙ (ap (λ z. is_04xx (Message.kind z)) (sym a.is) ∙ r)
+    r0 = sym (as_kept_04xx a.message) ∙ (ap (λ z. is_04xx (Fields.kind z)) (sym a.is) ∙ r)
 
-    g : group a.message.kind ≡ IsReversal
+    g : group a.message.kind ≡ groups.Reversal
     g = kept_04xx a.message.kind a.kept_group r0
 
     no_timer : is_timer i ≡ false
@@ -648,7 +657,7 @@ reversed_now t n past i h x a r =
 
 -- what was known stays so, whatever is put out
 module _ (t : Network) (n : ℕ) (past : History) (i : Input) (ok : refusal t n past i ≡ None) (facts : NodeFacts t n past) (h : History) (o : Output) (q : Through t n past i h) (allowed : Allowed t n past i h o) where
-  keep_provenance : (x : Message) → Provenance t n h x → Provenance t n (Out i o ∷ h) x
+  keep_provenance : (x : Fields) → Provenance t n h x → Provenance t n (Out i o ∷ h) x
   unfolding opening
   keep_provenance x p = ⊎_elim made accepted p.from
     where
@@ -674,8 +683,8 @@ module _ (t : Network) (n : ℕ) (past : History) (i : Input) (ok : refusal t n 
       ends : {A : Type 0} (b : Bool) → b ≡ true → b ≡ false → A
       ends b p r = absurd (not_both b p r)
 
-      by_case : (y : Message) → sent o ≡ Some y → is_timer i ≡ true → is_answer y.kind ≡ true → key_of y ≡ k → Allowed t n past i h o → Issued t op.message
-      by_case y is timer ans key (forwarding f) = ends (is_answer y.kind) ans (ap (λ z. is_answer (Message.kind z)) (sym (same_Some (as_kind K0100 f.message) y (ap sent (sym f.is) ∙ is))))
+      by_case : (y : Fields) → sent o ≡ Some y → is_timer i ≡ true → is_answer y.kind ≡ true → key_of y ≡ k → Allowed t n past i h o → Issued t op.message
+      by_case y is timer ans key (forwarding f) = ends (is_answer y.kind) ans (ap (λ z. is_answer (Fields.kind z)) (sym (same_Some (as_kind K0100 f.message) y (ap sent (sym f.is) ∙ is))))
       by_case y is timer ans key (asking f) = absurd (none_some y (ap sent (sym f.is) ∙ is))
       by_case y is timer ans key (standing_in f) =
           let now : opening t h f.opens.key ≡ Some f.op = (Through.entry q).opening_is f.opens.key ∙ f.opens.is in
@@ -689,17 +698,17 @@ module _ (t : Network) (n : ℕ) (past : History) (i : Input) (ok : refusal t n 
       by_case y is timer ans key (repeating f) = ends (is_timer i) timer f.no_timer
       by_case y is timer ans key (refusing f) = ends (is_timer i) timer (handled_no_timer t past i f.message f.source f.is_handled)
       by_case y is timer ans key (acking f) = ends (is_timer i) timer (handled_no_timer t past i f.message f.source f.is_handled)
-      by_case y is timer ans key (sending f) = ends (is_answer y.kind) ans (ap (λ z. is_answer (Message.kind z)) (sym (same_Some (as_kind (advice_kind (is_04xx f.message.kind) f.again) f.message) y (ap sent (sym f.is) ∙ is))) ∙ Rattle.network_law.proofs.Used.advice_no_answer (is_04xx f.message.kind) f.again)
+      by_case y is timer ans key (sending f) = ends (is_answer y.kind) ans (ap (λ z. is_answer (Fields.kind z)) (sym (same_Some (as_kind (sent_kind (is_04xx f.message.kind) f.again) f.message) y (ap sent (sym f.is) ∙ is))) ∙ Rattle.network_law.proofs.Used.advice_no_answer (is_04xx f.message.kind) f.again)
       by_case y is timer ans key (posting f) = absurd (none_some y (ap sent (sym f.is) ∙ is))
 
-      by_test : (y : Message) → sent o ≡ Some y → (b : Bool) → (is_timer i && is_answer y.kind && pending t h (key_of y)) ≡ b → cond (is_timer i && is_answer y.kind && pending t h (key_of y)) (Some (key_of y)) None ≡ Some k → Issued t op.message
+      by_test : (y : Fields) → sent o ≡ Some y → (b : Bool) → (is_timer i && is_answer y.kind && pending t h (key_of y)) ≡ b → cond (is_timer i && is_answer y.kind && pending t h (key_of y)) (Some (key_of y)) None ≡ Some k → Issued t op.message
       by_test y is true at e =
           let p = and_parts (is_timer i && is_answer y.kind) (pending t h (key_of y)) at in
           let r = and_parts (is_timer i) (is_answer y.kind) p.0 in
           by_case y is r.0 r.1 (same_Some _ _ (rw at at e)) allowed
       by_test y is false at e = absurd (none_some k (rw at at e))
 
-      by_message : (w : Option Message) → sent o ≡ w → failed_key t h i (sent o) ≡ Some k → Issued t op.message
+      by_message : (w : Option Fields) → sent o ≡ w → failed_key t h i (sent o) ≡ Some k → Issued t op.message
       by_message None is e = absurd (none_some k (rw is at e))
       by_message (Some y) is e = by_test y is (is_timer i && is_answer y.kind && pending t h (key_of y)) refl (rw is at e)
 
@@ -716,15 +725,15 @@ module _ (t : Network) (n : ℕ) (past : History) (i : Input) (ok : refusal t n 
           keep_provenance a.message (made_provenance t n h k.0 p.0 a.message (Through.entry q).node k.2 (failed_issued k.0 p.0 k.1 k.2) p.2)
 
       stood : (op : Opening) × (option_and_then (opening t h) (own_approval h i o) ≡ Some op) × (a.message ≡ made_stand_in op.message (node_id t n)) → Provenance t n (Out i o ∷ h) a.message
-      stood p = absurd (not_both (is_04xx a.message.kind) r (ap (λ z. is_04xx (Message.kind z)) p.2 ∙ ap is_04xx (made_stand_in_kind p.0.message (node_id t n))))
+      stood p = absurd (not_both (is_04xx a.message.kind) r (ap (λ z. is_04xx (Fields.kind z)) p.2 ∙ ap is_04xx (made_stand_in_kind p.0.message (node_id t n))))
 
       accepted : (x : Handled) × (is_ok_ack (sent o) ≡ true) × (handled t h i ≡ Some x) × (is_advice_group (group x.message.kind) ≡ true) × (a.message ≡ as_kept x.message) × (a.own ≡ false) → Provenance t n (Out i o ∷ h) a.message
       accepted p =
           let c = ack_case t n past i h o (Through.entry q) allowed p.1 in
           let same : p.0.message ≡ c.0 = ap (λ (z : Handled). z.message) (same_Some _ _ (sym p.2 ∙ (Through.handled_same q ∙ c.2))) in
-          let r0 : is_04xx p.0.message.kind ≡ true = sym (as_kept_04xx p.0.message) ∙ (ap (λ z. is_04xx (Message.kind z)) (sym p.4) ∙ r) in
+          let r0 : is_04xx p.0.message.kind ≡ true = sym (as_kept_04xx p.0.message) ∙ (ap (λ z. is_04xx (Fields.kind z)) (sym p.4) ∙ r) in
           let g = advice_04xx p.0.message.kind p.3 r0 in
-          let rev : is_reversal c.0.kind ≡ true = ap (λ z. is_reversal (Message.kind z)) (sym same) ∙ g.1 in
+          let rev : is_reversal c.0.kind ≡ true = ap (λ z. is_reversal (Fields.kind z)) (sym same) ∙ g.1 in
           let key : key_of a.message ≡ key_of c.0 = ap key_of p.4 ∙ ((kept_reversal p.0.message g.0).1 ∙ ap key_of same) in
           let content_same : content a.message ≡ content c.0 = ap content p.4 ∙ (as_kept_content p.0.message ∙ ap content same) in
           let is_rev : accepted_of (key_of a.message) a ≡ true = and_from (not a.own) (reverses_key (key_of a.message) a) (ap not p.5) (and_from (is_04xx a.message.kind) (key_eq (key_of a.message) (key_of a.message)) r (key_eq_refl (key_of a.message))) in
@@ -760,13 +769,13 @@ answer_no_reversal K0420 e = cc
 answer_no_reversal K0421 e = cc
 answer_no_reversal K0430 e = cc
 
-advice_reverses : (a b : Bool) → is_reversal (advice_kind a b) ≡ true → (a ≡ true) × (is_04xx (advice_kind a b) ≡ true)
+advice_reverses : (a b : Bool) → is_reversal (sent_kind a b) ≡ true → (a ≡ true) × (is_04xx (sent_kind a b) ≡ true)
 advice_reverses true true e = (refl, refl)
 advice_reverses true false e = (refl, refl)
 advice_reverses false true e = cc
 advice_reverses false false e = cc
 
-reversal_case : (t : Network) (n : ℕ) (past : History) (i : Input) (h : History) (o : Output) (l s : ℕ) (x : Message) → Allowed t n past i h o → o ≡ Put l s x → is_reversal x.kind ≡ true → Sending t n past i h o
+reversal_case : (t : Network) (n : ℕ) (past : History) (i : Input) (h : History) (o : Output) (l s : ℕ) (x : Fields) → Allowed t n past i h o → o ≡ Put l s x → is_reversal x.kind ≡ true → Sending t n past i h o
 reversal_case t n past i h o l s x allowed e r = go allowed
   where
     is_sent : sent o ≡ Some x
@@ -775,16 +784,16 @@ reversal_case t n past i h o l s x allowed e r = go allowed
     ends : {A : Type 0} → is_reversal x.kind ≡ false → A
     ends f = absurd (not_both (is_reversal x.kind) r f)
 
-    of_response : {A : Type 0} (src : Source) (m : Message) (c : Bytes) → o ≡ reply_output src (response m c) h → A
-    of_response src m c is = ends (ap (λ z. is_reversal (Message.kind z)) (sym (reply_message src (response m c) h o x is is_sent)) ∙ (ap is_reversal (response_is_of_kind m c) ∙ response_no_reversal m.kind))
+    of_response : {A : Type 0} (src : Source) (m : Fields) (c : Bytes) → o ≡ reply_output src (response m c) h → A
+    of_response src m c is = ends (ap (λ z. is_reversal (Fields.kind z)) (sym (reply_message src (response m c) h o x is is_sent)) ∙ (ap is_reversal (response_is_of_kind m c) ∙ response_no_reversal m.kind))
 
     go : Allowed t n past i h o → Sending t n past i h o
-    go (forwarding f) = ends (ap (λ z. is_reversal (Message.kind z)) (sym (same_Some (as_kind K0100 f.message) x (ap sent (sym f.is) ∙ is_sent))))
+    go (forwarding f) = ends (ap (λ z. is_reversal (Fields.kind z)) (sym (same_Some (as_kind K0100 f.message) x (ap sent (sym f.is) ∙ is_sent))))
     go (asking f) = absurd (none_some x (ap sent (sym f.is) ∙ is_sent))
     go (standing_in f) = of_response f.op.source f.op.message (standin_code t n h f.op.message) f.is
     go (passing f) = of_response f.op.source f.op.message f.code f.is
     go (declining f) = of_response f.op.source f.op.message f.code f.is
-    go (repeating f) = ends (ap (λ z. is_reversal (Message.kind z)) (sym (reply_message f.source f.before h o x f.is is_sent)) ∙ answer_no_reversal f.before.kind ((Rattle.network_law.proofs.Node.answer_is past f.key f.before f.answered).0))
+    go (repeating f) = ends (ap (λ z. is_reversal (Fields.kind z)) (sym (reply_message f.source f.before h o x f.is is_sent)) ∙ answer_no_reversal f.before.kind ((Rattle.network_law.proofs.Node.answer_is past f.key f.before f.answered).0))
     go (refusing f) = of_response f.source f.message code_94 f.is
     go (acking f) = of_response f.source f.message f.code f.is
     go (sending f) = f
@@ -795,18 +804,18 @@ home_is_not n o s e f = ap (home_is n) (sym e) ∙ f
 
 module _ (t : Network) (n : ℕ) (past : History) (i : Input) (ok : refusal t n past i ≡ None) (facts : NodeFacts t n past) (before : AllKnown t n past) (h : History) (o : Output) (q : Through t n past i h) (allowed : Allowed t n past i h o) where
   -- the provenance of what is sent
-  sent_provenance : (x : Message) → Kept t n past i h x → is_04xx x.kind ≡ true → Provenance t n h x
-  sent_provenance x (due a m e) r = Through.past_known q x (subst (Provenance t n past) (sym e) (before a m (ap (λ z. is_04xx (Message.kind z)) (sym e) ∙ r)))
+  sent_provenance : (x : Fields) → Kept t n past i h x → is_04xx x.kind ≡ true → Provenance t n h x
+  sent_provenance x (due a m e) r = Through.past_known q x (subst (Provenance t n past) (sym e) (before a m (ap (λ z. is_04xx (Fields.kind z)) (sym e) ∙ r)))
   sent_provenance x (reversing key op o1 ticks e) r = Through.past_known q x (made_provenance t n past key op x facts o1 (keeps_issuers t n past facts key op o1 ticks) e)
-  sent_provenance x (standing key op o1 s si e) r = absurd (not_both (is_04xx x.kind) r (ap (λ z. is_04xx (Message.kind z)) e ∙ ap is_04xx (made_stand_in_kind op.message (node_id t n))))
+  sent_provenance x (standing key op o1 s si e) r = absurd (not_both (is_04xx x.kind) r (ap (λ z. is_04xx (Fields.kind z)) e ∙ ap is_04xx (made_stand_in_kind op.message (node_id t n))))
   sent_provenance x (accepting a) r =
-      let r0 : is_04xx a.message.kind ≡ true = sym (as_kept_04xx a.message) ∙ (ap (λ z. is_04xx (Message.kind z)) (sym a.is) ∙ r) in
-      let g : group a.message.kind ≡ IsReversal = kept_04xx a.message.kind a.kept_group r0 in
+      let r0 : is_04xx a.message.kind ≡ true = sym (as_kept_04xx a.message) ∙ (ap (λ z. is_04xx (Fields.kind z)) (sym a.is) ∙ r) in
+      let g : group a.message.kind ≡ groups.Reversal = kept_04xx a.message.kind a.kept_group r0 in
       let rev : is_reversal a.message.kind ≡ true = Rattle.network_law.proofs.Emits.reversal_from_group a.message.kind g in
       good_accepted t n past i h a.message x a.source ok (record { entry = Through.entry q; input = Through.input q }) a.is_handled rev (record { issued = a.issued; agrees = a.agrees }) (ap key_of a.is ∙ (kept_reversal a.message g).1) (ap content a.is ∙ as_kept_content a.message) (reversed_now t n past i h x a r)
 
   -- the link is one of the route of the reversal's card
-  way_on_route : (x : Message) (l : ℕ) → Provenance t n h x → own_way t n h x (forwarded h (key_of x)) ≡ Some l → IsIn l (route_links t n (card_of x))
+  way_on_route : (x : Fields) (l : ℕ) → Provenance t n h x → own_way t n h x (forwarded h (key_of x)) ≡ Some l → IsIn l (route_links t n (card_of x))
   way_on_route x l p e = go (forwarded h (key_of x)) refl e
     where
       first : first_up h (route_links t n (card_of x)) ≡ Some l → IsIn l (route_links t n (card_of x))
@@ -836,9 +845,9 @@ module _ (t : Network) (n : ℕ) (past : History) (i : Input) (ok : refusal t n 
           let is : o ≡ Put l s x = Rattle.network_law.proofs.Codes.same_out i j o (Put l s x) e in
           let f = reversal_case t n past i h o l s x allowed is r in
           let p = put_parts (sym f.is ∙ is) in
-          let a = advice_reverses (is_04xx f.message.kind) f.again (ap (λ z. is_reversal (Message.kind z)) p.2 ∙ r) in
-          let key : key_of f.message ≡ key_of x = sym (as_kind_key (advice_kind (is_04xx f.message.kind) f.again) f.message (a.1 ∙ sym a.0)) ∙ ap key_of p.2 in
-          let same : content f.message ≡ content x = sym (as_kind_content (advice_kind (is_04xx f.message.kind) f.again) f.message) ∙ ap content p.2 in
+          let a = advice_reverses (is_04xx f.message.kind) f.again (ap (λ z. is_reversal (Fields.kind z)) p.2 ∙ r) in
+          let key : key_of f.message ≡ key_of x = sym (as_kind_key (sent_kind (is_04xx f.message.kind) f.again) f.message (a.1 ∙ sym a.0)) ∙ ap key_of p.2 in
+          let same : content f.message ≡ content x = sym (as_kind_content (sent_kind (is_04xx f.message.kind) f.again) f.message) ∙ ap content p.2 in
           let prov0 : Provenance t n h f.message = sent_provenance f.message f.kept a.0 in
           let card : card_of f.message ≡ card_of x = same_card f.message x same in
           let prov : Provenance t n (Out i o ∷ h) x = provenance_of t n (Out i o ∷ h) f.message x key same (keep_provenance t n past i ok facts h o q allowed f.message prov0) in
@@ -887,26 +896,26 @@ legal_sent t n es l = Both.puts (legal_both t n es l)
 
 -- a reversal is traced back to where it was made, or to its gate
 
-pub record Traced (t : Network) (ranks : Ranks) (traces : ℕ → List Entry) (a : ℕ) (x : Message) : Type 0 where
+pub record Traced (t : Network) (ranks : Ranks) (traces : ℕ → List Entry) (a : ℕ) (x : Fields) : Type 0 where
   pub node : ℕ
   pub above : rank ranks (card_of x) a ≤ rank ranks (card_of x) node
   pub made : ((op : Opening) × (opening t (history (traces node)) (key_of x) ≡ Some op) × (content op.message ≡ content x))
       ⊎ ((is_attached t node (key_of x).acquirer ≡ true) × ((op : Opening) (l : ℕ) → opening t (history (traces node)) (key_of x) ≡ Some op → forwarded (history (traces node)) (key_of x) ≡ Some l → content op.message ≡ content x))
 
 module _ (t : Network) (ranks : Ranks) (traces : ℕ → List Entry) (run : IsRun t traces) (ranked : IsRanked t ranks) (gates : HasSingleGates t) where
-  sent_at : (a l s : ℕ) (i : Input) (x : Message) → Has (Out i (Put l s x)) (history (traces a)) → is_reversal x.kind ≡ true → SentReversal t a (history (traces a)) l x
+  sent_at : (a l s : ℕ) (i : Input) (x : Fields) → Has (Out i (Put l s x)) (history (traces a)) → is_reversal x.kind ≡ true → SentReversal t a (history (traces a)) l x
   sent_at a l s i x has r = legal_sent t a (traces a) (legal_at run a) i l s x has r
 
-  reversal_falls : (a l : ℕ) (x : Message) → SentReversal t a (history (traces a)) l x → a < length t.nodes → RankFalls ranks (card_of x) (other_end t a l) a
+  reversal_falls : (a l : ℕ) (x : Fields) → SentReversal t a (history (traces a)) l x → a < length t.nodes → RankFalls ranks (card_of x) (other_end t a l) a
   reversal_falls a l x s less = falls ranks (card_of x) (other_end t a l) a (ranked (card_of x) s.s a l s.issued less (not_home s.s a s.away) s.on_route)
 
   -- the node that sent what was taken
-  record Sender (n : ℕ) (l : ℕ) (x : Message) : Type 0 where
+  record Sender (n : ℕ) (l : ℕ) (x : Fields) : Type 0 where
     sent : SentReversal t (other_end t n l) (history (traces (other_end t n l))) l x
     less : rank ranks (card_of x) n < rank ranks (card_of x) (other_end t n l)
     bound : rank ranks (card_of x) (other_end t n l) ≤ highest
 
-  sender : (n l s : ℕ) (x : Message) → Has (In (Take l s x)) (history (traces n)) → is_reversal x.kind ≡ true → Sender n l x
+  sender : (n l s : ℕ) (x : Fields) → Has (In (Take l s x)) (history (traces n)) → is_reversal x.kind ≡ true → Sender n l x
   sender n l s x has r =
       let put = run.linked n l s x has in
       let back' = back t l n (legal_own t n (traces n) (legal_at run n) l s x has) in
@@ -914,7 +923,7 @@ module _ (t : Network) (ranks : Ranks) (traces : ℕ → List Entry) (run : IsRu
       let f = reversal_falls (other_end t n l) l x sent' (is_node run (other_end t n l) (Out put.0 (Put l s x)) put.1) in
       record { sent = sent'; less = subst (λ z. rank ranks (card_of x) z < rank ranks (card_of x) (other_end t n l)) back' f.less; bound = f.bound }
 
-  traced : (fuel a : ℕ) (x : Message) → Provenance t a (history (traces a)) x → highest < rank ranks (card_of x) a + fuel → Traced t ranks traces a x
+  traced : (fuel a : ℕ) (x : Fields) → Provenance t a (history (traces a)) x → highest < rank ranks (card_of x) a + fuel → Traced t ranks traces a x
   traced zero a x p far = ⊎_elim (λ m. record { node = a; above = omega arith; made = inl (m.op, m.opens, m.same) }) (λ w. ⊎_elim (λ s. absurd (too_far s)) (λ g. record { node = a; above = omega arith; made = inr (g, w.1.agrees) }) w.1.source) p.from
     where
       too_far : TakenFrom (history (traces a)) x → ⊥
@@ -947,7 +956,7 @@ module _ (t : Network) (ranks : Ranks) (traces : ℕ → List Entry) (run : IsRu
       first_forward k g j s.0 s.1
 
   -- a reversal that is taken agrees with its key where that is open
-  pub no_reversal_refused : (n l s : ℕ) (m : Message) (op : Opening) → Has (In (Take l s m)) (history (traces n)) → is_reversal m.kind ≡ true → opening t (history (traces n)) (key_of m) ≡ Some op → content op.message ≡ content m
+  pub no_reversal_refused : (n l s : ℕ) (m : Fields) (op : Opening) → Has (In (Take l s m)) (history (traces n)) → is_reversal m.kind ≡ true → opening t (history (traces n)) (key_of m) ≡ Some op → content op.message ≡ content m
   unfolding chain
   no_reversal_refused n l s m op has r e =
       let b = sender n l s m has r in

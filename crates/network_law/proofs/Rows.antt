@@ -1,10 +1,12 @@
 -- Worked rows, computed by the definitions.
 use Rattle.std.proofs.Common.{◌≡◌, ℕ, [], ◌∷◌, ◌++◌, None, refl, List}
-use Rattle.network_law.specs.Digits.{Bytes}
-use Rattle.network_law.specs.Messages.{Message, K0100, K0110, K0120, K0420, code_00}
 use Rattle.net_rows.specs.Network.{Network}
 use Rattle.network_law.specs.Traces.{Input, Enter, Take, LinkDown, Tick, HostAnswer, Put, Answer, Ask, In, Out, History}
 use Rattle.network_law.specs.Decision.{decide, refusal}
+use Rattle.network_law.specs.Cards.{Bytes}
+use Rattle.iso_message.specs.Fields.{Fields}
+use Rattle.iso_message.specs.declared.kind.Kind.TheVariants.{K0100, K0110, K0120, K0420}
+use Rattle.iso_message.specs.Codes.{code_00}
 
 abbrev pub card : Bytes
 card = 52 ∷ 49 ∷ 49 ∷ 49 ∷ 49 ∷ 49 ∷ 49 ∷ 49 ∷ 49 ∷ 49 ∷ 49 ∷ 49 ∷ 49 ∷ 49 ∷ 49 ∷ 49 ∷ []
@@ -45,14 +47,14 @@ code_91 = 57 ∷ 49 ∷ []
 abbrev code_68 : Bytes
 code_68 = 54 ∷ 56 ∷ []
 
-abbrev pub M : Message
+abbrev pub M : Fields
 M = record { kind = K0100; elements = (2, card) ∷ (3, zeros6) ∷ (4, amount1) ∷ (7, time1) ∷ (11, trace1) ∷ (32, acq) ∷ (49, cur) ∷ [] }
 
 -- with element 15
-abbrev pub M15 : Message
+abbrev pub M15 : Fields
 M15 = record { kind = K0100; elements = (2, card) ∷ (3, zeros6) ∷ (4, amount1) ∷ (7, time1) ∷ (11, trace1) ∷ (15, date1) ∷ (32, acq) ∷ (49, cur) ∷ [] }
 
-abbrev pub R : Bytes → Message
+abbrev pub R : Bytes → Fields
 R code = record { kind = K0110; elements = (2, card) ∷ (3, zeros6) ∷ (4, amount1) ∷ (7, time1) ∷ (11, trace1) ∷ (15, date1) ∷ (32, acq) ∷ (39, code) ∷ (49, cur) ∷ [] }
 
 abbrev pub base : Network
@@ -115,7 +117,7 @@ tick3 = In Tick ∷ In Tick ∷ A1
 abbrev pub e90 : Bytes
 e90 = (48 ∷ 49 ∷ 48 ∷ 48 ∷ []) ++ (trace1 ++ (time1 ++ ((48 ∷ 48 ∷ 48 ∷ 48 ∷ 48 ∷ acq) ++ (48 ∷ 48 ∷ 48 ∷ 48 ∷ 48 ∷ 48 ∷ 48 ∷ 48 ∷ 48 ∷ 48 ∷ 48 ∷ []))))
 
-abbrev pub reversal : Message
+abbrev pub reversal : Fields
 reversal = record { kind = K0420; elements = (2, card) ∷ (3, zeros6) ∷ (4, amount1) ∷ (7, time1) ∷ (11, trace1) ∷ (15, date1) ∷ (32, acq) ∷ (33, id_a) ∷ (39, code_68) ∷ (49, cur) ∷ (90, e90) ∷ [] }
 
 row10 : decide base 0 tick3 Tick ≡ Out Tick (Answer (R code_91)) ∷ Out Tick (Put 0 2 reversal) ∷ In Tick ∷ tick3
@@ -140,7 +142,7 @@ diamond = record {
   stand_ins = record { node = 0; prefix = four; day = 1000; single = 1000 } ∷ [];
 }
 
-abbrev stand_in_advice : Message
+abbrev stand_in_advice : Fields
 stand_in_advice = record { kind = K0120; elements = (2, card) ∷ (3, zeros6) ∷ (4, amount1) ∷ (7, time1) ∷ (11, trace1) ∷ (15, date1) ∷ (32, acq) ∷ (33, id_a) ∷ (39, code_00) ∷ (49, cur) ∷ [] }
 
 row9_put : decide diamond 0 [] (Enter M) ≡ A1

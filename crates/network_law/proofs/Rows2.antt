@@ -1,10 +1,13 @@
 -- More worked rows, by the kinds, links, serials and codes of what is put out.
 use Rattle.std.proofs.Common.{◌≡◌, ℕ, zero, suc, List, [], ◌∷◌, ◌++◌, map, refl}
-use Rattle.network_law.specs.Digits.{Bytes}
-use Rattle.network_law.specs.Messages.{Message, Kind, K0100, K0110, K0120, K0420, K0421, K0400, K0410, code_00, code_of}
 use Rattle.net_rows.specs.Network.{Network}
 use Rattle.network_law.specs.Traces.{Input, Enter, LinkDown, Tick, Output, Put, Answer, Ask, Post, In, Out, History}
 use Rattle.network_law.specs.Decision.{decide}
+use Rattle.network_law.specs.Cards.{Bytes}
+use Rattle.iso_message.specs.Fields.{Fields}
+use Rattle.iso_message.specs.declared.kind.Kind.{Kind}
+use Rattle.iso_message.specs.declared.kind.Kind.TheVariants.{K0100, K0110, K0120, K0420, K0421, K0400, K0410}
+use Rattle.iso_message.specs.Codes.{code_00, code_of}
 
 abbrev card : Bytes
 card = 52 ∷ 49 ∷ 49 ∷ 49 ∷ 49 ∷ 49 ∷ 49 ∷ 49 ∷ 49 ∷ 49 ∷ 49 ∷ 49 ∷ 49 ∷ 49 ∷ 49 ∷ 49 ∷ []
@@ -49,13 +52,13 @@ code_57 = 53 ∷ 55 ∷ []
 abbrev code_91 : Bytes
 code_91 = 57 ∷ 49 ∷ []
 
-abbrev request : ℕ → Bytes → Bytes → Message
+abbrev request : ℕ → Bytes → Bytes → Fields
 request n amount cur = record { kind = K0100; elements = (2, card) ∷ (3, zeros6) ∷ (4, amount) ∷ (7, time1) ∷ (11, trace n) ∷ (32, acq) ∷ (49, cur) ∷ [] }
 
 abbrev e90 : ℕ → Bytes
 e90 n = (48 ∷ 49 ∷ 48 ∷ 48 ∷ []) ++ (trace n ++ (time1 ++ ((48 ∷ 48 ∷ 48 ∷ 48 ∷ 48 ∷ acq) ++ (48 ∷ 48 ∷ 48 ∷ 48 ∷ 48 ∷ 48 ∷ 48 ∷ 48 ∷ 48 ∷ 48 ∷ 48 ∷ []))))
 
-abbrev reversal_of : ℕ → Bytes → Message
+abbrev reversal_of : ℕ → Bytes → Fields
 reversal_of n amount = record { kind = K0400; elements = (2, card) ∷ (3, zeros6) ∷ (4, amount) ∷ (7, time2) ∷ (11, trace 50) ∷ (32, acq) ∷ (49, cur) ∷ (90, e90 n) ∷ [] }
 
 abbrev base : Network

@@ -5,18 +5,25 @@ use Rattle.std.proofs.lemmas.Option.{same_Some}
 use Rattle.std.specs.Option.{option_and_then}
 use Rattle.std.specs.List.{list_any}
 use Rattle.card_digits.specs.Numbers.{decimal}
-use Rattle.network_law.specs.Digits.{Bytes}
-use Rattle.network_law.specs.Messages.{Message, Kind, K0100, K0110, K0120, K0121, K0130, K0400, K0401, K0410, K0420, K0421, K0430, K0101, group, is_request, is_answer, is_04xx, Key, key_of, key_eq, el, as_kind, code_of, code_00, code_57, code_61, code_94, response, response_kind, made_reversal, made_stand_in, card_of}
 use Rattle.net_rows.specs.Network.{Network, issuer, day}
 use Rattle.net_rows.specs.declared.row.Issuer.{Issuer}
 use Rattle.network_law.specs.Tables.{node_id, single}
 use Rattle.network_law.specs.Traces.{Source, Gate, ByLink, Input, Enter, Take, LinkUp, LinkDown, Tick, HostAnswer, NewDate, Output, Put, Answer, Ask, Post, Event, In, Out, History, Opening, opening, answer, answers, sent, has_00, is_00_of, brings_00, key_of_00, own_in, own_approval, Approval, approval_by, approval_of, approvals, Advice, advices, add_advice, add_made, add_accepted, acked_by, has_identity, reverses_key, reversed, counted, added, used, ask_key, key_asked, is_key, is_advice_group, count_of, late_key, failed_key, is_ok_ack, handled}
-use Rattle.network_law.specs.Decision.{decide, refusal, reply_output, advice_kind, standin_code, code_by_limits}
+use Rattle.network_law.specs.Decision.{decide, refusal, reply_output, sent_kind, standin_code, code_by_limits}
 use Rattle.network_law.specs.Runs.{IsFormed, IsIn, Entry, history, Legal, IsBounded, S3, S4, AtMost, exposure, IsRun, sum_below}
 use Rattle.network_law.proofs.Emits.{Allowed, forwarding, asking, standing_in, passing, declining, repeating, refusing, acking, sending, posting, Forwarding, Asking, StandingIn, Passing, Declining, Repeating, Refusing, Acking, Sending, Posting, is_kept_group, Issued, decide_keeps, key_eq_refl, key_eq_is, bytes_eq_refl, bytes_eq_is}
 use Rattle.network_law.proofs.Node.{NodeFacts, EntryFacts, Opened, legal_facts, facts_in, facts_out, facts_decide, keeps_issuers, answers_is, response_is_of_kind}
 use Rattle.network_law.proofs.Elements.{code_response, response_key}
 use Rattle.network_law.proofs.Ends.{legal_at}
+use Rattle.network_law.specs.Cards.{Bytes, card_of}
+use Rattle.iso_message.specs.Fields.{Fields, el, as_kind}
+use Rattle.iso_message.specs.declared.kind.Kind.{Kind}
+use Rattle.iso_message.specs.declared.kind.Kind.TheVariants.{K0100, K0110, K0120, K0121, K0130, K0400, K0401, K0410, K0420, K0421, K0430, K0101}
+use Rattle.iso_message.specs.Groups.{group, is_request, is_answer, is_04xx, response_kind}
+use Rattle.card_digits.specs.declared.key.Key.{Key}
+use Rattle.iso_message.specs.Keys.{key_of, key_eq}
+use Rattle.iso_message.specs.Codes.{code_of, code_00, code_57, code_61, code_94}
+use Rattle.iso_message.specs.Made.{response, made_reversal, made_stand_in}
 
 not_both : (b : Bool) → b ≡ true → b ≡ false → ⊥
 not_both b p q = cc
@@ -33,7 +40,7 @@ any_more p x xs e = go (p x) refl
 pub add_advice_keeps : (p : Advice → Bool) (a : Advice) (as' : List Advice) → list_any p as' ≡ true → list_any p (add_advice a as') ≡ true
 add_advice_keeps p a as' e = cond_both _ as' (a ∷ as') (λ z. list_any p z ≡ true) (λ _. e) (λ _. any_more p a as' e)
 
-pub add_made_keeps : (p : Advice → Bool) (make : Message → Message) (count : ℕ) (o : Option Opening) (as' : List Advice) → list_any p as' ≡ true → list_any p (add_made make count o as') ≡ true
+pub add_made_keeps : (p : Advice → Bool) (make : Fields → Fields) (count : ℕ) (o : Option Opening) (as' : List Advice) → list_any p as' ≡ true → list_any p (add_made make count o as') ≡ true
 add_made_keeps p make count None as' e = e
 add_made_keeps p make count (Some op) as' e = add_advice_keeps p (record { message = make op.message; count = count; own = true; acked = false }) as' e
 
@@ -94,13 +101,13 @@ brings_more h j o k Tick r = r
 brings_more h j o k (NewDate d) r = r
 
 -- an answer with 00 has been put out
-pub answer_has_00 : (h : History) (k : Key) (m : Message) → answer h k ≡ Some m → bytes_eq (code_of m) code_00 ≡ true → has_00 h k ≡ true
+pub answer_has_00 : (h : History) (k : Key) (m : Fields) → answer h k ≡ Some m → bytes_eq (code_of m) code_00 ≡ true → has_00 h k ≡ true
 unfolding answer has_00
 answer_has_00 [] k m e z = cc
 answer_has_00 (In i ∷ h) k m e z = answer_has_00 h k m e z
 answer_has_00 (Out i o ∷ h) k m e z = go (answer h k) refl (answer_has_00 h k m)
   where
-    go : (x : Option Message) → answer h k ≡ x → (answer h k ≡ Some m → bytes_eq (code_of m) code_00 ≡ true → has_00 h k ≡ true) → (has_00 h k || is_00_of k (sent o)) ≡ true
+    go : (x : Option Fields) → answer h k ≡ x → (answer h k ≡ Some m → bytes_eq (code_of m) code_00 ≡ true → has_00 h k ≡ true) → (has_00 h k || is_00_of k (sent o)) ≡ true
     go (Some x) at rest = rw (rest (at ∙ (rw at at e)) z) refl
     go None at rest =
         let a = answers_is k (sent o) m (rw at at e) in
@@ -109,7 +116,7 @@ answer_has_00 (Out i o ∷ h) k m e z = go (answer h k) refl (answer_has_00 h k 
 -- what the own approval of a key says
 
 pub record OwnNow (h : History) (i : Input) (o : Output) (k : Key) : Type 0 where
-  pub message : Message
+  pub message : Fields
   pub is : sent o ≡ Some message
   pub answer_kind : is_answer message.kind ≡ true
   pub code : bytes_eq (code_of message) code_00 ≡ true
@@ -123,7 +130,7 @@ own_now h i o k e = by_message (sent o) refl e
     none_some : (x : Key) → None ≡ Some x → ⊥
     none_some x p = cc
 
-    by_key : (m : Message) → sent o ≡ Some m → (b : Bool) → (is_answer m.kind && bytes_eq (code_of m) code_00) ≡ b → own_in h i (cond (is_answer m.kind && bytes_eq (code_of m) code_00) (Some (key_of m)) None) ≡ Some k → OwnNow h i o k
+    by_key : (m : Fields) → sent o ≡ Some m → (b : Bool) → (is_answer m.kind && bytes_eq (code_of m) code_00) ≡ b → own_in h i (cond (is_answer m.kind && bytes_eq (code_of m) code_00) (Some (key_of m)) None) ≡ Some k → OwnNow h i o k
     by_key m is false at e = absurd (none_some k (rw at at e))
     by_key m is true at e = by_past (has_00 h (key_of m) || brings_00 h (key_of m) i) refl (rw at at e)
       where
@@ -135,7 +142,7 @@ own_now h i o k e = by_message (sent o) refl e
             let q = or_parts (has_00 h (key_of m)) (brings_00 h (key_of m) i) past in
             record { message = m; is = is; answer_kind = p.0; code = p.1; key = same; none_before = ap (has_00 h) (sym same) ∙ q.0; not_brought = ap (λ z. brings_00 h z i) (sym same) ∙ q.1 }
 
-    by_message : (w : Option Message) → sent o ≡ w → own_in h i (key_of_00 (sent o)) ≡ Some k → OwnNow h i o k
+    by_message : (w : Option Fields) → sent o ≡ w → own_in h i (key_of_00 (sent o)) ≡ Some k → OwnNow h i o k
     by_message None is e = absurd (none_some k (rw is at e))
     by_message (Some m) is e = by_key m is (is_answer m.kind && bytes_eq (code_of m) code_00) refl (rw is at e)
 
@@ -153,11 +160,11 @@ pub record Stood (t : Network) (n : ℕ) (h : History) (k : Key) : Type 0 where
   pub issued : issuer t (card_of op.message) ≡ Some s
   pub code : bytes_eq (standin_code t n h op.message) code_00 ≡ true
 
-pub sent_reply : (src : Source) (m : Message) (h : History) → sent (reply_output src m h) ≡ Some m
+pub sent_reply : (src : Source) (m : Fields) (h : History) → sent (reply_output src m h) ≡ Some m
 sent_reply Gate m h = refl
 sent_reply (ByLink l) m h = refl
 
-pub reply_message : (src : Source) (m : Message) (h : History) (o : Output) (x : Message) → o ≡ reply_output src m h → sent o ≡ Some x → m ≡ x
+pub reply_message : (src : Source) (m : Fields) (h : History) (o : Output) (x : Fields) → o ≡ reply_output src m h → sent o ≡ Some x → m ≡ x
 reply_message src m h o x is e = same_Some m x (sym (sent_reply src m h) ∙ (ap sent (sym is) ∙ e))
 
 pub acked_kind : (k : Kind) → is_kept_group (group k) ≡ true → is_answer (response_kind k) ≡ false
@@ -174,14 +181,14 @@ acked_kind K0420 e = refl
 acked_kind K0421 e = refl
 acked_kind K0430 e = refl
 
-pub advice_no_answer : (a b : Bool) → is_answer (advice_kind a b) ≡ false
+pub advice_no_answer : (a b : Bool) → is_answer (sent_kind a b) ≡ false
 advice_no_answer true true = refl
 advice_no_answer true false = refl
 advice_no_answer false true = refl
 advice_no_answer false false = refl
 
 -- the code of a response that stands in the output
-pub response_code : (m : Message) (c : Bytes) (x : Message) → response m c ≡ x → code_of x ≡ c
+pub response_code : (m : Fields) (c : Bytes) (x : Fields) → response m c ≡ x → code_of x ≡ c
 response_code m c x e = ap code_of (sym e) ∙ code_response m c
 
 open_here : (t : Network) (n : ℕ) (past : History) (i : Input) (h : History) (e : EntryFacts t n past i h) (op : Opening) (k : Key) → opening t (In i ∷ past) k ≡ Some op → (opening t h k ≡ Some op) × (key_of op.message ≡ k) × (is_request op.message.kind ≡ true)
@@ -202,7 +209,7 @@ own_case t n past i h o k facts allowed own = go allowed
     go : Allowed t n past i h o → Stood t n h k
     go (forwarding f) =
         let same : as_kind K0100 f.message ≡ w.message = same_Some _ _ (ap sent (sym f.is) ∙ w.is) in
-        ends (is_answer w.message.kind) w.answer_kind (ap (λ z. is_answer (Message.kind z)) (sym same))
+        ends (is_answer w.message.kind) w.answer_kind (ap (λ z. is_answer (Fields.kind z)) (sym same))
     go (asking f) = absurd (no (ap sent (sym f.is) ∙ w.is))
       where
         no : None ≡ Some w.message → ⊥
@@ -231,10 +238,10 @@ own_case t n past i h o k facts allowed own = go allowed
         ends (bytes_eq code_94 code_00) (ap (λ c. bytes_eq c code_00) (sym (response_code f.message code_94 w.message same)) ∙ w.code) refl
     go (acking f) =
         let same : response f.message f.code ≡ w.message = reply_message f.source _ h o w.message f.is w.is in
-        ends (is_answer w.message.kind) w.answer_kind (ap (λ z. is_answer (Message.kind z)) (sym same) ∙ (ap is_answer (response_is_of_kind f.message f.code) ∙ acked_kind f.message.kind f.kind))
+        ends (is_answer w.message.kind) w.answer_kind (ap (λ z. is_answer (Fields.kind z)) (sym same) ∙ (ap is_answer (response_is_of_kind f.message f.code) ∙ acked_kind f.message.kind f.kind))
     go (sending f) =
-        let same : as_kind (advice_kind (is_04xx f.message.kind) f.again) f.message ≡ w.message = same_Some _ _ (ap sent (sym f.is) ∙ w.is) in
-        ends (is_answer w.message.kind) w.answer_kind (ap (λ z. is_answer (Message.kind z)) (sym same) ∙ advice_no_answer (is_04xx f.message.kind) f.again)
+        let same : as_kind (sent_kind (is_04xx f.message.kind) f.again) f.message ≡ w.message = same_Some _ _ (ap sent (sym f.is) ∙ w.is) in
+        ends (is_answer w.message.kind) w.answer_kind (ap (λ z. is_answer (Fields.kind z)) (sym same) ∙ advice_no_answer (is_04xx f.message.kind) f.again)
     go (posting f) = absurd (no (ap sent (sym f.is) ∙ w.is))
       where
         no : None ≡ Some w.message → ⊥
@@ -246,7 +253,7 @@ pub record WithinLimits (day sum : ℕ) : Type 0 where
   pub some : 0 < day
   pub all : sum ≤ day
 
-code_within : (day single : ℕ) (currency : Bytes) (u : ℕ) (m : Message) (amount : ℕ) → bytes_eq (code_by_limits day single currency u m amount) code_00 ≡ true → WithinLimits day (u + amount)
+code_within : (day single : ℕ) (currency : Bytes) (u : ℕ) (m : Fields) (amount : ℕ) → bytes_eq (code_by_limits day single currency u m amount) code_00 ≡ true → WithinLimits day (u + amount)
 code_within day single currency u m amount e = first (eqb day 0) refl e
   where
     no : {A : Type 0} → false ≡ true → A

@@ -4,29 +4,39 @@
 use Rattle.std.specs.Prelude.{ℕ, suc, ◌+◌, ◌-◌, ◌%◌, List, [], ◌∷◌, filter, reverse, find, Bool, true, false, ◌&&◌, ◌||◌, not, if◌then◌else◌, ◌==◌, nat_lt, bytes_eq, Option, Some, None, unwrap_or, is_some, is_none}
 use Rattle.std.specs.Option.{option_or, option_map}
 use Rattle.card_digits.specs.Numbers.{decimal}
-use Rattle.network_law.specs.Digits.{Bytes, is_good_card}
-use Rattle.network_law.specs.Messages.{Message, Kind, K0100, K0120, K0121, K0130, K0400, K0401, K0410, K0420, K0421, K0101, Group, IsRequest, IsAnswer, IsAdvice, IsReversal, IsAck, IsReply, group, is_answer, is_reversal, is_04xx, Key, key_of, own_key, part, content, content_eq, identity_of, el, card_of, get, as_kind, code_of, code_00, code_05, code_14, code_57, code_61, code_68, code_91, code_92, code_94, code_96, made_reversal, made_stand_in, response}
 use Rattle.net_rows.specs.Network.{Network, issuer, day}
 use Rattle.net_rows.specs.declared.row.Issuer.{Issuer}
 use Rattle.network_law.specs.Tables.{is_home, node_id, is_attached, route_links, single}
 use Rattle.network_law.specs.Traces.{Source, Gate, ByLink, Input, Enter, Take, LinkUp, LinkDown, Tick, HostAnswer, NewDate, Output, Put, Answer, Ask, Post, Event, In, Out, History, count_of, is_up, put_count, ask_count, ask_key, Handled, handled, Opening, opening, opened, answer, pending, forwarded, fails, Advice, advices, known, reversed, stored, load, was_put, used, as_kept, is_at_home, comes_late, is_link, is_advice_group}
+use Rattle.network_law.specs.Cards.{Bytes, is_good_card, card_of}
+use Rattle.iso_message.specs.Fields.{Fields, el, get, as_kind, set_element, remove_element}
+use Rattle.iso_message.specs.declared.kind.Kind.{Kind}
+use Rattle.iso_message.specs.declared.kind.Kind.TheVariants.{K0100, K0120, K0121, K0130, K0400, K0401, K0410, K0420, K0421, K0101}
+use Rattle.iso_message.specs.declared.kind.Group.{Group}
+use Rattle.iso_message.specs.Groups.{group, is_answer, is_reversal, is_04xx}
+use Rattle.card_digits.specs.declared.key.Key.{Key}
+use Rattle.iso_message.specs.Keys.{key_of, own_key, part, content, content_eq, identity_of, original_key}
+use Rattle.iso_message.specs.Codes.{code_of, code_00, code_05, code_14, code_57, code_61, code_68, code_91, code_92, code_94, code_96}
+use Rattle.iso_message.specs.Made.{made_reversal, made_stand_in, response, made_from}
+use Rattle.iso_message.specs.Finding.{find_element, without, put}
+use Rattle.iso_message.specs.declared.kind.Group.TheVariants as groups
 
 -- outputs
 
 abbrev pub emit : Input → Output → History → History
 emit i o h = Out i o ∷ h
 
-abbrev pub next_put : ℕ → Message → History → Output
+abbrev pub next_put : ℕ → Fields → History → Output
 next_put l m h = Put l (suc (put_count h l)) m
 
-abbrev pub put : Input → ℕ → Message → History → History
-put i l m h = Out i (next_put l m h) ∷ h
+abbrev pub put_on : Input → ℕ → Fields → History → History
+put_on i l m h = Out i (next_put l m h) ∷ h
 
-abbrev pub reply_output : Source → Message → History → Output
+abbrev pub reply_output : Source → Fields → History → Output
 reply_output Gate m h = Answer m
 reply_output (ByLink l) m h = next_put l m h
 
-abbrev pub reply : Input → Source → Message → History → History
+abbrev pub reply : Input → Source → Fields → History → History
 reply i src m h = Out i (reply_output src m h) ∷ h
 
 -- the first link that is up
@@ -35,32 +45,32 @@ first_up h links = find (is_up h) links
 
 -- advices
 
-abbrev pub own_way : Network → ℕ → History → Message → Option ℕ → Option ℕ
+abbrev pub own_way : Network → ℕ → History → Fields → Option ℕ → Option ℕ
 own_way t n h x None = first_up h (route_links t n (card_of x))
 own_way t n h x (Some l) = if is_reversal x.kind && is_up h l then Some l else first_up h (route_links t n (card_of x))
 
-abbrev pub advice_kind : Bool → Bool → Kind
-advice_kind true true = K0421
-advice_kind true false = K0420
-advice_kind false true = K0121
-advice_kind false false = K0120
+abbrev pub sent_kind : Bool → Bool → Kind
+sent_kind true true = K0421
+sent_kind true false = K0420
+sent_kind false true = K0121
+sent_kind false false = K0120
 
-abbrev pub send_by : Input → Message → Option ℕ → History → History
+abbrev pub send_by : Input → Fields → Option ℕ → History → History
 send_by i x None h = h
-send_by i x (Some l) h = put i l (as_kind (advice_kind (is_04xx x.kind) (was_put h (identity_of x))) x) h
+send_by i x (Some l) h = put_on i l (as_kind (sent_kind (is_04xx x.kind) (was_put h (identity_of x))) x) h
 
-unfoldable pub send : Network → ℕ → Input → Message → History → History
+unfoldable pub send : Network → ℕ → Input → Fields → History → History
 unfolding was_put identity_of el card_of key_of forwarded is_up put_count route_links
 send t n i x h = send_by i x (own_way t n h x (forwarded h (key_of x))) h
 
-unfoldable pub keep : Network → ℕ → History → Input → Message → History → History
+unfoldable pub keep : Network → ℕ → History → Input → Fields → History → History
 unfolding send known identity_of card_of
 keep t n past i x h = if known t n past (identity_of x) then h else if is_at_home t n x then emit i (Post x) h else send t n i x h
 
 -- stand-in
 
 -- day and single are the node's limits for the card, and used_now what is used of day
-abbrev pub code_by_limits : (day single : ℕ) → Bytes → ℕ → Message → ℕ → Bytes
+abbrev pub code_by_limits : (day single : ℕ) → Bytes → ℕ → Fields → ℕ → Bytes
 code_by_limits day single currency used_now m amount =
     if day == 0 then code_91
     else if not (bytes_eq (el m 49) currency) then code_57
@@ -68,7 +78,7 @@ code_by_limits day single currency used_now m amount =
     else if nat_lt day (used_now + amount) then code_61
     else code_00
 
-unfoldable pub standin_code : Network → ℕ → History → Message → Bytes
+unfoldable pub standin_code : Network → ℕ → History → Fields → Bytes
 unfolding el card_of used
 standin_code t n h m = code_by_limits (day t n (card_of m)) (single t n (card_of m)) t.settings.currency (used t n h (card_of m) (el m 15)) m (decimal (el m 4))
 
@@ -118,22 +128,22 @@ same_source (ByLink a) (ByLink b) = a == b
 same_source Gate (ByLink b) = false
 same_source (ByLink a) Gate = false
 
-abbrev pub on_forward : Network → ℕ → History → Input → Message → Source → Option ℕ → History
+abbrev pub on_forward : Network → ℕ → History → Input → Fields → Source → Option ℕ → History
 on_forward t n past i m src None = standin t n past i (record { message = m; source = src; count = count_of past; input = i }) (In i ∷ past)
-on_forward t n past i m src (Some l) = put i l (as_kind K0100 m) (In i ∷ past)
+on_forward t n past i m src (Some l) = put_on i l (as_kind K0100 m) (In i ∷ past)
 
-abbrev pub on_issuer : Network → ℕ → History → Input → Message → Source → Option Issuer → History
+abbrev pub on_issuer : Network → ℕ → History → Input → Fields → Source → Option Issuer → History
 on_issuer t n past i m src None = reply i src (response m code_92) (In i ∷ past)
 on_issuer t n past i m src (Some s) =
     if nat_lt 65536 (load t n past + 2) then reply i src (response m code_96) (In i ∷ past)
     else if is_home s n then emit i (Ask (suc (ask_count past)) (as_kind K0100 m)) (In i ∷ past)
     else on_forward t n past i m src (first_up past (route_links t n (card_of m)))
 
-abbrev pub on_repeat : Input → Source → Option Message → History → History
+abbrev pub on_repeat : Input → Source → Option Fields → History → History
 on_repeat i src None h = h
 on_repeat i src (Some a) h = reply i src a h
 
-unfoldable pub on_request : Network → ℕ → History → Input → Message → Source → Option Opening → History
+unfoldable pub on_request : Network → ℕ → History → Input → Fields → Source → Option Opening → History
 unfolding standin put_count response load ask_count is_good_card reversed answer content key_of el card_of is_up route_links count_of
 on_request t n past i m src (Some op) =
     if same_source op.source src && content_eq (content op.message) (content m)
@@ -146,7 +156,7 @@ on_request t n past i m src None =
 
 -- reversals and stand-in advices
 
-abbrev pub other_content : Option Opening → Message → Bool
+abbrev pub other_content : Option Opening → Fields → Bool
 other_content None m = false
 other_content (Some op) m = not (content_eq (content op.message) (content m))
 
@@ -154,7 +164,7 @@ abbrev pub answer_pending : Network → Input → Bool → Option Opening → By
 answer_pending t i true (Some op) c h = reply i op.source (response op.message c) h
 answer_pending t i _ _ c h = h
 
-unfoldable pub on_reversal : Network → ℕ → History → Input → Message → Source → History
+unfoldable pub on_reversal : Network → ℕ → History → Input → Fields → Source → History
 unfolding put_count response is_good_card content key_of el card_of known identity_of opening answer keep
 on_reversal t n past i m src =
     if not (is_good_card (el m 2)) then reply i src (response m code_14) (In i ∷ past)
@@ -163,7 +173,7 @@ on_reversal t n past i m src =
     else if known t n past (identity_of m) then reply i src (response m code_00) (In i ∷ past)
     else keep t n past i (as_kept m) (reply i src (response m code_00) (answer_pending t i (pending t past (key_of m)) (opening t past (key_of m)) code_68 (In i ∷ past)))
 
-unfoldable pub on_advice : Network → ℕ → History → Input → Message → Source → History
+unfoldable pub on_advice : Network → ℕ → History → Input → Fields → Source → History
 unfolding put_count response is_good_card el card_of known identity_of keep
 on_advice t n past i m src =
     if not (is_good_card (el m 2)) then reply i src (response m code_14) (In i ∷ past)
@@ -184,7 +194,7 @@ on_code t n past i k c other (Some op) =
     else if bytes_eq c code_00 && comes_late past (advices t n past) k then keep t n past i (made_reversal op.message (node_id t n)) (In i ∷ past)
     else In i ∷ past
 
-unfoldable pub on_answer : Network → ℕ → History → Input → Message → Source → History
+unfoldable pub on_answer : Network → ℕ → History → Input → Fields → Source → History
 unfolding key_of code_of opening answer forwarded put_count response keep advices made_reversal
 on_answer t n past i m Gate = In i ∷ past
 on_answer t n past i m (ByLink l) =
@@ -195,13 +205,13 @@ unfolding code_of opening answer put_count response keep advices made_reversal
 on_host t n past i c None = In i ∷ past
 on_host t n past i c (Some k) = on_code t n past i k c code_05 (opening t past k)
 
-abbrev pub on_group : Network → ℕ → History → Input → Message → Source → Group → History
-on_group t n past i m src IsRequest = on_request t n past i m src (opening t past (key_of m))
-on_group t n past i m src IsAnswer = on_answer t n past i m src
-on_group t n past i m src IsAdvice = on_advice t n past i m src
-on_group t n past i m src IsReversal = on_reversal t n past i m src
-on_group t n past i m src IsAck = In i ∷ past
-on_group t n past i m src IsReply = In i ∷ past
+abbrev pub on_group : Network → ℕ → History → Input → Fields → Source → Group → History
+on_group t n past i m src groups.Request = on_request t n past i m src (opening t past (key_of m))
+on_group t n past i m src groups.Answer = on_answer t n past i m src
+on_group t n past i m src groups.StandInAdvice = on_advice t n past i m src
+on_group t n past i m src groups.Reversal = on_reversal t n past i m src
+on_group t n past i m src groups.Acknowledgement = In i ∷ past
+on_group t n past i m src groups.Reply = In i ∷ past
 
 abbrev pub on_handled : Network → ℕ → History → Input → Option Handled → History
 on_handled t n past i None = In i ∷ past
@@ -209,7 +219,7 @@ on_handled t n past i (Some x) = on_group t n past i x.message x.source (group x
 
 -- the history after the entry of an input
 unfoldable pub decide : Network → ℕ → History → Input → History
-unfolding on_request on_reversal on_advice on_answer on_host handled opening key_of fail_all failing send_all due_advices ask_key
+unfolding on_request on_reversal on_advice on_answer on_host handled opening fail_all failing send_all due_advices ask_key get find_element el put without set_element remove_element own_key original_key key_of content identity_of code_of response made_from made_stand_in made_reversal
 decide t n past (Enter m) = on_handled t n past (Enter m) (handled t past (Enter m))
 decide t n past (Take l s m) = on_handled t n past (Take l s m) (handled t past (Take l s m))
 decide t n past (LinkUp l) = In (LinkUp l) ∷ past
@@ -224,23 +234,23 @@ abbrev pub when : Bool → ℕ → Option ℕ
 when true fault = Some fault
 when false fault = None
 
-abbrev pub first_missing : Message → List ℕ → Bool
+abbrev pub first_missing : Fields → List ℕ → Bool
 first_missing m [] = false
 first_missing m (n ∷ ns) = is_none (get m n) || first_missing m ns
 
 abbrev pub required_entered : Group → List ℕ
-required_entered IsRequest = 2 ∷ 3 ∷ 4 ∷ 7 ∷ 11 ∷ 32 ∷ 49 ∷ []
-required_entered IsReversal = 2 ∷ 3 ∷ 4 ∷ 7 ∷ 11 ∷ 32 ∷ 49 ∷ 90 ∷ []
+required_entered groups.Request = 2 ∷ 3 ∷ 4 ∷ 7 ∷ 11 ∷ 32 ∷ 49 ∷ []
+required_entered groups.Reversal = 2 ∷ 3 ∷ 4 ∷ 7 ∷ 11 ∷ 32 ∷ 49 ∷ 90 ∷ []
 required_entered _ = []
 
 abbrev pub required_taken : Group → Kind → List ℕ
-required_taken IsRequest k = 2 ∷ 3 ∷ 4 ∷ 7 ∷ 11 ∷ 15 ∷ 32 ∷ 49 ∷ []
-required_taken IsAnswer k = 7 ∷ 11 ∷ 32 ∷ 39 ∷ []
-required_taken IsAdvice k = 2 ∷ 3 ∷ 4 ∷ 7 ∷ 11 ∷ 15 ∷ 32 ∷ 33 ∷ 39 ∷ 49 ∷ []
-required_taken IsReversal k = 2 ∷ 3 ∷ 4 ∷ 7 ∷ 11 ∷ 32 ∷ 49 ∷ 90 ∷ []
-required_taken IsAck K0130 = 7 ∷ 11 ∷ 32 ∷ 33 ∷ 39 ∷ []
-required_taken IsAck k = 32 ∷ 39 ∷ 90 ∷ []
-required_taken IsReply k = []
+required_taken groups.Request k = 2 ∷ 3 ∷ 4 ∷ 7 ∷ 11 ∷ 15 ∷ 32 ∷ 49 ∷ []
+required_taken groups.Answer k = 7 ∷ 11 ∷ 32 ∷ 39 ∷ []
+required_taken groups.StandInAdvice k = 2 ∷ 3 ∷ 4 ∷ 7 ∷ 11 ∷ 15 ∷ 32 ∷ 33 ∷ 39 ∷ 49 ∷ []
+required_taken groups.Reversal k = 2 ∷ 3 ∷ 4 ∷ 7 ∷ 11 ∷ 32 ∷ 49 ∷ 90 ∷ []
+required_taken groups.Acknowledgement K0130 = 7 ∷ 11 ∷ 32 ∷ 33 ∷ 39 ∷ []
+required_taken groups.Acknowledgement k = 32 ∷ 39 ∷ 90 ∷ []
+required_taken groups.Reply k = []
 
 abbrev pub entered_kind : Kind → Bool
 entered_kind K0100 = true
@@ -258,14 +268,14 @@ taken_kind K0410 = false
 taken_kind _ = true
 
 -- element 90 begins with 0100 and names the acquirer of element 32
-abbrev pub strange_original : Message → Bool
+abbrev pub strange_original : Fields → Bool
 strange_original m = is_04xx m.kind && not (bytes_eq (part 0 4 (el m 90)) (48 ∷ 49 ∷ 48 ∷ 48 ∷ []) && bytes_eq (part 20 11 (el m 90)) ((own_key m).acquirer))
 
-abbrev pub no_place : Network → ℕ → History → Message → Bool
+abbrev pub no_place : Network → ℕ → History → Fields → Bool
 no_place t n past m = not (is_at_home t n m) && nat_lt 65536 (load t n past - (if is_reversal m.kind && pending t past (key_of m) then 2 else 0) + 1)
 
 -- NoPlace for an advice or reversal that would be kept
-abbrev pub finds_no_place : Network → ℕ → History → Message → Bool
+abbrev pub finds_no_place : Network → ℕ → History → Fields → Bool
 finds_no_place t n past m = is_advice_group (group m.kind) && is_good_card (el m 2) && is_some (issuer t (card_of m)) && not (is_reversal m.kind && other_content (opening t past (key_of m)) m) && not (known t n past (identity_of m)) && no_place t n past m
 
 abbrev pub home_of_key : Network → ℕ → Option Opening → Bool
@@ -273,11 +283,11 @@ home_of_key t n None = false
 home_of_key t n (Some op) = is_at_home t n op.message
 
 -- NoPlace for a late answer
-abbrev pub late_finds_no_place : Network → ℕ → History → ℕ → Message → Bool
+abbrev pub late_finds_no_place : Network → ℕ → History → ℕ → Fields → Bool
 late_finds_no_place t n past l m = is_answer m.kind && bytes_eq (code_of m) code_00 && is_link l (forwarded past (key_of m)) && comes_late past (advices t n past) (key_of m) && not (home_of_key t n (opening t past (key_of m))) && nat_lt 65536 (load t n past + 1)
 
 unfoldable pub refusal : Network → ℕ → History → Input → Option ℕ
-unfolding handled el card_of get own_key key_of content identity_of known load is_good_card opening answer forwarded advices code_of ask_key
+unfolding handled card_of known load is_good_card opening answer forwarded advices ask_key get find_element el put without set_element remove_element own_key original_key key_of content identity_of code_of response made_from made_stand_in made_reversal
 refusal t n past (Enter m) =
     option_or (when (not (entered_kind m.kind)) 4)
     (option_or (when (first_missing m (required_entered (group m.kind)) || strange_original m) 3)

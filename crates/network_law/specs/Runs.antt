@@ -2,13 +2,20 @@
 use Rattle.std.specs.Prelude.{ℕ, zero, suc, ◌+◌, ◌<◌, ◌≤◌, ◌≡◌, ◌≢◌, ◌⊎◌, List, [], ◌∷◌, length, reverse, replicate, Contains, Bool, true, false, cond, ◌&&◌, ◌||◌, not, if◌then◌else◌, ◌==◌, Option, Some, None}
 use Rattle.std.specs.List.{list_any}
 use Rattle.card_digits.specs.Numbers.{pad11}
-use Rattle.network_law.specs.Digits.{Bytes}
-use Rattle.network_law.specs.Messages.{card_of, Message, Kind, K0110, K0130, K0410, K0430, is_request, Key, key_of, content, el, code_of, code_94, code_00}
 use Rattle.net_rows.specs.Network.{Network, issuer, other_end, day}
 use Rattle.net_rows.specs.declared.row.Issuer.{Issuer}
 use Rattle.network_law.specs.Tables.{is_link_of, route_links, is_attached, node_id}
 use Rattle.network_law.specs.Traces.{Input, Enter, Take, LinkUp, LinkDown, Tick, HostAnswer, NewDate, Output, Put, Answer, Ask, Post, Event, In, Out, History, Source, Gate, ByLink, opening, Opening, answer, forwarded, approvals, used, own_approval}
 use Rattle.network_law.specs.Decision.{decide, refusal}
+use Rattle.network_law.specs.Cards.{Bytes, card_of}
+use Rattle.iso_message.specs.Fields.{Fields, el}
+use Rattle.iso_message.specs.declared.kind.Kind.{Kind}
+use Rattle.iso_message.specs.declared.kind.Kind.TheVariants.{K0110, K0130, K0410, K0430}
+use Rattle.iso_message.specs.Groups.{is_request}
+use Rattle.card_digits.specs.declared.key.Key.{Key}
+use Rattle.iso_message.specs.Keys.{key_of, content, identity_of}
+use Rattle.iso_message.specs.Codes.{code_of, code_94, code_00}
+use Rattle.iso_message.specs.Made.{made_reversal}
 
 -- an entry of a trace
 pub record Entry : Type 0 where
@@ -33,7 +40,7 @@ NamesOwnLink t n (LinkDown l) = is_link_of t n l ≡ true
 NamesOwnLink t n _ = 0 ≤ n
 
 -- the lengths that decoding leaves in a request's key
-pub record HasLengths (m : Message) : Type 0 where
+pub record HasLengths (m : Fields) : Type 0 where
   pub trace : length (el m 11) ≡ 6
   pub time : length (el m 7) ≡ 10
   pub acquirer : length (el m 32) ≤ 11
@@ -68,7 +75,7 @@ Has e h = IsIn e h
 pub record IsRun (t : Network) (traces : ℕ → List Entry) : Type 0 where
   pub legal : (n : ℕ) → n < length t.nodes → Legal t n (traces n)
   pub no_others : (n : ℕ) → length t.nodes ≤ n → traces n ≡ []
-  pub linked : (n l s : ℕ) (m : Message) → Has (In (Take l s m)) (history (traces n)) → (i : Input) × Has (Out i (Put l s m)) (history (traces (other_end t n l)))
+  pub linked : (n l s : ℕ) (m : Fields) → Has (In (Take l s m)) (history (traces n)) → (i : Input) × Has (Out i (Put l s m)) (history (traces (other_end t n l)))
 
 -- What the tables and ranks keep. A card is any list of digits here: a checker that looks at the longest prefixes of the
 -- rows gives no less, and for each card number it is what is said.
@@ -110,7 +117,7 @@ abbrev pub at_node : (ℕ → List Entry) → ℕ → History
 at_node traces n = history (traces n)
 
 -- n has put the request x of k on link l with serial s
-pub record IsForward (traces : ℕ → List Entry) (k : Key) (n l s : ℕ) (x : Message) : Type 0 where
+pub record IsForward (traces : ℕ → List Entry) (k : Key) (n l s : ℕ) (x : Fields) : Type 0 where
   pub input : Input
   pub put : Has (Out input (Put l s x)) (history (traces n))
   pub request : is_request x.kind ≡ true
@@ -118,18 +125,18 @@ pub record IsForward (traces : ℕ → List Entry) (k : Key) (n l s : ℕ) (x : 
 
 pub record IsAsk (traces : ℕ → List Entry) (k : Key) (n a : ℕ) : Type 0 where
   pub input : Input
-  pub message : Message
+  pub message : Fields
   pub put : Has (Out input (Ask a message)) (history (traces n))
   pub key : key_of message ≡ k
 
 -- at most one forward of k to m, and at most one ask of k
 pub record S1 (t : Network) (traces : ℕ → List Entry) : Type 0 where
-  pub forwards : (k : Key) (n l s n' l' s' : ℕ) (x x' : Message) → IsForward traces k n l s x → IsForward traces k n' l' s' x' → other_end t n l ≡ other_end t n' l' → (n ≡ n') × (l ≡ l') × (s ≡ s')
+  pub forwards : (k : Key) (n l s n' l' s' : ℕ) (x x' : Fields) → IsForward traces k n l s x → IsForward traces k n' l' s' x' → other_end t n l ≡ other_end t n' l' → (n ≡ n') × (l ≡ l') × (s ≡ s')
   pub asks : (k : Key) (n a n' a' : ℕ) → IsAsk traces k n a → IsAsk traces k n' a' → (n ≡ n') × (a ≡ a')
 
 -- where n has forwarded k to m and k is open at m, it was opened by the take of that put
 abbrev pub S2 : Network → (ℕ → List Entry) → Type 0
-S2 t traces = (k : Key) (n l s : ℕ) (x : Message) (op : Opening) → IsForward traces k n l s x → opening t (history (traces (other_end t n l))) k ≡ Some op → op.input ≡ Take l s x
+S2 t traces = (k : Key) (n l s : ℕ) (x : Fields) (op : Opening) → IsForward traces k n l s x → opening t (history (traces (other_end t n l))) k ≡ Some op → op.input ≡ Take l s x
 
 -- a node that approves by itself is named by the card's issuer
 abbrev pub S3 : Network → (ℕ → List Entry) → Type 0
@@ -154,7 +161,7 @@ is_response _ = false
 
 -- no response put on a link has code 94
 abbrev pub S5 : (ℕ → List Entry) → Type 0
-S5 traces = (n l s : ℕ) (i : Input) (m : Message) → Has (Out i (Put l s m)) (history (traces n)) → is_response m.kind ≡ true → code_of m ≢ code_94
+S5 traces = (n l s : ℕ) (i : Input) (m : Fields) → Has (Out i (Put l s m)) (history (traces n)) → is_response m.kind ≡ true → code_of m ≢ code_94
 
 -- C3: where an approval comes from
 
@@ -165,7 +172,7 @@ ApprovedAt t traces k n =
     ⊎ ((ask : ℕ) × Has (In (HostAnswer ask code_00)) (history (traces n)) × (Rattle.network_law.specs.Traces.ask_key (history (traces n)) ask ≡ Some k))
 
 abbrev pub ForwardedTo : Network → (ℕ → List Entry) → Key → ℕ → ℕ → Type 0
-ForwardedTo t traces k n m = (l : ℕ) × (s : ℕ) × (x : Message) × IsForward traces k n l s x × (other_end t n l ≡ m)
+ForwardedTo t traces k n m = (l : ℕ) × (s : ℕ) × (x : Fields) × IsForward traces k n l s x × (other_end t n l ≡ m)
 
 -- each has forwarded k to the next, and the last approved it
 abbrev pub LeadsToApproval : Network → (ℕ → List Entry) → Key → ℕ → List ℕ → Type 0
@@ -173,7 +180,7 @@ LeadsToApproval t traces k n [] = ApprovedAt t traces k n
 LeadsToApproval t traces k n (m ∷ ms) = ForwardedTo t traces k n m × LeadsToApproval t traces k m ms
 
 abbrev pub C3 : Network → (ℕ → List Entry) → Type 0
-C3 t traces = (k : Key) (n : ℕ) (a : Message) → answer (history (traces n)) k ≡ Some a → code_of a ≡ code_00 → (ns : List ℕ) × LeadsToApproval t traces k n ns
+C3 t traces = (k : Key) (n : ℕ) (a : Fields) → answer (history (traces n)) k ≡ Some a → code_of a ≡ code_00 → (ns : List ℕ) × LeadsToApproval t traces k n ns
 
 -- C2: what becomes of a 00 that a forwarded key got
 
@@ -198,7 +205,7 @@ took_00 (Out i o ∷ h) k = took_00 h k
 
 -- the input is a 0110 of k
 abbrev pub takes_answer : Key → Input → Bool
-takes_answer k (Take l s m) = Rattle.network_law.specs.Messages.is_answer m.kind && Rattle.network_law.specs.Messages.key_eq (key_of m) k
+takes_answer k (Take l s m) = Rattle.iso_message.specs.Groups.is_answer m.kind && Rattle.iso_message.specs.Keys.key_eq (key_of m) k
 takes_answer k _ = false
 
 -- a reversal of k was made or accepted
@@ -214,27 +221,27 @@ pub record C2 (t : Network) (traces : ℕ → List Entry) : Type 0 where
 -- identity is posted twice
 
 -- an advice with this one's identity and content was posted at this node, which is the home of its card
-abbrev pub IsPosted : Network → (ℕ → List Entry) → Message → ℕ → Type 0
-IsPosted t traces x n = (i : Input) × (y : Message) × Has (Out i (Post y)) (history (traces n)) × (Rattle.network_law.specs.Messages.identity_of y ≡ Rattle.network_law.specs.Messages.identity_of x) × (content y ≡ content x) × (Rattle.network_law.specs.Traces.is_at_home t n x ≡ true)
+abbrev pub IsPosted : Network → (ℕ → List Entry) → Fields → ℕ → Type 0
+IsPosted t traces x n = (i : Input) × (y : Fields) × Has (Out i (Post y)) (history (traces n)) × (Rattle.iso_message.specs.Keys.identity_of y ≡ Rattle.iso_message.specs.Keys.identity_of x) × (content y ≡ content x) × (Rattle.network_law.specs.Traces.is_at_home t n x ≡ true)
 
 -- an advice with this one's identity and content stands in this node's store
-abbrev pub IsStored : Network → (ℕ → List Entry) → Message → ℕ → Type 0
-IsStored t traces x n = (a : Rattle.network_law.specs.Traces.Advice) × IsIn a (Rattle.network_law.specs.Traces.stored t n (history (traces n))) × (Rattle.network_law.specs.Messages.identity_of a.message ≡ Rattle.network_law.specs.Messages.identity_of x) × (content a.message ≡ content x)
+abbrev pub IsStored : Network → (ℕ → List Entry) → Fields → ℕ → Type 0
+IsStored t traces x n = (a : Rattle.network_law.specs.Traces.Advice) × IsIn a (Rattle.network_law.specs.Traces.stored t n (history (traces n))) × (Rattle.iso_message.specs.Keys.identity_of a.message ≡ Rattle.iso_message.specs.Keys.identity_of x) × (content a.message ≡ content x)
 
-abbrev pub posts_in : Rattle.network_law.specs.Messages.Identity → Output → ℕ
-posts_in id (Post x) = if Rattle.network_law.specs.Messages.identity_eq (Rattle.network_law.specs.Messages.identity_of x) id then 1 else 0
+abbrev pub posts_in : Rattle.iso_message.specs.declared.keys.AdviceId.AdviceId → Output → ℕ
+posts_in id (Post x) = if Rattle.iso_message.specs.Keys.identity_eq (Rattle.iso_message.specs.Keys.identity_of x) id then 1 else 0
 posts_in id _ = 0
 
-unfoldable pub post_count : History → Rattle.network_law.specs.Messages.Identity → ℕ
-unfolding Rattle.network_law.specs.Messages.identity_of
+unfoldable pub post_count : History → Rattle.iso_message.specs.declared.keys.AdviceId.AdviceId → ℕ
+unfolding Rattle.iso_message.specs.Keys.identity_of
 post_count [] id = 0
 post_count (In i ∷ h) id = post_count h id
 post_count (Out i o ∷ h) id = posts_in id o + post_count h id
 
 pub record C1 (t : Network) (traces : ℕ → List Entry) : Type 0 where
   pub somewhere : (n : ℕ) (a : Rattle.network_law.specs.Traces.Advice) → IsIn a (Rattle.network_law.specs.Traces.advices t n (history (traces n))) → (m : ℕ) × (IsStored t traces a.message m ⊎ IsPosted t traces a.message m)
-  pub once : (id : Rattle.network_law.specs.Messages.Identity) (n m : ℕ) → 0 < post_count (history (traces n)) id → 0 < post_count (history (traces m)) id → n ≡ m
-  pub one : (id : Rattle.network_law.specs.Messages.Identity) (n : ℕ) → post_count (history (traces n)) id ≤ 1
+  pub once : (id : Rattle.iso_message.specs.declared.keys.AdviceId.AdviceId) (n m : ℕ) → 0 < post_count (history (traces n)) id → 0 < post_count (history (traces m)) id → n ≡ m
+  pub one : (id : Rattle.iso_message.specs.declared.keys.AdviceId.AdviceId) (n : ℕ) → post_count (history (traces n)) id ≤ 1
 
 -- padded node ids are distinct, and none is all zeros
 pub record HasNodeIds (t : Network) : Type 0 where
@@ -256,4 +263,4 @@ FailsAreMarked t = (n : ℕ) (e : Entry) (es : List Entry) (k : Key) → Legal t
 
 -- where k fails its reversal is made, or was
 abbrev pub FailsAreReversed : Network → Type 0
-FailsAreReversed t = (n : ℕ) (e : Entry) (es : List Entry) (k : Key) → Legal t n (e ∷ es) → Rattle.network_law.specs.Traces.fails t (history es) e.input k ≡ true → (op : Opening) × (opening t (history es) k ≡ Some op) × (Rattle.network_law.specs.Traces.known t n (history (e ∷ es)) (Rattle.network_law.specs.Messages.identity_of (Rattle.network_law.specs.Messages.made_reversal op.message (node_id t n))) ≡ true)
+FailsAreReversed t = (n : ℕ) (e : Entry) (es : List Entry) (k : Key) → Legal t n (e ∷ es) → Rattle.network_law.specs.Traces.fails t (history es) e.input k ≡ true → (op : Opening) × (opening t (history es) k ≡ Some op) × (Rattle.network_law.specs.Traces.known t n (history (e ∷ es)) (Rattle.iso_message.specs.Keys.identity_of (Rattle.iso_message.specs.Made.made_reversal op.message (node_id t n))) ≡ true)

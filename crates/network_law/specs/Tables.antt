@@ -5,7 +5,7 @@ use Rattle.std.specs.Option.{option_map_or}
 use Rattle.card_digits.specs.Numbers.{pad11}
 use Rattle.net_rows.specs.Network.{Network, route, stand_in}
 use Rattle.net_rows.specs.declared.row.Issuer.{Issuer}
-use Rattle.network_law.specs.Digits.{Bytes}
+use Rattle.network_law.specs.Cards.{Bytes}
 
 -- the links of the route row that a card meets at a node, in the row's order, and none without a row
 unfoldable pub route_links : Network → ℕ → List ℕ → List ℕ

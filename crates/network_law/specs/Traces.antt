@@ -4,19 +4,29 @@ use Rattle.std.specs.Prelude.{ℕ, suc, ◌+◌, ◌*◌, List, [], ◌∷◌, �
 use Rattle.std.specs.Option.{option_or, option_and_then}
 use Rattle.std.specs.List.{list_any}
 use Rattle.card_digits.specs.Numbers.{decimal}
-use Rattle.network_law.specs.Digits.{Bytes}
-use Rattle.network_law.specs.Messages.{Message, Group, IsAdvice, IsReversal, IsAck, IsReply, group, K0420, K0120, is_request, is_answer, is_04xx, Key, key_eq, key_of, Identity, identity_of, identity_eq, el, card_of, set_element, remove_element, as_kind, code_of, code_00, code_94, made_reversal, made_stand_in}
 use Rattle.net_rows.specs.Network.{Network, issuer}
 use Rattle.net_rows.specs.declared.row.Issuer.{Issuer}
 use Rattle.network_law.specs.Tables.{is_home, node_id, link_ticks}
+use Rattle.network_law.specs.Cards.{Bytes, card_of}
+use Rattle.iso_message.specs.Fields.{Fields, el, set_element, remove_element, as_kind, get}
+use Rattle.iso_message.specs.declared.kind.Group.{Group}
+use Rattle.iso_message.specs.Groups.{group, is_request, is_answer, is_04xx}
+use Rattle.iso_message.specs.declared.kind.Kind.TheVariants.{K0420, K0120}
+use Rattle.card_digits.specs.declared.key.Key.{Key}
+use Rattle.iso_message.specs.Keys.{key_eq, key_of, identity_of, identity_eq, own_key, original_key, content}
+use Rattle.iso_message.specs.declared.keys.AdviceId.{AdviceId}
+use Rattle.iso_message.specs.Codes.{code_of, code_00, code_94}
+use Rattle.iso_message.specs.Made.{made_reversal, made_stand_in, response, made_from}
+use Rattle.iso_message.specs.Finding.{find_element, without, put}
+use Rattle.iso_message.specs.declared.kind.Group.TheVariants as groups
 
 pub data Source : Type 0 where
   Gate : Source
   ByLink : (link : ℕ) → Source
 
 pub data Input : Type 0 where
-  Enter : (message : Message) → Input
-  Take : (link serial : ℕ) (message : Message) → Input
+  Enter : (message : Fields) → Input
+  Take : (link serial : ℕ) (message : Fields) → Input
   LinkUp : (link : ℕ) → Input
   LinkDown : (link : ℕ) → Input
   Tick : Input
@@ -24,10 +34,10 @@ pub data Input : Type 0 where
   NewDate : (date : Bytes) → Input
 
 pub data Output : Type 0 where
-  Put : (link serial : ℕ) (message : Message) → Output
-  Answer : (message : Message) → Output
-  Ask : (ask : ℕ) (message : Message) → Output
-  Post : (message : Message) → Output
+  Put : (link serial : ℕ) (message : Fields) → Output
+  Answer : (message : Fields) → Output
+  Ask : (ask : ℕ) (message : Fields) → Output
+  Post : (message : Fields) → Output
 
 pub data Event : Type 0 where
   In : (input : Input) → Event
@@ -100,10 +110,10 @@ ask_key (Out i o ∷ h) a = option_or (ask_key h a) (key_asked a o)
 -- the message handled: entered, it lacks element 33, and a request has element 15 equal to the date
 
 pub record Handled : Type 0 where
-  pub message : Message
+  pub message : Fields
   pub source : Source
 
-abbrev pub dated : Bytes → Message → Message
+abbrev pub dated : Bytes → Fields → Fields
 dated date m = if is_request m.kind then set_element m 15 date else m
 
 unfoldable pub handled : Network → History → Input → Option Handled
@@ -115,7 +125,7 @@ handled t h _ = None
 -- requests
 
 pub record Opening : Type 0 where
-  pub message : Message
+  pub message : Fields
   pub source : Source
   pub count : ℕ
   pub input : Input
@@ -146,18 +156,18 @@ opened t [] = []
 opened t (In i ∷ h) = with_new (is_none (option_and_then (opening t h) (key_handled (handled t h i)))) (key_handled (handled t h i)) (opened t h)
 opened t (Out i o ∷ h) = opened t h
 
-abbrev pub sent : Output → Option Message
+abbrev pub sent : Output → Option Fields
 sent (Put l s m) = Some m
 sent (Answer m) = Some m
 sent (Ask a m) = None
 sent (Post m) = None
 
-abbrev pub answers : Key → Option Message → Option Message
+abbrev pub answers : Key → Option Fields → Option Fields
 answers k None = None
 answers k (Some m) = if is_answer m.kind && key_eq (key_of m) k && not (bytes_eq (code_of m) code_94) then Some m else None
 
 -- the answer of a key: the first 0110 in the outputs whose code isn't 94
-unfoldable pub answer : History → Key → Option Message
+unfoldable pub answer : History → Key → Option Fields
 unfolding key_of code_of
 answer [] k = None
 answer (In i ∷ h) k = answer h k
@@ -211,7 +221,7 @@ fails t h _ k = false
 
 -- own approvals
 
-abbrev pub is_00_of : Key → Option Message → Bool
+abbrev pub is_00_of : Key → Option Fields → Bool
 is_00_of k None = false
 is_00_of k (Some m) = is_answer m.kind && key_eq (key_of m) k && bytes_eq (code_of m) code_00
 
@@ -232,7 +242,7 @@ brings_00 h k (Take l s m) = is_00_of k (Some m)
 brings_00 h k (HostAnswer a c) = is_key k (ask_key h a) && bytes_eq c code_00
 brings_00 h k _ = false
 
-abbrev pub key_of_00 : Option Message → Option Key
+abbrev pub key_of_00 : Option Fields → Option Key
 key_of_00 None = None
 key_of_00 (Some m) = if is_answer m.kind && bytes_eq (code_of m) code_00 then Some (key_of m) else None
 
@@ -246,7 +256,7 @@ own_approval h i o = own_in h i (key_of_00 (sent o))
 
 pub record Approval : Type 0 where
   pub key : Key
-  pub request : Message
+  pub request : Fields
 
 abbrev pub approval_by : Key → Option Opening → List Approval
 approval_by k None = []
@@ -266,22 +276,22 @@ approvals t (Out i o ∷ h) = approval_of t h (own_approval h i o) ++ approvals 
 -- advices
 
 pub record Advice : Type 0 where
-  pub message : Message  -- 0120 or 0420
+  pub message : Fields  -- 0120 or 0420
   pub count : ℕ  -- at its storing
   pub own : Bool  -- made here
   pub acked : Bool
 
-abbrev pub has_identity : Identity → Advice → Bool
+abbrev pub has_identity : AdviceId → Advice → Bool
 has_identity id a = identity_eq (identity_of a.message) id
 
 abbrev pub reverses_key : Key → Advice → Bool
 reverses_key k a = is_04xx a.message.kind && key_eq (key_of a.message) k
 
 abbrev pub is_ack : Group → Bool
-is_ack IsAck = true
+is_ack groups.Acknowledgement = true
 is_ack _ = false
 
-abbrev pub is_ack_of : Message → Advice → Bool
+abbrev pub is_ack_of : Fields → Advice → Bool
 is_ack_of m a = is_ack (group m.kind) && bytes_eq (code_of m) code_00 && has_identity (identity_of m) a
 
 abbrev pub acked_by : Input → Advice → Advice
@@ -291,11 +301,11 @@ acked_by _ a = a
 abbrev pub add_advice : Advice → List Advice → List Advice
 add_advice a as' = if list_any (has_identity (identity_of a.message)) as' then as' else a ∷ as'
 
-abbrev pub add_made : (Message → Message) → ℕ → Option Opening → List Advice → List Advice
+abbrev pub add_made : (Fields → Fields) → ℕ → Option Opening → List Advice → List Advice
 add_made make count None as' = as'
 add_made make count (Some op) as' = add_advice (record { message = make op.message; count = count; own = true; acked = false }) as'
 
-abbrev pub code_is_not_00 : Option Message → Bool
+abbrev pub code_is_not_00 : Option Fields → Bool
 code_is_not_00 None = false
 code_is_not_00 (Some m) = not (bytes_eq (code_of m) code_00)
 
@@ -314,25 +324,25 @@ is_timer Tick = true
 is_timer _ = false
 
 -- the key that fails in this output: in an entry of LinkDown or Tick the 0110 of a pending key is that of its failing
-abbrev pub failed_key : Network → History → Input → Option Message → Option Key
+abbrev pub failed_key : Network → History → Input → Option Fields → Option Key
 failed_key t h i None = None
 failed_key t h i (Some m) = if is_timer i && is_answer m.kind && pending t h (key_of m) then Some (key_of m) else None
 
 abbrev pub is_advice_group : Group → Bool
-is_advice_group IsAdvice = true
-is_advice_group IsReversal = true
+is_advice_group groups.StandInAdvice = true
+is_advice_group groups.Reversal = true
 is_advice_group _ = false
 
 abbrev pub is_ack_kind : Group → Bool
-is_ack_kind IsAck = true
-is_ack_kind IsReply = true
+is_ack_kind groups.Acknowledgement = true
+is_ack_kind groups.Reply = true
 is_ack_kind _ = false
 
-abbrev pub is_ok_ack : Option Message → Bool
+abbrev pub is_ok_ack : Option Fields → Bool
 is_ok_ack None = false
 is_ok_ack (Some m) = is_ack_kind (group m.kind) && bytes_eq (code_of m) code_00
 
-abbrev pub as_kept : Message → Message
+abbrev pub as_kept : Fields → Fields
 as_kept m = as_kind (if is_04xx m.kind then K0420 else K0120) m
 
 abbrev pub add_accepted : ℕ → Bool → Option Handled → List Advice → List Advice
@@ -341,7 +351,7 @@ add_accepted count _ _ as' = as'
 
 -- all advices that were made or accepted, the newest first
 unfoldable pub advices : Network → ℕ → History → List Advice
-unfolding opening answer forwarded asked ask_key handled count_of has_00 key_of code_of identity_of made_reversal made_stand_in
+unfolding opening answer forwarded asked ask_key handled count_of has_00 get find_element el put without set_element remove_element own_key original_key key_of content identity_of code_of response made_from made_stand_in made_reversal
 advices t n [] = []
 advices t n (In i ∷ h) = add_made (λ m. made_reversal m (node_id t n)) (count_of h) (option_and_then (opening t h) (late_key h (advices t n h) i)) (map (acked_by i) (advices t n h))
 advices t n (Out i o ∷ h) =
@@ -350,7 +360,7 @@ advices t n (Out i o ∷ h) =
     (add_made (λ m. made_reversal m (node_id t n)) (count_of h) (option_and_then (opening t h) (failed_key t h i (sent o)))
     (advices t n h)))
 
-unfoldable pub known : Network → ℕ → History → Identity → Bool
+unfoldable pub known : Network → ℕ → History → AdviceId → Bool
 unfolding advices
 known t n h id = list_any (has_identity id) (advices t n h)
 
@@ -363,7 +373,7 @@ abbrev pub home_is : ℕ → Option Issuer → Bool
 home_is n None = false
 home_is n (Some s) = is_home s n
 
-abbrev pub is_at_home : Network → ℕ → Message → Bool
+abbrev pub is_at_home : Network → ℕ → Fields → Bool
 is_at_home t n m = home_is n (issuer t (card_of m))
 
 -- the store, oldest first
@@ -375,12 +385,12 @@ unfoldable pub load : Network → ℕ → History → ℕ
 unfolding stored opened opening answer
 load t n h = length (stored t n h) + 2 * count_by (pending t h) (opened t h)
 
-abbrev pub is_put_of : Identity → Output → Bool
+abbrev pub is_put_of : AdviceId → Output → Bool
 is_put_of id (Put l s m) = is_advice_group (group m.kind) && identity_eq (identity_of m) id
 is_put_of id _ = false
 
 -- this node has put the advice
-unfoldable pub was_put : History → Identity → Bool
+unfoldable pub was_put : History → AdviceId → Bool
 unfolding identity_of
 was_put [] id = false
 was_put (In i ∷ h) id = was_put h id
