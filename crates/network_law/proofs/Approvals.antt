@@ -3,15 +3,17 @@ use Rattle.std.proofs.Common.{◌≡◌, ℕ, zero, suc, ◌<◌, List, [], ◌�
 use Rattle.std.proofs.lemmas.Bool.{and_parts, or_cases, or_right}
 use Rattle.std.proofs.lemmas.Option.{same_Some}
 use Rattle.net_rows.specs.Network.{Network, other_end}
-use Rattle.network_law.specs.Traces.{Input, Enter, Take, LinkUp, LinkDown, Tick, HostAnswer, NewDate, Output, Put, Event, In, Out, History, Handled, handled, Opening, opening, sent, has_00, is_00_of, brings_00, key_of_00, own_approval, Approval, approval_by, approval_of, approvals, ask_key, is_key, forwarded}
+use Rattle.network_law.specs.Traces.{Input, Enter, Take, LinkUp, LinkDown, Tick, HostAnswer, NewDate, Output, Put, Event, In, Out, History, Handled, handled, Opening, opening, sent, has_00, is_00_of, brings_00, key_of_00, own_approval, Approval, approval_by, approval_of, approvals, ask_key, is_key, forwarded, IsIn, Has}
 use Rattle.network_law.specs.Decision.{decide, refusal, sent_kind}
-use Rattle.network_law.specs.Runs.{IsFormed, IsIn, Has, Entry, history, Legal, IsRun, Ranks, IsRanked, HasSingleGates, LeadsToApproval, C3}
+use Rattle.network_law.specs.Runs.{IsFormed, Entry, history, Legal, IsRun}
+use Rattle.network_law.specs.Checked.{Ranks, IsRanked, IsSound}
+use Rattle.network_law.specs.Claims.{LeadsToApproval, ApprovalsLead}
 use Rattle.network_law.proofs.Emits.{Allowed, forwarding, asking, standing_in, passing, declining, repeating, refusing, acking, sending, posting, OpenedFirst, Failed, ViaLink, ViaHost, decide_keeps, key_eq_is, bytes_eq_is, stays_open}
 use Rattle.network_law.proofs.Node.{NodeFacts, OpensNow, opening_in_cases, legal_facts, facts_out, keeps_issuers, answer_no_request, answer_is, response_is_of_kind, forwarded_has}
 use Rattle.network_law.proofs.Elements.{response_key}
 use Rattle.network_law.proofs.Used.{OwnFacts, Stood, own_case, own_in_entry, has_00_more, brings_more, ask_key_more, answer_has_00, reply_message, response_code, acked_kind, advice_no_answer}
 use Rattle.network_law.proofs.Chain.{rank, forward_falls}
-use Rattle.network_law.proofs.Ends.{legal_at}
+use Rattle.network_law.proofs.Ends.{legal_at, histories}
 use Rattle.network_law.specs.Cards.{Bytes, card_of}
 use Rattle.iso_message.specs.Fields.{Fields, as_kind}
 use Rattle.iso_message.specs.declared.kind.Kind.TheVariants.{K0100}
@@ -240,27 +242,27 @@ put_00 (Out j o ∷ h) i l s m k has e = ⊎_elim (λ here. or_right (has_00 h k
 
 -- by induction on the rank
 
-approval_by_rank : (t : Network) (ranks : Ranks) (traces : ℕ → List Entry) → IsRun t traces → IsRanked t ranks → HasSingleGates t → (k : Key) (n0 : ℕ) (op0 : Opening) → opening t (history (traces n0)) k ≡ Some op0 → (fuel n : ℕ) → rank ranks (card_of op0.message) n < fuel → has_00 (history (traces n)) k ≡ true → (ns : List ℕ) × LeadsToApproval t traces k n ns
-approval_by_rank t ranks traces run ranked gates k n0 op0 e0 zero n low has = absurd (omega (arith, low))
-approval_by_rank t ranks traces run ranked gates k n0 op0 e0 (suc fuel) n low has = ⊎_elim (λ c. came c (approval_by_rank t ranks traces run ranked gates k n0 op0 e0 fuel (other_end t n c.link))) (λ w. ([], w)) (legal_origins t n (traces n) (legal_at run n) k has)
+approval_by_rank : (t : Network) (ranks : Ranks) (traces : ℕ → List Entry) → IsRun t traces → IsRanked t ranks → IsSound t → (k : Key) (n0 : ℕ) (op0 : Opening) → opening t (history (traces n0)) k ≡ Some op0 → (fuel n : ℕ) → rank ranks (card_of op0.message) n < fuel → has_00 (history (traces n)) k ≡ true → (ns : List ℕ) × LeadsToApproval t (histories traces) k n ns
+approval_by_rank t ranks traces run ranked sound k n0 op0 e0 zero n low has = absurd (omega (arith, low))
+approval_by_rank t ranks traces run ranked sound k n0 op0 e0 (suc fuel) n low has = ⊎_elim (λ c. came c (approval_by_rank t ranks traces run ranked sound k n0 op0 e0 fuel (other_end t n c.link))) (λ w. ([], w)) (legal_origins t n (traces n) (legal_at run n) k has)
   where
-    came : (c : Came00 (history (traces n)) k) → (rank ranks (card_of op0.message) (other_end t n c.link) < fuel → has_00 (history (traces (other_end t n c.link))) k ≡ true → (ns : List ℕ) × LeadsToApproval t traces k (other_end t n c.link) ns) → (ns : List ℕ) × LeadsToApproval t traces k n ns
+    came : (c : Came00 (history (traces n)) k) → (rank ranks (card_of op0.message) (other_end t n c.link) < fuel → has_00 (history (traces (other_end t n c.link))) k ≡ true → (ns : List ℕ) × LeadsToApproval t (histories traces) k (other_end t n c.link) ns) → (ns : List ℕ) × LeadsToApproval t (histories traces) k n ns
     came c ih =
         let put = run.linked n c.link c.serial c.message c.has in
-        let falls : rank ranks (card_of op0.message) (other_end t n c.link) < rank ranks (card_of op0.message) n = forward_falls t ranks traces run ranked gates k n0 op0 e0 n c.link c.forwarded_on in
+        let falls : rank ranks (card_of op0.message) (other_end t n c.link) < rank ranks (card_of op0.message) n = forward_falls t ranks traces run ranked sound k n0 op0 e0 n c.link c.forwarded_on in
         let rest = ih (omega (arith, falls, low)) (put_00 (history (traces (other_end t n c.link))) put.0 c.link c.serial c.message k put.1 c.is_00) in
         let b = forwarded_has (history (traces n)) k c.link c.forwarded_on in
         (other_end t n c.link ∷ rest.0, ((c.link, b.1, b.2, record { input = b.0; put = b.3; request = b.4; key = b.5 }, refl), rest.1))
 
-pub C3_holds : (t : Network) (ranks : Ranks) (traces : ℕ → List Entry) → IsRun t traces → IsRanked t ranks → HasSingleGates t → C3 t traces
-C3_holds t ranks traces run ranked gates k n a e code =
+pub ApprovalsLead_holds : (t : Network) (ranks : Ranks) (traces : ℕ → List Entry) → IsRun t traces → IsRanked t ranks → IsSound t → ApprovalsLead t (histories traces)
+ApprovalsLead_holds t ranks traces run ranked sound k n a e code =
     ⊎_elim forwarded_there (λ w. ([], w)) (legal_origins t n (traces n) (legal_at run n) k has)
   where
     has : has_00 (history (traces n)) k ≡ true
     has = answer_has_00 (history (traces n)) k a e (ap (λ c. bytes_eq c code_00) code)
 
-    forwarded_there : Came00 (history (traces n)) k → (ns : List ℕ) × LeadsToApproval t traces k n ns
+    forwarded_there : Came00 (history (traces n)) k → (ns : List ℕ) × LeadsToApproval t (histories traces) k n ns
     forwarded_there c =
         let b = forwarded_has (history (traces n)) k c.link c.forwarded_on in
         let s = (legal_facts t n (traces n) (legal_at run n)).puts b.0 c.link b.1 b.2 b.3 b.4 in
-        approval_by_rank t ranks traces run ranked gates k n s.op (ap (opening t (history (traces n))) (sym b.5) ∙ s.is) (suc (rank ranks (card_of s.op.message) n)) n (omega arith) has
+        approval_by_rank t ranks traces run ranked sound k n s.op (ap (opening t (history (traces n))) (sym b.5) ∙ s.is) (suc (rank ranks (card_of s.op.message) n)) n (omega arith) has

@@ -7,9 +7,11 @@ use Rattle.card_digits.specs.Digits.{digits_of}
 use Rattle.net_rows.specs.Network.{Network, issuer, other_end}
 use Rattle.net_rows.specs.declared.row.Issuer.{Issuer}
 use Rattle.network_law.specs.Tables.{is_home, is_attached, is_link_of}
-use Rattle.network_law.specs.Traces.{ByLink, Input, Take, Output, Put, Ask, In, Out, History, Opening, opening, forwarded, forwards}
-use Rattle.network_law.specs.Runs.{Has, Entry, history, Legal, NamesOwnLink, IsRun, Ranks, Falls, IsRanked, HasSingleGates, IsForward, IsAsk, S1, S2}
-use Rattle.network_law.proofs.Ends.{legal_at, is_node, not_home, back}
+use Rattle.network_law.specs.Traces.{ByLink, Input, Take, Output, Put, Ask, In, Out, History, Opening, opening, forwarded, forwards, Has}
+use Rattle.network_law.specs.Runs.{Entry, history, Legal, NamesOwnLink, IsRun}
+use Rattle.network_law.specs.Checked.{Ranks, Falls, IsRanked, IsSound}
+use Rattle.network_law.specs.Claims.{IsForward, IsAsk, OnePath, OpenedByThatPut}
+use Rattle.network_law.proofs.Ends.{legal_at, is_node, not_home, back, histories}
 use Rattle.network_law.proofs.Emits.{decide_keeps, key_eq_refl}
 use Rattle.network_law.proofs.Node.{NodeFacts, Sent, Opened, legal_facts, keeps_issuers, forwarded_has}
 use Rattle.iso_message.specs.Fields.{Fields, get, as_kind, el}
@@ -139,7 +141,7 @@ pub record Came (t : Network) (traces : ℕ → List Entry) (k : Key) (n : ℕ) 
   pub back_to : other_end t (other_end t n link) link ≡ n
   pub sent : Sent t (other_end t n link) (history (traces (other_end t n link))) link op.message
 
-module _ (t : Network) (ranks : Ranks) (traces : ℕ → List Entry) (run : IsRun t traces) (ranked : IsRanked t ranks) (gates : HasSingleGates t) (k : Key) where
+module _ (t : Network) (ranks : Ranks) (traces : ℕ → List Entry) (run : IsRun t traces) (ranked : IsRanked t ranks) (sound : IsSound t) (k : Key) where
   facts : (n : ℕ) → NodeFacts t n (history (traces n))
   facts n = legal_facts t n (traces n) (legal_at run n)
 
@@ -220,7 +222,7 @@ module _ (t : Network) (ranks : Ranks) (traces : ℕ → List Entry) (run : IsRu
   same_everywhere n n' op op' e e' =
       let a = stands n op e in
       let b = stands n' op' e' in
-      let g = gates k.acquirer a.gate b.gate a.is_gate b.is_gate in
+      let g = sound.single_gates k.acquirer a.gate b.gate a.is_gate b.is_gate in
       let f : a.first ≡ b.first = same_Some _ _ (sym a.opened_at_gate ∙ (ap (λ z. opening t (history (traces z)) k) g ∙ b.opened_at_gate)) in
       a.same ∙ (ap (λ (z : Opening). content z.message) f ∙ sym b.same)
 
@@ -283,19 +285,19 @@ module _ (t : Network) (ranks : Ranks) (traces : ℕ → List Entry) (run : IsRu
       no lt = omega (arith, lt)
 
   -- a node that has put a request of k has it open
-  opened_of : (n l s : ℕ) (x : Fields) → IsForward traces k n l s x → (op : Opening) × (opening t (history (traces n)) k ≡ Some op)
+  opened_of : (n l s : ℕ) (x : Fields) → IsForward (histories traces) k n l s x → (op : Opening) × (opening t (history (traces n)) k ≡ Some op)
   opened_of n l s x f =
       let sent = (facts n).puts f.input l s x f.put f.request in
       (sent.op, ap (opening t (history (traces n))) (sym f.key) ∙ sent.is)
 
   -- two nodes that put k to one node are one
-  one_sender : (n l s n' l' s' : ℕ) (x x' : Fields) → IsForward traces k n l s x → IsForward traces k n' l' s' x' → other_end t n l ≡ other_end t n' l' → n ≡ n'
+  one_sender : (n l s n' l' s' : ℕ) (x x' : Fields) → IsForward (histories traces) k n l s x → IsForward (histories traces) k n' l' s' x' → other_end t n l ≡ other_end t n' l' → n ≡ n'
   one_sender n l s n' l' s' x x' f f' e =
       let o = opened_of n l s x f in
       let o' = opened_of n' l' s' x' f' in
       let a = stands n o.0 o.1 in
       let b = stands n' o'.0 o'.1 in
-      let g : a.gate ≡ b.gate = gates k.acquirer a.gate b.gate a.is_gate b.is_gate in
+      let g : a.gate ≡ b.gate = sound.single_gates k.acquirer a.gate b.gate a.is_gate b.is_gate in
       let at : chain t traces k a.gate (suc a.place) ≡ Some (other_end t n l) = next_is a.gate a.place n l s f.input x a.at f.put f.request f.key in
       let at' : chain t traces k b.gate (suc b.place) ≡ Some (other_end t n' l') = next_is b.gate b.place n' l' s' f'.input x' b.at f'.put f'.request f'.key in
       let at'' : chain t traces k a.gate (suc b.place) ≡ Some (other_end t n l) = ap (λ z. chain t traces k z (suc b.place)) g ∙ (at' ∙ ap Some (sym e)) in
@@ -303,11 +305,11 @@ module _ (t : Network) (ranks : Ranks) (traces : ℕ → List Entry) (run : IsRu
       let place : a.place ≡ b.place = omega (arith, same) in
       same_Some _ _ (sym a.at ∙ (ap (chain t traces k a.gate) place ∙ (ap (λ z. chain t traces k z b.place) g ∙ b.at)))
 
-  same_put : (n l s n' l' s' : ℕ) (x x' : Fields) → IsForward traces k n l s x → IsForward traces k n' l' s' x' → n ≡ n' → (l ≡ l') × (s ≡ s') × (x ≡ x')
+  same_put : (n l s n' l' s' : ℕ) (x x' : Fields) → IsForward (histories traces) k n l s x → IsForward (histories traces) k n' l' s' x' → n ≡ n' → (l ≡ l') × (s ≡ s') × (x ≡ x')
   same_put n l s n' l' s' x x' f f' e =
       (facts n).one_put f.input f'.input l s l' s' x x' f.put (subst (λ z. Has (Out f'.input (Put l' s' x')) (history (traces z))) (sym e) f'.put) f.request f'.request (f.key ∙ sym f'.key)
 
-  pub one_forward : (n l s n' l' s' : ℕ) (x x' : Fields) → IsForward traces k n l s x → IsForward traces k n' l' s' x' → other_end t n l ≡ other_end t n' l' → (n ≡ n') × (l ≡ l') × (s ≡ s')
+  pub one_forward : (n l s n' l' s' : ℕ) (x x' : Fields) → IsForward (histories traces) k n l s x → IsForward (histories traces) k n' l' s' x' → other_end t n l ≡ other_end t n' l' → (n ≡ n') × (l ≡ l') × (s ≡ s')
   one_forward n l s n' l' s' x x' f f' e =
       let m : n ≡ n' = one_sender n l s n' l' s' x x' f f' e in
       let p = same_put n l s n' l' s' x x' f f' m in
@@ -316,7 +318,7 @@ module _ (t : Network) (ranks : Ranks) (traces : ℕ → List Entry) (run : IsRu
   home_of : (n n' : ℕ) (s s' : Issuer) → s ≡ s' → is_home s n ≡ true → is_home s' n' ≡ true → n ≡ n'
   home_of n n' s s' e h h' = sym (eqb-true s.home n h) ∙ (ap Issuer.home e ∙ eqb-true s'.home n' h')
 
-  pub one_ask_in_all : (n a n' a' : ℕ) → IsAsk traces k n a → IsAsk traces k n' a' → (n ≡ n') × (a ≡ a')
+  pub one_ask_in_all : (n a n' a' : ℕ) → IsAsk (histories traces) k n a → IsAsk (histories traces) k n' a' → (n ≡ n') × (a ≡ a')
   one_ask_in_all n a n' a' q q' =
       let b = (facts n).asks q.input a q.message q.put in
       let b' = (facts n').asks q'.input a' q'.message q'.put in
@@ -328,7 +330,7 @@ module _ (t : Network) (ranks : Ranks) (traces : ℕ → List Entry) (run : IsRu
       let nodes : n ≡ n' = home_of n n' b.s b'.s issuers b.home b'.home in
       (nodes, (facts n).one_ask q.input q'.input a a' q.message q'.message q.put (subst (λ z. Has (Out q'.input (Ask a' q'.message)) (history (traces z))) (sym nodes) q'.put) (q.key ∙ sym q'.key))
 
-  pub opened_by_put : (n l s : ℕ) (x : Fields) (op : Opening) → IsForward traces k n l s x → opening t (history (traces (other_end t n l))) k ≡ Some op → op.input ≡ Take l s x
+  pub opened_by_put : (n l s : ℕ) (x : Fields) (op : Opening) → IsForward (histories traces) k n l s x → opening t (history (traces (other_end t n l))) k ≡ Some op → op.input ≡ Take l s x
   unfolding chain
   opened_by_put n l s x op f e = ⊎_elim from_link from_gate (came (other_end t n l) op e)
     where
@@ -336,7 +338,7 @@ module _ (t : Network) (ranks : Ranks) (traces : ℕ → List Entry) (run : IsRu
       from_gate is_gate =
           let o = opened_of n l s x f in
           let a = stands n o.0 o.1 in
-          let g : a.gate ≡ other_end t n l = gates k.acquirer a.gate (other_end t n l) a.is_gate is_gate in
+          let g : a.gate ≡ other_end t n l = sound.single_gates k.acquirer a.gate (other_end t n l) a.is_gate is_gate in
           let at : chain t traces k a.gate (suc a.place) ≡ Some (other_end t n l) = next_is a.gate a.place n l s f.input x a.at f.put f.request f.key in
           let at0 : chain t traces k a.gate 0 ≡ Some (other_end t n l) = first_is a.gate (other_end t n l) g in
           let bad : suc a.place ≡ 0 = one_place n o.0 o.1 a.gate (suc a.place) 0 (other_end t n l) at at0 in
@@ -347,18 +349,18 @@ module _ (t : Network) (ranks : Ranks) (traces : ℕ → List Entry) (run : IsRu
 
       from_link : Came t traces k (other_end t n l) op → op.input ≡ Take l s x
       from_link c =
-          let f' : IsForward traces k (other_end t (other_end t n l) c.link) c.link c.serial op.message = record { input = c.from_input; put = c.put; request = request_here (other_end t n l) op e; key = key_here (other_end t n l) op e } in
+          let f' : IsForward (histories traces) k (other_end t (other_end t n l) c.link) c.link c.serial op.message = record { input = c.from_input; put = c.put; request = request_here (other_end t n l) op e; key = key_here (other_end t n l) op e } in
           let m : n ≡ other_end t (other_end t n l) c.link = one_sender n l s (other_end t (other_end t n l) c.link) c.link c.serial x op.message f f' (sym c.back_to) in
           let p = same_put n l s (other_end t (other_end t n l) c.link) c.link c.serial x op.message f f' m in
           c.input ∙ (ap (λ z. Take z c.serial op.message) (sym p.0) ∙ (ap (λ z. Take l z op.message) (sym p.1) ∙ ap (Take l s) (sym p.2)))
 
 -- the laws
 
-pub S1_holds : (t : Network) (ranks : Ranks) (traces : ℕ → List Entry) → IsRun t traces → IsRanked t ranks → HasSingleGates t → S1 t traces
-S1_holds t ranks traces run ranked gates = record {
-  forwards = λ k. one_forward t ranks traces run ranked gates k;
-  asks = λ k. one_ask_in_all t ranks traces run ranked gates k;
+pub OnePath_holds : (t : Network) (ranks : Ranks) (traces : ℕ → List Entry) → IsRun t traces → IsRanked t ranks → IsSound t → OnePath t (histories traces)
+OnePath_holds t ranks traces run ranked sound = record {
+  forwards = λ k. one_forward t ranks traces run ranked sound k;
+  asks = λ k. one_ask_in_all t ranks traces run ranked sound k;
 }
 
-pub S2_holds : (t : Network) (ranks : Ranks) (traces : ℕ → List Entry) → IsRun t traces → IsRanked t ranks → HasSingleGates t → S2 t traces
-S2_holds t ranks traces run ranked gates k n l s x op f e = opened_by_put t ranks traces run ranked gates k n l s x op f e
+pub OpenedByThatPut_holds : (t : Network) (ranks : Ranks) (traces : ℕ → List Entry) → IsRun t traces → IsRanked t ranks → IsSound t → OpenedByThatPut t (histories traces)
+OpenedByThatPut_holds t ranks traces run ranked sound k n l s x op f e = opened_by_put t ranks traces run ranked sound k n l s x op f e

@@ -5,14 +5,16 @@ use Rattle.std.proofs.lemmas.Option.{same_Some}
 use Rattle.card_digits.specs.Numbers.{decimal}
 use Rattle.net_rows.specs.Network.{Network, other_end, day}
 use Rattle.network_law.specs.Tables.{is_attached, single}
-use Rattle.network_law.specs.Traces.{Source, Gate, ByLink, Input, Enter, Take, Output, Put, Ask, Post, Event, In, Out, History, Opening, opening, answer, answers, sent}
+use Rattle.network_law.specs.Traces.{Source, Gate, ByLink, Input, Enter, Take, Output, Put, Ask, Post, Event, In, Out, History, Opening, opening, answer, answers, sent, Has}
 use Rattle.network_law.specs.Decision.{decide, refusal, reply_output, sent_kind, standin_code, code_by_limits, same_source}
-use Rattle.network_law.specs.Runs.{IsFormed, Has, Entry, history, Legal, IsRun, is_response, IsForward, Ranks, IsRanked, HasSingleGates}
+use Rattle.network_law.specs.Runs.{IsFormed, Entry, history, Legal, IsRun}
+use Rattle.network_law.specs.Claims.{is_response, IsForward}
+use Rattle.network_law.specs.Checked.{Ranks, IsRanked, IsSound}
 use Rattle.network_law.proofs.Emits.{Allowed, forwarding, asking, standing_in, passing, declining, repeating, refusing, acking, sending, posting, handled_as, decide_keeps, from_link, stays_open, bytes_eq_refl}
 use Rattle.network_law.proofs.Node.{NodeFacts, EntryFacts, legal_facts, facts_in, facts_out, keeps_issuers}
 use Rattle.network_law.proofs.Elements.{code_response}
-use Rattle.network_law.proofs.Chain.{S2_holds}
-use Rattle.network_law.proofs.Ends.{legal_at, back}
+use Rattle.network_law.proofs.Chain.{OpenedByThatPut_holds}
+use Rattle.network_law.proofs.Ends.{legal_at, back, histories}
 use Rattle.network_law.specs.Cards.{Bytes, card_of}
 use Rattle.iso_message.specs.Fields.{Fields, el}
 use Rattle.iso_message.specs.Groups.{is_request, is_answer, is_reversal, is_04xx}
@@ -163,12 +165,12 @@ pub content_eq_refl : (c : Content) → content_eq c c ≡ true
 content_eq_refl c = rw (bytes_eq_refl c.card, bytes_eq_refl c.processing, bytes_eq_refl c.amount, bytes_eq_refl c.currency) refl
 
 -- no request that was taken is answered 94
-pub no_request_refused : (t : Network) (ranks : Ranks) (traces : ℕ → List Entry) → IsRun t traces → IsRanked t ranks → HasSingleGates t → (n l s : ℕ) (m : Fields) (op : Opening) → Has (In (Take l s m)) (history (traces n)) → is_request m.kind ≡ true → opening t (history (traces n)) (key_of m) ≡ Some op → (same_source op.source (ByLink l) && content_eq (content op.message) (content m)) ≡ true
-no_request_refused t ranks traces run ranked gates n l s m op has r e =
+pub no_request_refused : (t : Network) (ranks : Ranks) (traces : ℕ → List Entry) → IsRun t traces → IsRanked t ranks → IsSound t → (n l s : ℕ) (m : Fields) (op : Opening) → Has (In (Take l s m)) (history (traces n)) → is_request m.kind ≡ true → opening t (history (traces n)) (key_of m) ≡ Some op → (same_source op.source (ByLink l) && content_eq (content op.message) (content m)) ≡ true
+no_request_refused t ranks traces run ranked sound n l s m op has r e =
     let put = run.linked n l s m has in
     let back = Rattle.network_law.proofs.Ends.back t l n (Rattle.network_law.proofs.Chain.legal_own t n (traces n) (legal_at run n) l s m has) in
-    let f : IsForward traces (key_of m) (other_end t n l) l s m = record { input = put.0; put = put.1; request = r; key = refl } in
-    let input : op.input ≡ Take l s m = S2_holds t ranks traces run ranked gates (key_of m) (other_end t n l) l s m op f (ap (λ z. opening t (history (traces z)) (key_of m)) back ∙ e) in
+    let f : IsForward (histories traces) (key_of m) (other_end t n l) l s m = record { input = put.0; put = put.1; request = r; key = refl } in
+    let input : op.input ≡ Take l s m = OpenedByThatPut_holds t ranks traces run ranked sound (key_of m) (other_end t n l) l s m op f (ap (λ z. opening t (history (traces z)) (key_of m)) back ∙ e) in
     let o = (legal_facts t n (traces n) (legal_at run n)).opens (key_of m) op e in
     go input o.from
   where

@@ -7,11 +7,13 @@ use Rattle.card_digits.specs.Numbers.{pad11}
 use Rattle.net_rows.specs.Network.{Network, issuer, other_end}
 use Rattle.net_rows.specs.declared.row.Issuer.{Issuer}
 use Rattle.network_law.specs.Tables.{node_id, is_attached}
-use Rattle.network_law.specs.Traces.{Input, Put, In, Out, History, Opening, opening, Advice, advices, stored, is_at_home, home_is, is_advice_group}
-use Rattle.network_law.specs.Runs.{IsIn, Has, Entry, history, IsRun, Ranks, IsRanked, HasSingleGates, HasNodeIds, IsStored, IsPosted, post_count, C1}
+use Rattle.network_law.specs.Traces.{Input, Put, In, Out, History, Opening, opening, Advice, advices, stored, is_at_home, home_is, is_advice_group, IsIn, Has}
+use Rattle.network_law.specs.Runs.{Entry, history, IsRun}
+use Rattle.network_law.specs.Checked.{Ranks, IsRanked, IsSound}
+use Rattle.network_law.specs.Claims.{IsStored, IsPosted, post_count, AdvicesKept}
 use Rattle.network_law.proofs.Node.{Opened, legal_facts}
 use Rattle.network_law.proofs.Chain.{rank, highest, RankFalls, falls, legal_own}
-use Rattle.network_law.proofs.Ends.{legal_at, is_node, not_home, back}
+use Rattle.network_law.proofs.Ends.{legal_at, is_node, not_home, back, histories}
 use Rattle.network_law.proofs.Reversals.{legal_sent, advice_04xx}
 use Rattle.network_law.proofs.Accounts.{Alike, alike_refl, alike_more, alike_card, alike_home, any_is, posted_some}
 use Rattle.network_law.proofs.Posts.{Acc, posts, legal_acc, post_has, post_counted, put_is_sent}
@@ -71,7 +73,7 @@ began_alike t traces x y a b = record {
   how = ⊎_elim (λ p. inl (p.0, ap AdviceId.forwarder (sym a.id) ∙ p.1)) (λ p. inr (ap AdviceId.forwarder (sym a.id) ∙ p.0, ap (λ z. is_attached t (Began.node b) (Key.acquirer (AdviceId.key z))) (sym a.id) ∙ p.1)) (Began.how b);
 }
 
-module _ (t : Network) (ranks : Ranks) (traces : ℕ → List Entry) (run : IsRun t traces) (ranked : IsRanked t ranks) (gates : HasSingleGates t) (ids : HasNodeIds t) where
+module _ (t : Network) (ranks : Ranks) (traces : ℕ → List Entry) (run : IsRun t traces) (ranked : IsRanked t ranks) (sound : IsSound t) where
   at : ℕ → History
   at n = history (traces n)
 
@@ -156,12 +158,12 @@ module _ (t : Network) (ranks : Ranks) (traces : ℕ → List Entry) (run : IsRu
   one_node : (x y : Fields) (b : Began t traces x) (c : Began t traces y) → identity_of x ≡ identity_of y → Began.node b ≡ Began.node c
   one_node x y b c e = ⊎_elim
       (λ p. ⊎_elim
-      (λ q. ids.single (Began.node b) (Began.node c) p.0 q.0 (sym p.1 ∙ (ap AdviceId.forwarder e ∙ q.1)))
-      (λ q. absurd (ids.not_zeros (Began.node b) p.0 (sym p.1 ∙ (ap AdviceId.forwarder e ∙ q.0))))
+      (λ q. sound.single_ids (Began.node b) (Began.node c) p.0 q.0 (sym p.1 ∙ (ap AdviceId.forwarder e ∙ q.1)))
+      (λ q. absurd (sound.no_zero_ids (Began.node b) p.0 (sym p.1 ∙ (ap AdviceId.forwarder e ∙ q.0))))
       (Began.how c))
       (λ p. ⊎_elim
-      (λ q. absurd (ids.not_zeros (Began.node c) q.0 (sym q.1 ∙ (ap AdviceId.forwarder (sym e) ∙ p.0))))
-      (λ q. gates (identity_of x).key.acquirer (Began.node b) (Began.node c) p.1 (ap (λ z. is_attached t (Began.node c) (Key.acquirer (AdviceId.key z))) e ∙ q.1))
+      (λ q. absurd (sound.no_zero_ids (Began.node c) q.0 (sym q.1 ∙ (ap AdviceId.forwarder (sym e) ∙ p.0))))
+      (λ q. sound.single_gates (identity_of x).key.acquirer (Began.node b) (Began.node c) p.1 (ap (λ z. is_attached t (Began.node c) (Key.acquirer (AdviceId.key z))) e ∙ q.1))
       (Began.how c))
       (Began.how b)
 
@@ -175,7 +177,7 @@ module _ (t : Network) (ranks : Ranks) (traces : ℕ → List Entry) (run : IsRu
       sym (Began.alike x).content_is ∙ ((acc (Began.node x)).single (Began.advice x) (Began.advice y) (Began.has x) there ((Began.alike x).id ∙ (e ∙ sym (Began.alike y).id)) ∙ (Began.alike y).content_is)
 
   Somewhere : Fields → Type 0
-  Somewhere x = (m : ℕ) × (IsStored t traces x m ⊎ IsPosted t traces x m)
+  Somewhere x = (m : ℕ) × (IsStored t (histories traces) x m ⊎ IsPosted t (histories traces) x m)
 
   somewhere_alike : (x y : Fields) → Alike x y → Somewhere x → Somewhere y
   unfolding Somewhere
@@ -247,10 +249,10 @@ module _ (t : Network) (ranks : Ranks) (traces : ℕ → List Entry) (run : IsRu
       let s : h.0 ≡ h'.0 = same_Some h.0 h'.0 (sym h.1 ∙ (ap (issuer t) card ∙ h'.1)) in
       sym h.2 ∙ (ap Issuer.home s ∙ h'.2)
 
-pub C1_holds : (t : Network) (ranks : Ranks) (traces : ℕ → List Entry) → IsRun t traces → IsRanked t ranks → HasSingleGates t → HasNodeIds t → C1 t traces
+pub AdvicesKept_holds : (t : Network) (ranks : Ranks) (traces : ℕ → List Entry) → IsRun t traces → IsRanked t ranks → IsSound t → AdvicesKept t (histories traces)
 unfolding Somewhere
-C1_holds t ranks traces run ranked gates ids = record {
-  somewhere = λ n a m. somewhere t ranks traces run ranked gates ids (suc (rank ranks (card_of a.message) n)) n a m (omega arith);
-  once = one_home t ranks traces run ranked gates ids;
-  one = λ id n. subst (λ z. z ≤ 1) (sym (post_counted (history (traces n)) id)) ((acc t ranks traces run ranked gates ids n).one id);
+AdvicesKept_holds t ranks traces run ranked sound = record {
+  somewhere = λ n a m. somewhere t ranks traces run ranked sound (suc (rank ranks (card_of a.message) n)) n a m (omega arith);
+  once = one_home t ranks traces run ranked sound;
+  one = λ id n. subst (λ z. z ≤ 1) (sym (post_counted (history (traces n)) id)) ((acc t ranks traces run ranked sound n).one id);
 }

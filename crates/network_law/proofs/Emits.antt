@@ -8,9 +8,8 @@ use mathlib.Core.List.{reverse-cons}
 use Rattle.net_rows.specs.Network.{Network, issuer}
 use Rattle.net_rows.specs.declared.row.Issuer.{Issuer}
 use Rattle.network_law.specs.Tables.{is_home, node_id, route_links}
-use Rattle.network_law.specs.Traces.{Source, Gate, ByLink, Input, Enter, Take, LinkUp, LinkDown, Tick, HostAnswer, NewDate, Output, Put, Answer, Ask, Post, In, Out, History, count_of, ask_count, ask_key, Handled, handled, Opening, opening, opened, answer, pending, forwarded, fails, Advice, advices, known, stored, as_kept, is_at_home, brings_00, is_link, comes_late, ticks_by, is_due_at, asked, asks, key_asked, is_timer, was_put, reversed, load, is_up}
+use Rattle.network_law.specs.Traces.{Source, Gate, ByLink, Input, Enter, Take, LinkUp, LinkDown, Tick, HostAnswer, NewDate, Output, Put, Answer, Ask, Post, In, Out, History, count_of, ask_count, ask_key, Handled, handled, Opening, opening, opened, answer, pending, forwarded, fails, Advice, advices, known, stored, as_kept, is_at_home, brings_00, is_link, comes_late, ticks_by, is_due_at, asked, asks, key_asked, is_timer, was_put, reversed, load, is_up, IsIn}
 use Rattle.network_law.specs.Decision.{decide, advice_due, reply, reply_output, next_put, emit, keep, send, send_by, own_way, sent_kind, standin, standin_code, fail, fail_all, send_all, failing, due_advices, on_request, on_issuer, on_forward, on_repeat, on_reversal, on_advice, on_answer, on_host, on_code, on_group, on_handled, same_source, first_up, as_code, answer_pending, other_content}
-use Rattle.network_law.specs.Runs.{IsIn}
 use Rattle.network_law.specs.Cards.{Bytes, is_good_card, card_of}
 use Rattle.iso_message.specs.Fields.{Fields, el, as_kind}
 use Rattle.iso_message.specs.declared.kind.Kind.{Kind}

@@ -6,8 +6,12 @@ use Rattle.net_rows.specs.Network.{Network, other_end}
 use Rattle.net_rows.specs.declared.row.Issuer.{Issuer}
 use Rattle.net_rows.specs.declared.row.Link.{Link}
 use Rattle.network_law.specs.Tables.{is_home, is_link_of}
-use Rattle.network_law.specs.Traces.{Event}
-use Rattle.network_law.specs.Runs.{Entry, history, Legal, Has, IsRun}
+use Rattle.network_law.specs.Traces.{History, Event, Has}
+use Rattle.network_law.specs.Runs.{Entry, history, Legal, IsRun}
+
+-- the histories of a run's nodes
+abbrev pub histories : (ℕ → List Entry) → ℕ → History
+histories traces n = history (traces n)
 
 -- every node has a legal trace: one that isn't of the tables has an empty one
 pub legal_at : {t : Network} {traces : ℕ → List Entry} → IsRun t traces → (n : ℕ) → Legal t n (traces n)

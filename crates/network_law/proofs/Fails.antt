@@ -5,9 +5,10 @@ use Rattle.std.proofs.lemmas.Bool.{cond_both}
 use Rattle.std.specs.Option.{option_or, option_and_then}
 use Rattle.net_rows.specs.Network.{Network}
 use Rattle.network_law.specs.Tables.{node_id}
-use Rattle.network_law.specs.Traces.{Input, Tick, LinkDown, Output, Event, In, Out, History, Opening, opening, answer, answers, sent, forwarded, asked, ticks_by, is_timer, failed_key, pending, advices, is_ok_ack, handled, own_approval, count_of, add_made, reverses_key}
+use Rattle.network_law.specs.Traces.{Input, Tick, LinkDown, Output, Event, In, Out, History, Opening, opening, answer, answers, sent, forwarded, asked, ticks_by, is_timer, failed_key, pending, advices, is_ok_ack, handled, own_approval, count_of, add_made, reverses_key, IsIn}
 use Rattle.network_law.specs.Decision.{decide, fail, fail_all, failing, send_all, due_advices, standin, standin_code, keep, reply, reply_output}
-use Rattle.network_law.specs.Runs.{IsIn, HasLengths, has_reversal}
+use Rattle.network_law.specs.Runs.{HasLengths}
+use Rattle.network_law.specs.Claims.{has_reversal}
 use Rattle.network_law.proofs.Emits.{standing, keep_keeps, fail_all_keeps, stays_open, key_eq_refl, decide_keeps, failing_ticks, FailsNow}
 use Rattle.network_law.proofs.Node.{NodeFacts, keeps_issuers, answers_is, response_is_of_kind}
 use Rattle.network_law.proofs.Elements.{code_response, response_key}

@@ -8,14 +8,15 @@ use Rattle.net_rows.specs.Network.{Network, issuer}
 use Rattle.network_law.specs.Tables.{is_home, node_id}
 use Rattle.network_law.specs.Traces.{Source, ByLink, Input, Enter, Take, LinkUp, LinkDown, Tick, HostAnswer, NewDate, Output, Event, In, Out, History, Handled, handled, Opening, opening, answer, answers, sent, is_00_of, brings_00, own_approval, Advice, advices, add_advice, add_made, add_accepted, acked_by, has_identity, reverses_key, late_key, code_is_not_00, failed_key, is_ok_ack, is_ack_kind, as_kept, is_timer, is_link, forwarded, forwards, pending, count_of, known, date_of}
 use Rattle.network_law.specs.Decision.{decide, refusal, reply, reply_output, sent_kind, standin_code, on_answer, on_code, on_reversal, on_handled, answer_pending, other_content}
-use Rattle.network_law.specs.Runs.{IsRun, IsFormed, Entry, history, Legal, HasLengths, answered_by, takes_00, took_00, takes_answer, has_reversal, C2}
+use Rattle.network_law.specs.Runs.{IsRun, IsFormed, Entry, history, Legal, HasLengths}
+use Rattle.network_law.specs.Claims.{answered_by, takes_00, took_00, takes_answer, has_reversal, LateApprovalsUndone}
 use Rattle.network_law.proofs.Emits.{Allowed, forwarding, asking, standing_in, passing, declining, repeating, refusing, acking, sending, posting, OpenedFirst, Failed, Reversing, ViaLink, ViaHost, Kept, accepting, handled_as, decide_keeps, keep_keeps, key_eq_refl, key_eq_is, bytes_eq_refl, bytes_eq_is, stays_open, ask_key_asked, is_kept_group}
 use Rattle.network_law.proofs.Node.{NodeFacts, EntryFacts, Opened, legal_facts, facts_in, facts_out, keeps_issuers, answer_no_request, answer_is, answers_is, response_is_of_kind, forwarded_has, asked_has, Sent}
 use Rattle.network_law.proofs.Elements.{code_response, response_key, made_reversal_key, reversal_kind}
 use Rattle.network_law.proofs.Used.{any_more, add_made_keeps, add_accepted_keeps, sent_reply, reply_message, response_code, acked_kind, advice_no_answer}
 use Rattle.network_law.proofs.Codes.{answer_not_94}
 use Rattle.network_law.proofs.Approvals.{forwarded_more, is_00_parts}
-use Rattle.network_law.proofs.Ends.{legal_at}
+use Rattle.network_law.proofs.Ends.{legal_at, histories}
 use Rattle.network_law.specs.Cards.{Bytes, is_good_card, card_of}
 use Rattle.iso_message.specs.Fields.{Fields, el, as_kind}
 use Rattle.iso_message.specs.declared.kind.Kind.{Kind}
@@ -666,8 +667,8 @@ unfolding history answered_by took_00
 legal_late t n [] l = record { open_answers = λ k j e. absurd (none_some j e); settled = λ k l j fw e. absurd (none_some j e); took = λ k e. absurd (not_both false e refl) }
 legal_late t n (e ∷ es) l = subst (LateFacts t n) (sym l.1.outputs) (late_decide t n (history es) e.input l.1.formed l.1.accepted (legal_facts t n es l.0) (legal_late t n es l.0))
 
-pub C2_holds : (t : Network) (traces : ℕ → List Entry) → IsRun t traces → C2 t traces
-C2_holds t traces run = record {
+pub LateApprovalsUndone_holds : (t : Network) (traces : ℕ → List Entry) → IsRun t traces → LateApprovalsUndone t (histories traces)
+LateApprovalsUndone_holds t traces run = record {
   taken = λ n k e. (legal_late t n (traces n) (legal_at run n)).took k e;
   answered = λ n l k i fw an no_answer. ⊎_elim (λ takes. absurd (other n k i takes no_answer)) (λ rest. ⊎_elim (λ o. absurd (not_both (takes_answer k i) o.takes no_answer)) (λ r. r) rest) ((legal_late t n (traces n) (legal_at run n)).settled k l i fw an);
 }

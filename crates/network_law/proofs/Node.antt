@@ -6,9 +6,9 @@ use Rattle.std.specs.Option.{option_or}
 use Rattle.net_rows.specs.Network.{Network, issuer}
 use Rattle.net_rows.specs.declared.row.Issuer.{Issuer}
 use Rattle.network_law.specs.Tables.{is_home, route_links, is_attached}
-use Rattle.network_law.specs.Traces.{Source, Gate, ByLink, Input, Enter, Take, LinkUp, LinkDown, Tick, HostAnswer, NewDate, Output, Put, Answer, Ask, Post, In, Out, History, Handled, handled, Opening, opening, opened_by, answer, answers, sent, forwarded, forwards, asked, asks, ticks_by, count_of, dated, date_of}
+use Rattle.network_law.specs.Traces.{Source, Gate, ByLink, Input, Enter, Take, LinkUp, LinkDown, Tick, HostAnswer, NewDate, Output, Put, Answer, Ask, Post, In, Out, History, Handled, handled, Opening, opening, opened_by, answer, answers, sent, forwarded, forwards, asked, asks, ticks_by, count_of, dated, date_of, IsIn, Has}
 use Rattle.network_law.specs.Decision.{decide, refusal, reply_output, next_put, sent_kind}
-use Rattle.network_law.specs.Runs.{IsIn, Has, Entry, history, Legal, HasLengths, IsFormed}
+use Rattle.network_law.specs.Runs.{Entry, history, Legal, HasLengths, IsFormed}
 use Rattle.network_law.proofs.Emits.{Allowed, forwarding, asking, standing_in, passing, declining, repeating, refusing, acking, sending, posting, Forwarding, Asking, handled_as, Issued, KeepsIssuers, decide_keeps, stays_open, opening_now, opens_now, key_eq_is}
 use Rattle.network_law.specs.Cards.{Bytes, card_of}
 use Rattle.iso_message.proofs.Changes.{get_set, get_remove}

@@ -8,9 +8,9 @@ use Rattle.card_digits.specs.Numbers.{pad11}
 use Rattle.net_rows.specs.Network.{Network, issuer}
 use Rattle.net_rows.specs.declared.row.Issuer.{Issuer}
 use Rattle.network_law.specs.Tables.{is_home, node_id, route_links, is_attached}
-use Rattle.network_law.specs.Traces.{Source, Input, Enter, Take, LinkUp, LinkDown, Tick, HostAnswer, NewDate, Output, Put, In, Out, Event, History, Handled, handled, Opening, opening, sent, own_approval, Advice, advices, add_advice, add_made, add_accepted, acked_by, is_ack, is_ack_of, has_identity, late_key, failed_key, is_ok_ack, is_advice_group, is_ack_kind, as_kept, dated, date_of, count_of, forwarded, is_up}
+use Rattle.network_law.specs.Traces.{Source, Input, Enter, Take, LinkUp, LinkDown, Tick, HostAnswer, NewDate, Output, Put, In, Out, Event, History, Handled, handled, Opening, opening, sent, own_approval, Advice, advices, add_advice, add_made, add_accepted, acked_by, is_ack, is_ack_of, has_identity, late_key, failed_key, is_ok_ack, is_advice_group, is_ack_kind, as_kept, dated, date_of, count_of, forwarded, is_up, IsIn, Has}
 use Rattle.network_law.specs.Decision.{decide, refusal, reply_output, sent_kind, own_way, entered_kind, standin_code}
-use Rattle.network_law.specs.Runs.{IsFormed, IsIn, Has, Entry, history, Legal}
+use Rattle.network_law.specs.Runs.{IsFormed, Entry, history, Legal}
 use Rattle.network_law.proofs.Emits.{Allowed, forwarding, asking, standing_in, passing, declining, repeating, refusing, acking, sending, posting, Acking, Sending, Kept, due, reversing, standing, accepting, handled_as, Issued, decide_keeps, stays_open, is_kept_group, found_is_in, from_link}
 use Rattle.network_law.proofs.Node.{NodeFacts, EntryFacts, legal_facts, facts_out, keeps_issuers, response_is_of_kind, put_parts}
 use Rattle.network_law.proofs.Elements.{own_key_response, el_response, carried, made_base}

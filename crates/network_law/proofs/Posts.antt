@@ -8,9 +8,9 @@ use mathlib.Core.List.{reverse-cons}
 use Rattle.net_rows.specs.Network.{Network, issuer}
 use Rattle.net_rows.specs.declared.row.Issuer.{Issuer}
 use Rattle.network_law.specs.Tables.{is_home, node_id, route_links, single}
-use Rattle.network_law.specs.Traces.{Source, Gate, ByLink, Input, Enter, Take, LinkUp, LinkDown, Tick, HostAnswer, NewDate, Output, Put, Answer, Ask, Post, In, Out, History, Handled, handled, Opening, opening, opened, with_new, key_handled, answer, answers, sent, has_00, is_00_of, brings_00, own_approval, Advice, advices, add_advice, add_made, add_accepted, acked_by, has_identity, late_key, comes_late, code_is_not_00, failed_key, is_ok_ack, is_advice_group, is_ack_kind, as_kept, is_timer, is_link, forwarded, forwards, pending, fails, count_of, known, reversed, is_at_home, ask_key, ask_count, load, was_put, is_up}
+use Rattle.network_law.specs.Traces.{Source, Gate, ByLink, Input, Enter, Take, LinkUp, LinkDown, Tick, HostAnswer, NewDate, Output, Put, Answer, Ask, Post, In, Out, History, Handled, handled, Opening, opening, opened, with_new, key_handled, answer, answers, sent, has_00, is_00_of, brings_00, own_approval, Advice, advices, add_advice, add_made, add_accepted, acked_by, has_identity, late_key, comes_late, code_is_not_00, failed_key, is_ok_ack, is_advice_group, is_ack_kind, as_kept, is_timer, is_link, forwarded, forwards, pending, fails, count_of, known, reversed, is_at_home, ask_key, ask_count, load, was_put, is_up, IsIn, Has}
 use Rattle.network_law.specs.Decision.{decide, reply, reply_output, next_put, emit, sent_kind, keep, send, send_by, own_way, standin, standin_code, fail, fail_all, failing, send_all, due_advices, on_request, on_issuer, on_forward, on_repeat, on_reversal, on_advice, on_answer, on_host, on_code, as_code, on_group, answer_pending, other_content, first_up, same_source}
-use Rattle.network_law.specs.Runs.{IsFormed, IsIn, Has, HasLengths, Entry, history, Legal}
+use Rattle.network_law.specs.Runs.{IsFormed, HasLengths, Entry, history, Legal}
 use Rattle.network_law.proofs.Emits.{handled_as, is_kept_group, key_eq_refl, key_eq_is, bytes_eq_is, stays_open, opening_now, opens_now, handled_no_timer, in_filter, filtered_in, in_append, in_reverse, due_from, from_link, request_from_group, answer_from_group}
 use Rattle.network_law.proofs.Node.{NodeFacts, answer_is, answers_is, response_is_of_kind, answer_no_request, OpensNow, opening_in_cases}
 use Rattle.network_law.proofs.Elements.{code_response, response_key, made_reversal_key, reversal_kind, el_made}
@@ -32,6 +32,7 @@ use Rattle.iso_message.specs.Keys.{advice_kind, key_of, key_eq, own_key, identit
 use Rattle.iso_message.specs.declared.keys.AdviceId.{AdviceId}
 use Rattle.iso_message.specs.Codes.{code_of, code_94, code_96, code_92, code_68, code_14, code_05, code_00}
 use Rattle.iso_message.specs.Made.{response, made_reversal, made_stand_in, made_from}
+use Rattle.network_law.specs.Claims.{answered_by, post_count}
 use Rattle.iso_message.specs.declared.kind.Group.TheVariants as groups
 
 not_both : (b : Bool) → b ≡ true → b ≡ false → ⊥
@@ -279,9 +280,9 @@ request_brings_none t past h (NewDate d) m src e r = refl
 
 -- what isn't open is not answered
 unopened : {t : Network} {n : ℕ} {past : History} → LateFacts t n past → (k : Key) → opening t past k ≡ None → answer past k ≡ None
-unopened {t = t} {past = past} late k e = go (Rattle.network_law.specs.Runs.answered_by past k) refl
+unopened {t = t} {past = past} late k e = go (Rattle.network_law.specs.Claims.answered_by past k) refl
   where
-    go : (w : Option Input) → Rattle.network_law.specs.Runs.answered_by past k ≡ w → answer past k ≡ None
+    go : (w : Option Input) → Rattle.network_law.specs.Claims.answered_by past k ≡ w → answer past k ≡ None
     go None at = answer_when past k at
     go (Some j) at = let r = late.open_answers k j at in absurd (none_some r.0 (sym e ∙ r.1))
 
@@ -1072,8 +1073,8 @@ post_has (Out i (Put l s y) ∷ h) x m = let r = post_has h x m in (r.0, inr r.1
 post_has (Out i (Answer y) ∷ h) x m = let r = post_has h x m in (r.0, inr r.1)
 post_has (Out i (Ask a y) ∷ h) x m = let r = post_has h x m in (r.0, inr r.1)
 
-pub post_counted : (h : History) (id : AdviceId) → Rattle.network_law.specs.Runs.post_count h id ≡ posted_of id (posts h)
-unfolding Rattle.network_law.specs.Runs.post_count posts posted_of
+pub post_counted : (h : History) (id : AdviceId) → Rattle.network_law.specs.Claims.post_count h id ≡ posted_of id (posts h)
+unfolding Rattle.network_law.specs.Claims.post_count posts posted_of
 post_counted [] id = refl
 post_counted (In i ∷ h) id = post_counted h id
 post_counted (Out i (Post y) ∷ h) id = ap (λ z. (cond (identity_eq (identity_of y) id) 1 0) + z) (post_counted h id)

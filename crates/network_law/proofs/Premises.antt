@@ -5,16 +5,19 @@ use Rattle.card_digits.specs.Numbers.{pad11}
 use Rattle.card_digits.specs.Longest.{begins}
 use Rattle.net_rows.specs.Network.{other_end}
 use Rattle.network_law.specs.Tables.{route_links, is_attached, node_id}
-use Rattle.network_law.specs.Traces.{Input, Enter, Take, Tick, Put, Answer, Post, Event, In, Out, advices, stored}
+use Rattle.network_law.specs.Traces.{Input, Enter, Take, Tick, Put, Answer, Post, Event, In, Out, advices, stored, IsIn, Has}
 use Rattle.network_law.specs.Decision.{decide, refusal}
-use Rattle.network_law.specs.Runs.{IsIn, Entry, Legal, IsRun, history, Has, Ranks, Falls, IsRanked, HasSingleGates, HasNodeIds, C1}
+use Rattle.network_law.specs.Runs.{Entry, Legal, IsRun, history}
+use Rattle.network_law.specs.Checked.{Ranks, Falls, IsRanked, IsSound}
+use Rattle.network_law.specs.Claims.{AdvicesKept}
 use Rattle.network_law.proofs.Emits.{bytes_eq_refl}
 use Rattle.network_law.proofs.Rows.{M, M15, R, base, card, zeros6, amount1, time1, trace1, date1, acq, cur, id_a, id_h, four, e90, reversal}
-use Rattle.network_law.proofs.Covered.{C1_holds}
+use Rattle.network_law.proofs.Covered.{AdvicesKept_holds}
 use Rattle.network_law.specs.Cards.{Bytes}
 use Rattle.iso_message.specs.Fields.{Fields}
 use Rattle.iso_message.specs.declared.kind.Kind.TheVariants.{K0430}
 use Rattle.iso_message.specs.Codes.{code_00}
+use Rattle.network_law.proofs.Ends.{histories}
 
 not_both : (b : Bool) → b ≡ true → b ≡ false → ⊥
 not_both b p q = cc
@@ -44,14 +47,14 @@ ranked c s (suc n) l is less away on = go (eqb 0 (suc n)) refl on
 at_gate : (n : ℕ) (a : Bytes) → is_attached base n a ≡ true → n ≡ 0
 at_gate n a e = ⊎_elim (λ here. sym (eqb-true 0 n (and_parts (eqb 0 n) (bytes_eq (pad11 acq) a) here).0)) (λ bad. absurd (not_both false bad refl)) (or_cases (eqb 0 n && bytes_eq (pad11 acq) a) false e)
 
-gates : HasSingleGates base
+gates : (acquirer : Bytes) (n m : ℕ) → is_attached base n acquirer ≡ true → is_attached base m acquirer ≡ true → n ≡ m
 gates a n m e e' = at_gate n a e ∙ sym (at_gate m a e')
 
 other_ids : (x y : Bytes) → bytes_eq x y ≡ false → x ≡ y → ⊥
 other_ids x y d e = not_both (bytes_eq x y) (subst (λ z. bytes_eq x z ≡ true) e (bytes_eq_refl x)) d
 
-ids : HasNodeIds base
-ids = record { single = single; not_zeros = not_zeros }
+sound : IsSound base
+sound = record { single_gates = gates; single_ids = single; no_zero_ids = not_zeros }
   where
     single : (n m : ℕ) → n < 2 → m < 2 → pad11 (node_id base n) ≡ pad11 (node_id base m) → n ≡ m
     single zero zero p q e = refl
@@ -131,8 +134,8 @@ none (suc (suc n)) le = refl
 run : IsRun base traces
 run = record { legal = λ n less. legal_each n; no_others = none; linked = λ n l s m has. linked n (In (Take l s m)) has }
 
-covered : C1 base traces
-covered = C1_holds base ranks traces run ranked gates ids
+covered : AdvicesKept base (histories traces)
+covered = AdvicesKept_holds base ranks traces run ranked sound
 
 -- the reversal that A made is acknowledged, and stands in A's store no more
 made_one : advices base 0 (history (traces 0)) ≡ record { message = reversal; count = 3; own = true; acked = true } ∷ []

@@ -7,14 +7,16 @@ use Rattle.std.specs.List.{list_any}
 use Rattle.net_rows.specs.Network.{Network, issuer, other_end}
 use Rattle.net_rows.specs.declared.row.Issuer.{Issuer}
 use Rattle.network_law.specs.Tables.{is_home, node_id, route_links, is_attached}
-use Rattle.network_law.specs.Traces.{Source, ByLink, Input, Enter, Take, LinkUp, LinkDown, Tick, HostAnswer, NewDate, Output, Put, In, Out, History, Handled, handled, Opening, opening, sent, own_approval, Advice, advices, add_advice, add_made, add_accepted, acked_by, has_identity, reverses_key, late_key, comes_late, failed_key, is_ok_ack, is_advice_group, is_ack_kind, as_kept, ask_key, asked, is_timer, is_link, forwarded, forwards, pending, count_of, known, reversed, home_is, dated, date_of, is_up, ticks_by}
+use Rattle.network_law.specs.Traces.{Source, ByLink, Input, Enter, Take, LinkUp, LinkDown, Tick, HostAnswer, NewDate, Output, Put, In, Out, History, Handled, handled, Opening, opening, sent, own_approval, Advice, advices, add_advice, add_made, add_accepted, acked_by, has_identity, reverses_key, late_key, comes_late, failed_key, is_ok_ack, is_advice_group, is_ack_kind, as_kept, ask_key, asked, is_timer, is_link, forwarded, forwards, pending, count_of, known, reversed, home_is, dated, date_of, is_up, ticks_by, IsIn, Has}
 use Rattle.network_law.specs.Decision.{decide, refusal, reply_output, sent_kind, standin_code, other_content, own_way, first_up, when, strange_original, first_missing, required_entered, entered_kind, same_source}
-use Rattle.network_law.specs.Runs.{IsFormed, IsIn, Has, Entry, history, Legal, IsRun, Ranks, IsRanked, HasSingleGates, S5}
+use Rattle.network_law.specs.Runs.{IsFormed, Entry, history, Legal, IsRun}
+use Rattle.network_law.specs.Checked.{Ranks, IsRanked, IsSound}
+use Rattle.network_law.specs.Claims.{NoRepeatReply}
 use Rattle.network_law.proofs.Emits.{Allowed, forwarding, asking, standing_in, passing, declining, repeating, refusing, acking, sending, posting, Forwarding, Sending, Acking, StandingIn, OpenedFirst, Failed, Reversing, ViaLink, ViaHost, Kept, due, reversing, standing, accepting, handled_as, Issued, decide_keeps, key_eq_refl, key_eq_is, bytes_eq_refl, bytes_eq_is, stays_open, ask_key_asked, is_kept_group, is_link_is, found_is_in, via_ticks, IsGood, from_link, handled_no_timer, Accepts}
 use Rattle.network_law.proofs.Node.{NodeFacts, EntryFacts, Opened, OpensNow, opening_in_cases, legal_facts, facts_in, facts_out, keeps_issuers, answer_no_request, response_is_of_kind, response_no_request, forwarded_has, asked_has, Sent, el_dated, el_remove, put_parts, put_case}
 use Rattle.network_law.proofs.Elements.{code_response, response_key, made_reversal_key, content_made_reversal}
 use Rattle.network_law.proofs.Used.{reversed_more, acked_kind, sent_reply, reply_message}
-use Rattle.network_law.proofs.Ends.{legal_at, is_node, not_home, back}
+use Rattle.network_law.proofs.Ends.{legal_at, is_node, not_home, back, histories}
 use Rattle.network_law.proofs.Chain.{rank, highest, RankFalls, falls, same_card, legal_own, chain, step_back, Stands, stands, same_everywhere}
 use Rattle.network_law.proofs.Codes.{legal_codes, no_request_refused, content_eq_refl}
 use Rattle.network_law.proofs.Late.{kept_reversal, handled_in, handled_out}
@@ -902,7 +904,7 @@ pub record Traced (t : Network) (ranks : Ranks) (traces : ℕ → List Entry) (a
   pub made : ((op : Opening) × (opening t (history (traces node)) (key_of x) ≡ Some op) × (content op.message ≡ content x))
       ⊎ ((is_attached t node (key_of x).acquirer ≡ true) × ((op : Opening) (l : ℕ) → opening t (history (traces node)) (key_of x) ≡ Some op → forwarded (history (traces node)) (key_of x) ≡ Some l → content op.message ≡ content x))
 
-module _ (t : Network) (ranks : Ranks) (traces : ℕ → List Entry) (run : IsRun t traces) (ranked : IsRanked t ranks) (gates : HasSingleGates t) where
+module _ (t : Network) (ranks : Ranks) (traces : ℕ → List Entry) (run : IsRun t traces) (ranked : IsRanked t ranks) (sound : IsSound t) where
   sent_at : (a l s : ℕ) (i : Input) (x : Fields) → Has (Out i (Put l s x)) (history (traces a)) → is_reversal x.kind ≡ true → SentReversal t a (history (traces a)) l x
   sent_at a l s i x has r = legal_sent t a (traces a) (legal_at run a) i l s x has r
 
@@ -948,11 +950,11 @@ module _ (t : Network) (ranks : Ranks) (traces : ℕ → List Entry) (run : IsRu
   first_forward : (k : Key) (g j n : ℕ) → chain t traces k g (suc j) ≡ Some n → (l : ℕ) × (forwarded (history (traces g)) k ≡ Some l)
   unfolding chain
   first_forward k g zero n e =
-      let s = step_back t ranks traces run ranked gates k g 0 n e in
+      let s = step_back t ranks traces run ranked sound k g 0 n e in
       let same : g ≡ s.0 = same_Some g s.0 s.1 in
       (s.2, ap (λ z. forwarded (history (traces z)) k) same ∙ s.3)
   first_forward k g (suc j) n e =
-      let s = step_back t ranks traces run ranked gates k g (suc j) n e in
+      let s = step_back t ranks traces run ranked sound k g (suc j) n e in
       first_forward k g j s.0 s.1
 
   -- a reversal that is taken agrees with its key where that is open
@@ -967,16 +969,16 @@ module _ (t : Network) (ranks : Ranks) (traces : ℕ → List Entry) (run : IsRu
       place0 g n e = same_Some g n e
 
       go : (w : Traced t ranks traces (other_end t n l) m) → rank ranks (card_of m) n < rank ranks (card_of m) (other_end t n l) → content op.message ≡ content m
-      go w less = ⊎_elim (λ made. same_everywhere t ranks traces run ranked gates (key_of m) n w.node op made.0 e made.1 ∙ made.2) at_gate w.made
+      go w less = ⊎_elim (λ made. same_everywhere t ranks traces run ranked sound (key_of m) n w.node op made.0 e made.1 ∙ made.2) at_gate w.made
         where
           st : Stands t traces (key_of m) n op
-          st = stands t ranks traces run ranked gates (key_of m) n op e
+          st = stands t ranks traces run ranked sound (key_of m) n op e
 
           at_gate : (is_attached t w.node (key_of m).acquirer ≡ true) × ((op : Opening) (l : ℕ) → opening t (history (traces w.node)) (key_of m) ≡ Some op → forwarded (history (traces w.node)) (key_of m) ≡ Some l → content op.message ≡ content m) → content op.message ≡ content m
           at_gate g = by_place st.place refl
             where
               same : st.gate ≡ w.node
-              same = gates (key_of m).acquirer st.gate w.node st.is_gate g.0
+              same = sound.single_gates (key_of m).acquirer st.gate w.node st.is_gate g.0
 
               by_place : (j : ℕ) → st.place ≡ j → content op.message ≡ content m
               by_place zero is =
@@ -988,9 +990,9 @@ module _ (t : Network) (ranks : Ranks) (traces : ℕ → List Entry) (run : IsRu
                   let f = first_forward (key_of m) st.gate j n (ap (chain t traces (key_of m) st.gate) (sym is) ∙ st.at) in
                   st.same ∙ g.1 st.first f.0 (ap (λ z. opening t (history (traces z)) (key_of m)) (sym same) ∙ st.opened_at_gate) (ap (λ z. forwarded (history (traces z)) (key_of m)) (sym same) ∙ f.1)
 
-pub S5_holds : (t : Network) (ranks : Ranks) (traces : ℕ → List Entry) → IsRun t traces → IsRanked t ranks → HasSingleGates t → S5 traces
-S5_holds t ranks traces run ranked gates n l s i m has r code =
+pub NoRepeatReply_holds : (t : Network) (ranks : Ranks) (traces : ℕ → List Entry) → IsRun t traces → IsRanked t ranks → IsSound t → NoRepeatReply (histories traces)
+NoRepeatReply_holds t ranks traces run ranked sound n l s i m has r code =
     let b = legal_codes t n (traces n) (legal_at run n) i l s m has r code in
-    ⊎_elim (λ d. not_both (same_source b.op.source (ByLink l) && content_eq (content b.op.message) (content b.message)) (no_request_refused t ranks traces run ranked gates n l b.serial b.message b.op b.has d.0 b.opens) d.1)
-    (λ d. not_both (content_eq (content b.op.message) (content b.message)) (ap (λ c. content_eq c (content b.message)) (no_reversal_refused t ranks traces run ranked gates n l b.serial b.message b.op b.has d.0 b.opens) ∙ content_eq_refl (content b.message)) d.1)
+    ⊎_elim (λ d. not_both (same_source b.op.source (ByLink l) && content_eq (content b.op.message) (content b.message)) (no_request_refused t ranks traces run ranked sound n l b.serial b.message b.op b.has d.0 b.opens) d.1)
+    (λ d. not_both (content_eq (content b.op.message) (content b.message)) (ap (λ c. content_eq c (content b.message)) (no_reversal_refused t ranks traces run ranked sound n l b.serial b.message b.op b.has d.0 b.opens) ∙ content_eq_refl (content b.message)) d.1)
     b.differs

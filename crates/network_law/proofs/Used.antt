@@ -8,13 +8,15 @@ use Rattle.card_digits.specs.Numbers.{decimal}
 use Rattle.net_rows.specs.Network.{Network, issuer, day}
 use Rattle.net_rows.specs.declared.row.Issuer.{Issuer}
 use Rattle.network_law.specs.Tables.{node_id, single}
-use Rattle.network_law.specs.Traces.{Source, Gate, ByLink, Input, Enter, Take, LinkUp, LinkDown, Tick, HostAnswer, NewDate, Output, Put, Answer, Ask, Post, Event, In, Out, History, Opening, opening, answer, answers, sent, has_00, is_00_of, brings_00, key_of_00, own_in, own_approval, Approval, approval_by, approval_of, approvals, Advice, advices, add_advice, add_made, add_accepted, acked_by, has_identity, reverses_key, reversed, counted, added, used, ask_key, key_asked, is_key, is_advice_group, count_of, late_key, failed_key, is_ok_ack, handled}
+use Rattle.network_law.specs.Traces.{Source, Gate, ByLink, Input, Enter, Take, LinkUp, LinkDown, Tick, HostAnswer, NewDate, Output, Put, Answer, Ask, Post, Event, In, Out, History, Opening, opening, answer, answers, sent, has_00, is_00_of, brings_00, key_of_00, own_in, own_approval, Approval, approval_by, approval_of, approvals, Advice, advices, add_advice, add_made, add_accepted, acked_by, has_identity, reverses_key, reversed, counted, added, used, ask_key, key_asked, is_key, is_advice_group, count_of, late_key, failed_key, is_ok_ack, handled, IsIn}
 use Rattle.network_law.specs.Decision.{decide, refusal, reply_output, sent_kind, standin_code, code_by_limits}
-use Rattle.network_law.specs.Runs.{IsFormed, IsIn, Entry, history, Legal, IsBounded, S3, S4, AtMost, exposure, IsRun, sum_below}
+use Rattle.network_law.specs.Runs.{IsFormed, Entry, history, Legal, IsRun}
+use Rattle.network_law.specs.Checked.{IsBounded, sum_below}
+use Rattle.network_law.specs.Claims.{NamedApprovers, WithinCeiling, AtMost, exposure}
 use Rattle.network_law.proofs.Emits.{Allowed, forwarding, asking, standing_in, passing, declining, repeating, refusing, acking, sending, posting, Forwarding, Asking, StandingIn, Passing, Declining, Repeating, Refusing, Acking, Sending, Posting, is_kept_group, Issued, decide_keeps, key_eq_refl, key_eq_is, bytes_eq_refl, bytes_eq_is}
 use Rattle.network_law.proofs.Node.{NodeFacts, EntryFacts, Opened, legal_facts, facts_in, facts_out, facts_decide, keeps_issuers, answers_is, response_is_of_kind}
 use Rattle.network_law.proofs.Elements.{code_response, response_key}
-use Rattle.network_law.proofs.Ends.{legal_at}
+use Rattle.network_law.proofs.Ends.{legal_at, histories}
 use Rattle.network_law.specs.Cards.{Bytes, card_of}
 use Rattle.iso_message.specs.Fields.{Fields, el, as_kind}
 use Rattle.iso_message.specs.declared.kind.Kind.{Kind}
@@ -424,9 +426,9 @@ legal_used t n (e ∷ es) l = subst (UsedFacts t n) (sym l.1.outputs) (used_deci
 
 -- the laws
 
-pub S3_holds : (t : Network) (traces : ℕ → List Entry) → IsRun t traces → IsBounded t → S3 t traces
+pub NamedApprovers_holds : (t : Network) (traces : ℕ → List Entry) → IsRun t traces → IsBounded t → NamedApprovers t (histories traces)
 unfolding history approvals
-S3_holds t traces run bounded n a m =
+NamedApprovers_holds t traces run bounded n a m =
     let f = (legal_used t n (traces n) (legal_at run n)).named a m in
     (f.0, f.1, bounded.named (card_of a.request) f.0 n f.1 (live (traces n) refl m) f.2)
   where
@@ -452,14 +454,14 @@ total_zero f (suc n) le =
     let b = total_zero f n le in
     omega (arith, a, b)
 
-pub S4_holds : (t : Network) (traces : ℕ → List Entry) → IsRun t traces → IsBounded t → S4 t traces
+pub WithinCeiling_holds : (t : Network) (traces : ℕ → List Entry) → IsRun t traces → IsBounded t → WithinCeiling t (histories traces)
 unfolding cap_of
-S4_holds t traces run bounded card date = go (issuer t card) refl
+WithinCeiling_holds t traces run bounded card date = go (issuer t card) refl
   where
     cap : (o : Option Issuer) → issuer t card ≡ o → (n : ℕ) → used t n (history (traces n)) card date ≤ cap_of o (day t n card)
     cap o e n = rw e at ((legal_used t n (traces n) (legal_at run n)).within card date)
 
-    go : (o : Option Issuer) → issuer t card ≡ o → AtMost o (exposure t traces card date)
+    go : (o : Option Issuer) → issuer t card ≡ o → AtMost o (exposure t (histories traces) card date)
     go None e = total_zero (λ n. used t n (history (traces n)) card date) (length t.nodes) (cap None e)
     go (Some s) e =
         let a = total_less (λ n. used t n (history (traces n)) card date) (λ n. day t n card) (length t.nodes) (cap (Some s) e) in

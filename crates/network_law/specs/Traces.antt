@@ -1,6 +1,6 @@
 -- What follows from a node's trace. A history is a trace read from its newest event: each entry is its input,
 -- and then its outputs, each with the input that it came from. So an entry that is decided in part has a history too.
-use Rattle.std.specs.Prelude.{ℕ, suc, ◌+◌, ◌*◌, List, [], ◌∷◌, ◌++◌, length, map, filter, reverse, count_by, Bool, true, false, cond, ◌&&◌, ◌||◌, not, if◌then◌else◌, ◌==◌, bytes_eq, Option, Some, None, is_some, is_none}
+use Rattle.std.specs.Prelude.{ℕ, suc, ◌≡◌, ◌⊎◌, ◌+◌, ◌*◌, List, [], ◌∷◌, ◌++◌, length, map, filter, reverse, count_by, Bool, true, false, cond, ◌&&◌, ◌||◌, not, if◌then◌else◌, ◌==◌, bytes_eq, Option, Some, None, is_some, is_none}
 use Rattle.std.specs.Option.{option_or, option_and_then}
 use Rattle.std.specs.List.{list_any}
 use Rattle.card_digits.specs.Numbers.{decimal}
@@ -45,6 +45,15 @@ pub data Event : Type 0 where
 
 abbrev pub History : Type 0
 History = List Event
+
+-- x is an element
+abbrev pub IsIn : {X : Type 0} → X → List X → Type 0
+IsIn x [] = ⊥
+IsIn x (y ∷ ys) = (y ≡ x) ⊎ IsIn x ys
+
+-- an event stands in a history
+abbrev pub Has : Event → History → Type 0
+Has e h = IsIn e h
 
 -- the date, the count and the links
 
