@@ -10,3 +10,4 @@ pub mod Good
 pub mod TableLemmas
 pub mod Equality
 pub mod Changes
+pub mod MessageLemmas

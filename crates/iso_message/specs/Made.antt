@@ -9,7 +9,7 @@ use Rattle.iso_message.specs.Fields.{Fields, el, set_element, remove_element}
 use Rattle.iso_message.specs.Codes.{code_00, code_68}
 
 abbrev pub is_one_of : List ℕ → ℕ → Bool
-is_one_of numbers n = list_any (λ k. n == k) numbers
+is_one_of numbers n = list_any (λ k. k == n) numbers
 
 -- the elements of these numbers
 abbrev pub kept : List ℕ → List (ℕ × List ℕ) → List (ℕ × List ℕ)

@@ -1,6 +1,7 @@
 //! Elements, kept as places in one buffer.
 ghost use Rattle.std.specs.Prelude.{◌≡◌, ◌≤◌, [], ◌∷◌, ◌++◌, length, map, OnOk, OnErr, IfOk, MatchOption, MatchResult, slice_set, insert, ◌<◌};
-ghost use Rattle.iso_message.specs.Finding.{find_element, put};
+ghost use Rattle.iso_message.specs.Finding.{find_element, put, without};
+ghost use Rattle.iso_message.specs.Made.{kept};
 ghost use Rattle.iso_message.specs.Spelling.{Ascends, AreGood, bits, low_numbers, high_numbers, pieces};
 ghost use Rattle.iso_message.specs.Spans.{seen, AreWithin, placed, numbers};
 ghost use Rattle.iso_message.specs.declared.elements.Span.{Span};
@@ -109,6 +110,29 @@ impl Elements {
         push_pieces(out, &self.spans, &self.values)
     }
 
+    /// Takes the elements of a number out. Their bytes stay in the buffer, and are shown no more.
+    pub(crate) fn remove(&mut self, number: u8)
+        ensures { self.new ≡ without number self.old }
+    {
+        self.spans.retain(|span| span.number != number);
+    }
+
+    /// A copy of the elements of these numbers.
+    pub(crate) fn kept(&self, numbers: &[u8]) -> Result<Elements, AllocError>
+        ensures { IfOk result (λ es. es ≡ kept numbers.now self.now) }
+    {
+        let alloc = *self.values.allocator();
+        let mut elements = Elements::with_capacity(alloc, self.spans.len(), self.values.len())?;
+        copy_kept(&self.spans, &self.values, numbers, &mut elements)?;
+        Ok(elements)
+    }
+
+    /// At least as many bytes as the pieces take.
+    pub(crate) fn room(&self) -> usize {
+        let lengths = self.spans.len().saturating_mul(3);
+        lengths.saturating_add(self.values.len())
+    }
+
     pub(crate) fn copy(&self) -> Result<Elements, AllocError>
         ensures { IfOk result (λ es. es ≡ self.now) }
     {
@@ -149,6 +173,24 @@ fn value_of<'a>(spans: &[Span], values: &'a [u8], number: u8) -> Option<&'a [u8]
         }
     }
     None
+}
+
+/// Adds the values of the spans with these numbers.
+fn copy_kept(
+    spans: &[Span],
+    values: &[u8],
+    numbers: &[u8],
+    elements: &mut Elements,
+) -> Result<(), AllocError>
+    requires { AreWithin values.now spans.now }
+    ensures { OnOk result (elements.new ≡ elements.old ++ kept numbers.now (seen values.now spans.now)) }
+{
+    for span in spans {
+        if numbers.contains(&span.number) {
+            elements.push(span.number, &values[span.start..span.end])?;
+        }
+    }
+    Ok(())
 }
 
 /// The maps of the numbers up to 64 and above.

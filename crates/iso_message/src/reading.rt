@@ -219,9 +219,10 @@ fn second_map(first: u64, bytes: &[u8]) -> Result<(u64, &[u8]), DecodeFault>
     bit_map(bytes)
 }
 
+/// The type and the elements that the bytes spell.
 #[tactic(auto, unfolding(crate::specs::Messages::read))]
-fn whole(alloc: Global, bytes: &[u8]) -> Result<Message, DecodeFault>
-    ensures exact { Gives (λ m. m) result (read bytes.now) }
+fn parts(alloc: Global, bytes: &[u8]) -> Result<(Kind, Elements), DecodeFault>
+    ensures exact { Gives (λ x. record { kind = x.0; elements = x.1 }) result (read bytes.now) }
 {
     let (kind, rest) = read_kind(bytes)?;
     let (first, rest) = bit_map(rest)?;
@@ -234,6 +235,13 @@ fn whole(alloc: Global, bytes: &[u8]) -> Result<Message, DecodeFault>
     if !rest.is_empty() {
         return Err(DecodeFault::Trailing);
     }
+    Ok((kind, elements))
+}
+
+fn whole(alloc: Global, bytes: &[u8]) -> Result<Message, DecodeFault>
+    ensures exact { Gives (λ m. m) result (read bytes.now) }
+{
+    let (kind, elements) = parts(alloc, bytes)?;
     Ok(Message { kind, elements })
 }
 
