@@ -2,7 +2,8 @@
 use Rattle.std.proofs.Common.{◌≡◌, ℕ, zero, suc, ◌≤◌, List, [], ◌∷◌, true, false, refl, inl, inr, ⊎_elim, subst, arith}
 use Rattle.net_rows.specs.Network.{other_end}
 use Rattle.network_law.specs.Traces.{Input, Enter, Take, HostAnswer, Put, Answer, Ask, Event, In, Out, Has}
-use Rattle.network_law.specs.Decision.{decide, refusal}
+use Rattle.network_law.specs.Decision.{decide}
+use Rattle.network_law.specs.Refusals.{refusal}
 use Rattle.network_law.specs.Runs.{Entry, Legal, IsRun, history}
 use Rattle.network_law.proofs.Rows.{M, M15, R, base}
 use Rattle.iso_message.specs.Codes.{code_00}

@@ -4,7 +4,8 @@ use Rattle.std.proofs.lemmas.Bool.{and_parts, or_cases, or_right}
 use Rattle.std.proofs.lemmas.Option.{same_Some}
 use Rattle.net_rows.specs.Network.{Network, other_end}
 use Rattle.network_law.specs.Traces.{Input, Enter, Take, LinkUp, LinkDown, Tick, HostAnswer, NewDate, Output, Put, Event, In, Out, History, Handled, handled, Opening, opening, sent, has_00, is_00_of, brings_00, key_of_00, own_approval, Approval, approval_by, approval_of, approvals, ask_key, is_key, forwarded, IsIn, Has}
-use Rattle.network_law.specs.Decision.{decide, refusal, sent_kind}
+use Rattle.network_law.specs.Decision.{decide, sent_kind}
+use Rattle.network_law.specs.Refusals.{refusal}
 use Rattle.network_law.specs.Runs.{IsFormed, Entry, history, Legal, IsRun}
 use Rattle.network_law.specs.Checked.{Ranks, IsRanked, IsSound}
 use Rattle.network_law.specs.Claims.{LeadsToApproval, ApprovalsLead}

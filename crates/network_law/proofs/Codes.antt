@@ -6,7 +6,8 @@ use Rattle.card_digits.specs.Numbers.{decimal}
 use Rattle.net_rows.specs.Network.{Network, other_end, day}
 use Rattle.network_law.specs.Tables.{is_attached, single}
 use Rattle.network_law.specs.Traces.{Source, Gate, ByLink, Input, Enter, Take, Output, Put, Ask, Post, Event, In, Out, History, Opening, opening, answer, answers, sent, Has}
-use Rattle.network_law.specs.Decision.{decide, refusal, reply_output, sent_kind, standin_code, code_by_limits, same_source}
+use Rattle.network_law.specs.Decision.{decide, reply_output, sent_kind, standin_code, code_by_limits, same_source}
+use Rattle.network_law.specs.Refusals.{refusal}
 use Rattle.network_law.specs.Runs.{IsFormed, Entry, history, Legal, IsRun}
 use Rattle.network_law.specs.Claims.{is_response, IsForward}
 use Rattle.network_law.specs.Checked.{Ranks, IsRanked, IsSound}

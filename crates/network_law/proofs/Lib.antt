@@ -1,5 +1,6 @@
 pub mod Rows
 pub mod Ends
+pub mod Refused
 pub mod Emits
 pub mod Node
 pub mod Chain

@@ -7,7 +7,8 @@ use Rattle.std.specs.List.{list_any}
 use Rattle.net_rows.specs.Network.{Network}
 use Rattle.network_law.specs.Tables.{node_id}
 use Rattle.network_law.specs.Traces.{Input, Enter, Take, LinkUp, LinkDown, Tick, HostAnswer, NewDate, Output, In, Out, History, handled, Opening, opening, opened, with_new, key_handled, answer, answers, sent, own_approval, Advice, advices, add_made, has_identity, failed_key, is_key, is_ok_ack, is_timer, pending, fails, count_of, known, IsIn}
-use Rattle.network_law.specs.Decision.{decide, refusal, failing, send_all, due_advices, sent_kind, standin_code}
+use Rattle.network_law.specs.Decision.{decide, failing, send_all, due_advices, sent_kind, standin_code}
+use Rattle.network_law.specs.Refusals.{refusal}
 use Rattle.network_law.specs.Runs.{IsFormed, history}
 use Rattle.network_law.specs.Marks.{marked_failed, FailsAreMarked, FailsAreReversed}
 use Rattle.network_law.proofs.Emits.{Allowed, forwarding, asking, standing_in, passing, declining, repeating, refusing, acking, sending, posting, decide_keeps, stays_open, handled_no_timer, key_eq_refl, key_eq_is, failing_ticks}

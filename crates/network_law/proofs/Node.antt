@@ -7,7 +7,9 @@ use Rattle.net_rows.specs.Network.{Network, issuer}
 use Rattle.net_rows.specs.declared.row.Issuer.{Issuer}
 use Rattle.network_law.specs.Tables.{is_home, route_links, is_attached}
 use Rattle.network_law.specs.Traces.{Source, Gate, ByLink, Input, Enter, Take, LinkUp, LinkDown, Tick, HostAnswer, NewDate, Output, Put, Answer, Ask, Post, In, Out, History, Handled, handled, Opening, opening, opened_by, answer, answers, sent, forwarded, forwards, asked, asks, ticks_by, count_of, dated, date_of, IsIn, Has}
-use Rattle.network_law.specs.Decision.{decide, refusal, reply_output, next_put, sent_kind}
+use Rattle.network_law.specs.Decision.{decide, reply_output, next_put, sent_kind}
+use Rattle.network_law.proofs.Refused.{EnteredFacts, entered_facts}
+use Rattle.network_law.specs.Refusals.{refusal}
 use Rattle.network_law.specs.Runs.{Entry, history, Legal, HasLengths, IsFormed}
 use Rattle.network_law.proofs.Emits.{Allowed, forwarding, asking, standing_in, passing, declining, repeating, refusing, acking, sending, posting, Forwarding, Asking, handled_as, Issued, KeepsIssuers, decide_keeps, stays_open, opening_now, opens_now, key_eq_is}
 use Rattle.network_law.specs.Cards.{Bytes, card_of}
@@ -294,23 +296,7 @@ dated_kind date m = go (is_request m.kind) refl
 
 -- entered and not refused: the acquirer is attached here
 pub attached : (t : Network) (n : ℕ) (h : History) (m : Fields) → refusal t n h (Enter m) ≡ None → is_attached t n (own_key m).acquirer ≡ true
-unfolding refusal
-attached t n h m e = go _ _ _ (is_attached t n (own_key m).acquirer) e
-  where
-    go : (a b c : Option ℕ) (x : Bool) → option_or a (option_or b (option_or (Rattle.network_law.specs.Decision.when (not x) 2) c)) ≡ None → x ≡ true
-    go None None c true e = refl
-    go None None c false e = absurd (no e)
-      where
-        no : ◌≡◌ {A = Option ℕ} (Some 2) None → ⊥
-        no p = cc
-    go None (Some b) c x e = absurd (no e)
-      where
-        no : Some b ≡ None → ⊥
-        no p = cc
-    go (Some a) b c x e = absurd (no e)
-      where
-        no : Some a ≡ None → ⊥
-        no p = cc
+attached t n h m e = EnteredFacts.attached (entered_facts t n h m e)
 
 -- the key of what is handled when entered has the entered acquirer
 entered_acquirer : (t : Network) (h : History) (m : Fields) (x : Fields) (src : Source) → handled t h (Enter m) ≡ Some (record { message = x; source = src }) → is_request x.kind ≡ true → (key_of x).acquirer ≡ (own_key m).acquirer

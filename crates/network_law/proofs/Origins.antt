@@ -9,7 +9,9 @@ use Rattle.net_rows.specs.Network.{Network, issuer}
 use Rattle.net_rows.specs.declared.row.Issuer.{Issuer}
 use Rattle.network_law.specs.Tables.{is_home, node_id, route_links, is_attached}
 use Rattle.network_law.specs.Traces.{Source, Input, Enter, Take, LinkUp, LinkDown, Tick, HostAnswer, NewDate, Output, Put, In, Out, Event, History, Handled, handled, Opening, opening, sent, own_approval, Advice, advices, add_advice, add_made, add_accepted, acked_by, is_ack, is_ack_of, has_identity, late_key, failed_key, is_ok_ack, is_advice_group, is_ack_kind, as_kept, dated, date_of, count_of, forwarded, is_up, IsIn, Has}
-use Rattle.network_law.specs.Decision.{decide, refusal, reply_output, sent_kind, own_way, entered_kind, standin_code}
+use Rattle.network_law.specs.Decision.{decide, reply_output, sent_kind, own_way, standin_code}
+use Rattle.network_law.proofs.Refused.{EnteredFacts, entered_facts}
+use Rattle.network_law.specs.Refusals.{refusal, entered_kind}
 use Rattle.network_law.specs.Runs.{IsFormed, Entry, history, Legal}
 use Rattle.network_law.proofs.Emits.{Allowed, forwarding, asking, standing_in, passing, declining, repeating, refusing, acking, sending, posting, Acking, Sending, Kept, due, reversing, standing, accepting, handled_as, Issued, decide_keeps, stays_open, is_kept_group, found_is_in, from_link}
 use Rattle.network_law.proofs.Node.{NodeFacts, EntryFacts, legal_facts, facts_out, keeps_issuers, response_is_of_kind, put_parts}
@@ -17,7 +19,7 @@ use Rattle.network_law.proofs.Elements.{own_key_response, el_response, carried, 
 use Rattle.network_law.proofs.Used.{OwnFacts, own_in_entry, own_case, has_00_more, brings_more, reply_message, response_code, add_made_keeps, add_accepted_keeps}
 use Rattle.network_law.proofs.Late.{handled_in, handled_out}
 use Rattle.network_law.proofs.Codes.{reply_put, same_out}
-use Rattle.network_law.proofs.Reversals.{in_add, opened_of_key, identity_acked, ack_case, ok_ack_parts, request_no_ack, answer_no_ack, advice_no_ack, entered_reversal, when_none, home_is_not}
+use Rattle.network_law.proofs.Reversals.{in_add, opened_of_key, identity_acked, ack_case, ok_ack_parts, request_no_ack, answer_no_ack, advice_no_ack, entered_reversal, home_is_not}
 use Rattle.network_law.proofs.Chain.{same_card}
 use Rattle.network_law.proofs.Accounts.{Alike, alike_sym, alike_card}
 use Rattle.iso_message.proofs.Equality.{identity_eq_refl}
@@ -211,8 +213,7 @@ request_no_advice K0421 e = cc
 request_no_advice K0430 e = cc
 
 enters : (t : Network) (n : ℕ) (past : History) (m : Fields) → refusal t n past (Enter m) ≡ None → entered_kind m.kind ≡ true
-unfolding refusal
-enters t n past m ok = not-false _ (when_none (not (entered_kind m.kind)) 4 _ ok).0
+enters t n past m ok = EnteredFacts.kind (entered_facts t n past m ok)
 
 entered_source : (t : Network) (n : ℕ) (past : History) (m x : Fields) (src : Source) → refusal t n past (Enter m) ≡ None → handled t past (Enter m) ≡ Some (record { message = x; source = src }) → is_advice_group (group x.kind) ≡ true → Entered t n x
 unfolding handled remove_element identity_of set_element

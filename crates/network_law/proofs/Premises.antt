@@ -6,7 +6,8 @@ use Rattle.card_digits.specs.Longest.{begins}
 use Rattle.net_rows.specs.Network.{other_end}
 use Rattle.network_law.specs.Tables.{route_links, is_attached, node_id}
 use Rattle.network_law.specs.Traces.{Input, Enter, Take, Tick, Put, Answer, Post, Event, In, Out, advices, stored, IsIn, Has}
-use Rattle.network_law.specs.Decision.{decide, refusal}
+use Rattle.network_law.specs.Decision.{decide}
+use Rattle.network_law.specs.Refusals.{refusal}
 use Rattle.network_law.specs.Runs.{Entry, Legal, IsRun, history}
 use Rattle.network_law.specs.Checked.{Ranks, Falls, IsRanked, IsSound}
 use Rattle.network_law.specs.Claims.{AdvicesKept}

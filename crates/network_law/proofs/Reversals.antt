@@ -8,7 +8,9 @@ use Rattle.net_rows.specs.Network.{Network, issuer, other_end}
 use Rattle.net_rows.specs.declared.row.Issuer.{Issuer}
 use Rattle.network_law.specs.Tables.{is_home, node_id, route_links, is_attached}
 use Rattle.network_law.specs.Traces.{Source, ByLink, Input, Enter, Take, LinkUp, LinkDown, Tick, HostAnswer, NewDate, Output, Put, In, Out, History, Handled, handled, Opening, opening, sent, own_approval, Advice, advices, add_advice, add_made, add_accepted, acked_by, has_identity, reverses_key, late_key, comes_late, failed_key, is_ok_ack, is_advice_group, is_ack_kind, as_kept, ask_key, asked, is_timer, is_link, forwarded, forwards, pending, count_of, known, reversed, home_is, dated, date_of, is_up, ticks_by, IsIn, Has}
-use Rattle.network_law.specs.Decision.{decide, refusal, reply_output, sent_kind, standin_code, other_content, own_way, first_up, when, strange_original, first_missing, required_entered, entered_kind, same_source}
+use Rattle.network_law.specs.Decision.{decide, reply_output, sent_kind, standin_code, other_content, own_way, first_up, same_source}
+use Rattle.network_law.proofs.Refused.{EnteredFacts, entered_facts, IsWhole}
+use Rattle.network_law.specs.Refusals.{refusal, when, strange_original, first_missing, required_entered, entered_kind}
 use Rattle.network_law.specs.Runs.{IsFormed, Entry, history, Legal, IsRun}
 use Rattle.network_law.specs.Checked.{Ranks, IsRanked, IsSound}
 use Rattle.network_law.specs.Claims.{NoRepeatReply}
@@ -139,20 +141,8 @@ provenance_of t n h x y k c p = record {
       p.from;
 }
 
--- an entered reversal names an acquirer of this node
-pub when_none : (b : Bool) (c : ℕ) (rest : Option ℕ) → option_or (when b c) rest ≡ None → (b ≡ false) × (rest ≡ None)
-when_none true c rest e = absurd (no e)
-  where
-    no : Some c ≡ None → ⊥
-    no p = cc
-when_none false c rest e = (refl, e)
-
 pub not_strange : (t : Network) (n : ℕ) (h : History) (m : Fields) → refusal t n h (Enter m) ≡ None → strange_original m ≡ false
-unfolding refusal
-not_strange t n h m e =
-    let a = when_none (not (entered_kind m.kind)) 4 _ e in
-    let b = when_none (first_missing m (required_entered (group m.kind)) || strange_original m) 3 _ a.1 in
-    (or_parts (first_missing m (required_entered (group m.kind))) (strange_original m) b.0).1
+not_strange t n h m e = IsWhole.not_strange (EnteredFacts.is_whole (entered_facts t n h m e))
 
 not_strange_is : (m : Fields) → is_04xx m.kind ≡ true → strange_original m ≡ false → part 20 11 (el m 90) ≡ (own_key m).acquirer
 not_strange_is m r e =

@@ -2,7 +2,8 @@
 use Rattle.std.proofs.Common.{◌≡◌, ℕ, [], ◌∷◌, ◌++◌, None, refl, List}
 use Rattle.net_rows.specs.Network.{Network}
 use Rattle.network_law.specs.Traces.{Input, Enter, Take, LinkDown, Tick, HostAnswer, Put, Answer, Ask, In, Out, History}
-use Rattle.network_law.specs.Decision.{decide, refusal}
+use Rattle.network_law.specs.Decision.{decide}
+use Rattle.network_law.specs.Refusals.{refusal}
 use Rattle.network_law.specs.Cards.{Bytes}
 use Rattle.iso_message.specs.Fields.{Fields}
 use Rattle.iso_message.specs.declared.kind.Kind.TheVariants.{K0100, K0110, K0120, K0420}

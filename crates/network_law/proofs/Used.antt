@@ -9,7 +9,8 @@ use Rattle.net_rows.specs.Network.{Network, issuer, day}
 use Rattle.net_rows.specs.declared.row.Issuer.{Issuer}
 use Rattle.network_law.specs.Tables.{node_id, single}
 use Rattle.network_law.specs.Traces.{Source, Gate, ByLink, Input, Enter, Take, LinkUp, LinkDown, Tick, HostAnswer, NewDate, Output, Put, Answer, Ask, Post, Event, In, Out, History, Opening, opening, answer, answers, sent, has_00, is_00_of, brings_00, key_of_00, own_in, own_approval, Approval, approval_by, approval_of, approvals, Advice, advices, add_advice, add_made, add_accepted, acked_by, has_identity, reverses_key, reversed, counted, added, used, ask_key, key_asked, is_key, is_advice_group, count_of, late_key, failed_key, is_ok_ack, handled, IsIn}
-use Rattle.network_law.specs.Decision.{decide, refusal, reply_output, sent_kind, standin_code, code_by_limits}
+use Rattle.network_law.specs.Decision.{decide, reply_output, sent_kind, standin_code, code_by_limits}
+use Rattle.network_law.specs.Refusals.{refusal}
 use Rattle.network_law.specs.Runs.{IsFormed, Entry, history, Legal, IsRun}
 use Rattle.network_law.specs.Checked.{IsBounded, sum_below}
 use Rattle.network_law.specs.Claims.{NamedApprovers, WithinCeiling, AtMost, exposure}

@@ -3,7 +3,8 @@ use Rattle.std.specs.Prelude.{ℕ, ◌<◌, ◌≤◌, ◌≡◌, List, [], ◌�
 use Rattle.net_rows.specs.Network.{Network, other_end}
 use Rattle.network_law.specs.Tables.{is_link_of}
 use Rattle.network_law.specs.Traces.{Input, Enter, Take, LinkUp, LinkDown, Output, Put, In, Out, History, Has}
-use Rattle.network_law.specs.Decision.{decide, refusal}
+use Rattle.network_law.specs.Decision.{decide}
+use Rattle.network_law.specs.Refusals.{refusal}
 use Rattle.iso_message.specs.Fields.{Fields, el}
 use Rattle.iso_message.specs.Groups.{is_request}
 

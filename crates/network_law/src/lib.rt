@@ -2,6 +2,10 @@
 //! of every run. Messages here are types and elements; the bytes that spell them are not spoken of yet.
 #![tactic(auto)]
 
+mod fault;
+
+pub use fault::StepFault;
+
 ghost use Rattle.std.specs.Prelude.{ℕ, List};
 ghost use Rattle.net_rows.specs.Network.{Network};
 ghost use Rattle.network_law.specs.Checked.{IsSound, IsBounded, IsRanked, Ranks};
