@@ -262,8 +262,8 @@ fn tells_circles(rt: HostRuntime) -> Result<(), Fail> {
         (five, &[b, h, b], true),
         (five, &[a, b, a], false),
     ];
-    for (i, (class, nodes, want)) in cases.into_iter().enumerate() {
-        assert_eq!(rt; is_circle(&tables, &class, nodes), want, "case {i}");
+    for (i, (class, nodes, want)) in cases.iter().enumerate() {
+        assert_eq!(rt; is_circle(&tables, class, nodes), *want, "case {i}");
     }
     Ok(())
 }

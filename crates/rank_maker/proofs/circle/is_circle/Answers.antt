@@ -1,6 +1,4 @@
-use Rattle.std.proofs.Common.{◌<◌, ◌≤◌, ◌≡◌, ◌-◌, length, get_or, sym, ◌∙◌, arith, refl}
-use Rattle.std.proofs.lemmas.List.{get_or_default}
-use Rattle.std.proofs.lemmas.Bool.{eqb-true}
+use Rattle.std.proofs.Common.{◌≤◌, length, sym, ◌∙◌, arith, refl}
 use Rattle.rank_maker.proofs.Around.{goes_on_more, same_ends}
 use Rattle.rank_maker.proofs.circle.is_circle.Goals as goal
 
