@@ -232,6 +232,19 @@ fn finds_the_first_circle(rt: HostRuntime) -> Result<(), Fail> {
 }
 
 #[test]
+fn gives_up_where_a_name_stands_twice(rt: HostRuntime) -> Result<(), Fail> {
+    let plan = Plan {
+        nodes: &[b"A", b"A"],
+        links: &[(0, 1)],
+        issuers: &[(b"4", 1)],
+        routes: &[(0, b"4", &[0])],
+    };
+    let tables = tables(rt.alloc(), &plan, Vec::new(rt.alloc()))?;
+    assert!(rt; matches!(make(rt.alloc(), &tables), Made::GaveUp));
+    Ok(())
+}
+
+#[test]
 fn tells_circles(rt: HostRuntime) -> Result<(), Fail> {
     // A and B lead to each other and B to H, which leads back to B. Nobody issues cards of class 5.
     let plan = Plan {

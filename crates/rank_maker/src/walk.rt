@@ -109,7 +109,9 @@ fn circle(alloc: Global, path: &[NodeNo], node: NodeNo) -> Result<Vec<NodeNo>, A
     let mut nodes = Vec::new(alloc);
     nodes.extend_from_slice(front)?;
     nodes.extend_from_slice(behind)?;
-    nodes.extend_from_slice(&front[..front.len().min(1)])?;
+    if let Some(first) = front.first() {
+        nodes.push(*first)?;
+    }
     Ok(nodes)
 }
 
