@@ -1,0 +1,106 @@
+-- Spans and elements by their numbers.
+use Rattle.std.proofs.Common.{◌≡◌, ℕ, zero, suc, ◌+◌, ◌<◌, ◌≤◌, true, false, ltb, eqb, List, [], ◌∷◌, ◌++◌, length, get_or, take, drop, Some, None, refl, sym, ap, subst, ◌∙◌, append_assoc, add-one, drop-cons, arith, inl, inr}
+use Rattle.std.proofs.lemmas.Bool.{lt-ltb, le-ltb, eq-eqb, ne_eqb, cases_lt, cases_eq}
+use Rattle.std.proofs.Math.Seq.{take-suc}
+use Rattle.std.proofs.lemmas.List.{take_all, length-append}
+use Rattle.std.proofs.Math.ListN.{drop_of_length-le}
+use Rattle.std.specs.Prelude.{slice_set, insert}
+use Rattle.iso_message.specs.declared.elements.Span.{Span}
+use Rattle.iso_message.specs.Finding.{find_element, put}
+use Rattle.iso_message.proofs.SpansMore.{range_last, seen_more, within_more}
+use Rattle.iso_message.specs.Spans.{shown, seen, IsWithin, AreWithin, placed}
+
+abbrev any : Span
+any = record { number = 0; start = 0; end = 0 }
+
+drop_past : (i : ℕ) (spans : List Span) → length spans ≤ i → drop i spans ≡ []
+drop_past i spans h = drop_of_length-le spans h
+
+next : (spans : List Span) (i : ℕ) → i < length spans → drop i spans ≡ get_or spans i any ∷ drop (i + 1) spans
+next spans i h = rw (add-one) (drop-cons spans i any h)
+
+pub within_at : (values : List ℕ) (spans : List Span) (i : ℕ) → i < length spans → AreWithin values (drop i spans) → IsWithin values (get_or spans i any) × AreWithin values (drop (i + 1) spans)
+within_at values spans i h w = let both : AreWithin values (get_or spans i any ∷ drop (i + 1) spans) = subst (λ (ss : List Span). AreWithin values ss) (next spans i h) w in (both.0, both.1)
+
+pub found_at : (n : ℕ) (values : List ℕ) (spans : List Span) (i : ℕ) → i < length spans → (get_or spans i any).number ≡ n → find_element n (seen values (drop i spans)) ≡ Some (shown values (get_or spans i any)).1
+unfolding find_element
+found_at n values spans i h e = rw (next spans i h, eq-eqb _ _ e) refl
+
+pub missed_at : (n : ℕ) (values : List ℕ) (spans : List Span) (i : ℕ) → i < length spans → ((get_or spans i any).number ≡ n → ⊥) → find_element n (seen values (drop i spans)) ≡ find_element n (seen values (drop (i + 1) spans))
+unfolding find_element
+missed_at n values spans i h e = rw (next spans i h, ne_eqb _ _ e) refl
+
+pub below_at : (s : Span) (spans : List Span) (i : ℕ) → i < length spans → (get_or spans i any).number < s.number → placed s spans ≡ take i spans ++ placed s (drop i spans) → placed s spans ≡ take (i + 1) spans ++ placed s (drop (i + 1) spans)
+unfolding placed
+below_at s spans i h lt so_far =
+    let low : ltb (get_or spans i any).number s.number ≡ true = lt-ltb _ _ lt in
+    let here : placed s (drop i spans) ≡ get_or spans i any ∷ placed s (drop (i + 1) spans) = rw (next spans i h, low) refl in
+    let more : take (i + 1) spans ≡ take i spans ++ get_or spans i any ∷ [] = rw (add-one) (take-suc spans i any h) in
+    so_far ∙ ap (λ ss. take i spans ++ ss) here ∙ sym (append_assoc (take i spans) (get_or spans i any ∷ []) (placed s (drop (i + 1) spans))) ∙ ap (λ ss. ss ++ placed s (drop (i + 1) spans)) (sym more)
+
+set_parts : (spans : List Span) (i : ℕ) (s : Span) → i < length spans → slice_set spans i s ≡ take i spans ++ s ∷ drop (suc i) spans
+set_parts [] i s h = absurd (omega arith)
+set_parts (x ∷ xs) zero s h = refl
+set_parts (x ∷ xs) (suc i) s h = ap (λ ss. x ∷ ss) (set_parts xs i s (omega arith))
+
+pub same_at : (s : Span) (spans : List Span) (i : ℕ) → i < length spans → (get_or spans i any).number ≡ s.number → placed s spans ≡ take i spans ++ placed s (drop i spans) → slice_set spans i s ≡ placed s spans
+unfolding placed
+same_at s spans i h e so_far =
+    let low : ltb (get_or spans i any).number s.number ≡ false = le-ltb _ _ (omega arith) in
+    let here : placed s (drop i spans) ≡ s ∷ drop (i + 1) spans = rw (next spans i h, low, eq-eqb _ _ e) refl in
+    set_parts spans i s h ∙ ap (λ k. take i spans ++ s ∷ drop k spans) (sym (add-one i)) ∙ sym (so_far ∙ ap (λ ss. take i spans ++ ss) here)
+
+pub at_end : (s : Span) (spans : List Span) (i : ℕ) → length spans ≤ i → placed s spans ≡ take i spans ++ placed s (drop i spans) → insert spans (length spans) s ≡ placed s spans
+unfolding placed
+at_end s spans i h so_far =
+    let none : drop i spans ≡ [] = drop_past i spans h in
+    let nothing : drop (length spans) spans ≡ [] = drop_past (length spans) spans (omega arith) in
+    rw (take_all (length spans) spans (omega arith), nothing) (sym (so_far ∙ ap (λ ss. take i spans ++ placed s ss) none ∙ ap (λ ss. ss ++ s ∷ []) (take_all i spans h)))
+
+pub none_left : (n : ℕ) (values : List ℕ) (spans : List Span) (i : ℕ) → length spans ≤ i → find_element n (seen values (drop i spans)) ≡ None
+unfolding find_element
+none_left n values spans i h = rw (drop_past i spans h) refl
+
+pub above_at : (s : Span) (spans : List Span) (i : ℕ) → i < length spans → s.number < (get_or spans i any).number → placed s spans ≡ take i spans ++ placed s (drop i spans) → insert spans i s ≡ placed s spans
+unfolding placed
+above_at s spans i h lt so_far =
+    let low : ltb (get_or spans i any).number s.number ≡ false = le-ltb _ _ (omega arith) in
+    let apart : eqb (get_or spans i any).number s.number ≡ false = ne_eqb _ _ (λ e. omega arith) in
+    let here : placed s (drop i spans) ≡ s ∷ drop i spans = rw (next spans i h, low, apart) refl in
+    sym (so_far ∙ ap (λ ss. take i spans ++ ss) here)
+
+pub seen_placed : (values : List ℕ) (s : Span) (spans : List Span) → seen values (placed s spans) ≡ put s.number (shown values s).1 (seen values spans)
+unfolding placed put
+seen_placed values s [] = refl
+seen_placed values s (x ∷ xs) =
+    elim (cases_lt x.number s.number) [
+      | inl lt ↦ rw (lt-ltb _ _ lt) (ap (λ es. shown values x ∷ es) (seen_placed values s xs))
+      | inr le ↦
+          elim (cases_eq x.number s.number) [
+            | inl e ↦ rw (le-ltb _ _ le, eq-eqb _ _ e) refl
+            | inr ne ↦ rw (le-ltb _ _ le, ne_eqb _ _ ne) refl
+          ]
+    ]
+
+pub within_placed : (values : List ℕ) (s : Span) (spans : List Span) → IsWithin values s → AreWithin values spans → AreWithin values (placed s spans)
+unfolding placed
+within_placed values s [] h w = (h, tt)
+within_placed values s (x ∷ xs) h w =
+    elim (cases_lt x.number s.number) [
+      | inl lt ↦ rw (lt-ltb _ _ lt) (w.0, within_placed values s xs h w.1)
+      | inr le ↦
+          elim (cases_eq x.number s.number) [
+            | inl e ↦ rw (le-ltb _ _ le, eq-eqb _ _ e) (h, w.1)
+            | inr ne ↦ rw (le-ltb _ _ le, ne_eqb _ _ ne) (h, w)
+          ]
+    ]
+
+pub seen_put : (values more : List ℕ) (spans : List Span) (s : Span) → AreWithin values spans → s.start ≡ length values → s.end ≡ length values + length more
+    → seen (values ++ more) (placed s spans) ≡ put s.number more (seen values spans)
+seen_put values more spans s h i j =
+    seen_placed (values ++ more) s spans
+    ∙ ap (λ (v : List ℕ). put s.number v (seen (values ++ more) spans)) (range_last values more s.start s.end i j)
+    ∙ ap (put s.number more) (seen_more values more spans h)
+
+pub within_put : (values more : List ℕ) (spans : List Span) (s : Span) → AreWithin values spans → s.start ≡ length values → s.end ≡ length values + length more → AreWithin (values ++ more) (placed s spans)
+within_put values more spans s h i j = within_placed (values ++ more) s spans (record { order = omega arith; inside = omega (arith, length-append values more) }) (within_more values more spans h)

@@ -1,0 +1,13 @@
+pub mod SpansMore
+pub mod Steps
+pub mod Pieces
+pub mod Laws
+pub mod Finding
+pub mod Canonical
+pub mod HexDigits
+pub mod Maps
+pub mod Good
+pub mod TableLemmas
+pub mod Equality
+pub mod Changes
+pub mod MessageLemmas

@@ -1,0 +1,88 @@
+-- The forms of elements, and what stands in an element's place.
+use Rattle.std.specs.Prelude.{ℕ, ◌+◌, ◌-◌, ◌*◌, Bool, ◌&&◌, ◌==◌, nat_lt, nat_le, List, [], ◌∷◌, ◌++◌, length, take, drop, fold, slice_index_or, Option, Some, None, Result, Ok, Err, if◌then◌else◌}
+use Rattle.std.specs.Char.{is_ascii_digit}
+use Rattle.std.specs.List.{list_all}
+use Rattle.hex.specs.Hex.{decode_sized}
+use Rattle.hex.specs.declared.error.FromHexError.{FromHexError}
+use Rattle.iso_message.specs.Table.{form_of}
+use Rattle.iso_message.specs.declared.form.Class.{Class}
+use Rattle.iso_message.specs.declared.form.Class.TheVariants.{Digits, Text}
+use Rattle.iso_message.specs.declared.form.Form.{Form}
+use Rattle.iso_message.specs.declared.form.Form.TheVariants.{Fixed, Llvar, Lllvar, Binary}
+use Rattle.iso_message.specs.declared.fault.DecodeFault.{DecodeFault}
+use Rattle.iso_message.specs.declared.fault.DecodeFault.TheVariants as faults
+
+-- a step, and what comes after it
+infixl 10 ◌>>=◌
+abbrev pub ◌>>=◌ : {A B : Type 0} → Result A DecodeFault → (A → Result B DecodeFault) → Result B DecodeFault
+(Ok x) >>= f = f x
+(Err e) >>= f = Err e
+
+abbrev pub fits : Class → ℕ → Bool
+fits Digits b = is_ascii_digit b
+fits Text b = nat_le 32 b && nat_le b 126
+
+-- the number that digits write
+abbrev pub decimal : List ℕ → ℕ
+decimal digits = fold (λ n d. 10 * n + (d - 48)) 0 digits
+
+-- a content of so many bytes, and the bytes after it
+unfoldable pub content_at : Class → ℕ → ℕ → List ℕ → Result (List ℕ × List ℕ) DecodeFault
+content_at class size n bytes =
+    if nat_lt (length bytes) size then Err faults.Short
+    else if list_all (fits class) (take size bytes) then Ok (take size bytes, drop size bytes)
+    else Err (faults.Character n)
+
+-- a length of so many digits
+unfoldable pub length_at : ℕ → ℕ → ℕ → List ℕ → Result (ℕ × List ℕ) DecodeFault
+length_at width most n bytes =
+    if nat_lt (length bytes) width then Err faults.Short
+    else if list_all (fits Digits) (take width bytes) && nat_le (decimal (take width bytes)) most then Ok (decimal (take width bytes), drop width bytes)
+    else Err (faults.Length n)
+
+abbrev pub unpacked : ℕ → List ℕ → Result (List ℕ) FromHexError → Result (List ℕ × List ℕ) DecodeFault
+unpacked n rest (Ok value) = Ok (value, rest)
+unpacked n rest (Err e) = Err (faults.Character n)
+
+unfoldable pub binary_at : ℕ → List ℕ → Result (List ℕ × List ℕ) DecodeFault
+binary_at n bytes =
+    if nat_lt (length bytes) 16 then Err faults.Short
+    else unpacked n (drop 16 bytes) (decode_sized (take 16 bytes) 8)
+
+unfoldable pub counted_at : ℕ → Class → ℕ → ℕ → List ℕ → Result (List ℕ × List ℕ) DecodeFault
+counted_at width class most n bytes = do
+  len ← length_at width most n bytes
+  content_at class len.0 n len.1
+
+-- by the form
+abbrev pub field_at : Option Form → ℕ → List ℕ → Result (List ℕ × List ℕ) DecodeFault
+field_at None n bytes = Err (faults.Element n)
+field_at (Some (Fixed class size)) n bytes = content_at class size n bytes
+field_at (Some (Llvar class most)) n bytes = counted_at 2 class most n bytes
+field_at (Some (Lllvar class most)) n bytes = counted_at 3 class most n bytes
+field_at (Some Binary) n bytes = binary_at n bytes
+
+-- the elements so far with the next, and the bytes after it
+unfoldable pub with_next : List (ℕ × List ℕ) → Option Form → ℕ → List ℕ → Result (List (ℕ × List ℕ) × List ℕ) DecodeFault
+with_next es form n bytes = do
+  x ← field_at form n bytes
+  Ok (es ++ (n, x.0) ∷ [], x.1)
+
+-- the elements so far with those of these numbers, and the bytes after them
+unfoldable pub with_all : List (ℕ × List ℕ) → List ℕ → List ℕ → Result (List (ℕ × List ℕ) × List ℕ) DecodeFault
+with_all es [] bytes = Ok (es, bytes)
+with_all es (n ∷ ns) bytes = do
+  x ← with_next es (form_of n) n bytes
+  with_all x.0 ns x.1
+
+-- what is wrong with a value of a class, of which the length is right or not
+abbrev pub value_fault : Bool → Class → ℕ → List ℕ → Option DecodeFault
+value_fault long class n value = if long then (if list_all (fits class) value then None else Some (faults.Character n)) else Some (faults.Length n)
+
+-- what is wrong with a value for an element of a form
+abbrev pub set_fault : Option Form → ℕ → List ℕ → Option DecodeFault
+set_fault None n value = Some (faults.Element n)
+set_fault (Some (Fixed class size)) n value = value_fault (length value == size) class n value
+set_fault (Some (Llvar class most)) n value = value_fault (nat_le (length value) most) class n value
+set_fault (Some (Lllvar class most)) n value = value_fault (nat_le (length value) most) class n value
+set_fault (Some Binary) n value = if length value == 8 then None else Some (faults.Length n)

@@ -1,0 +1,13 @@
+pub mod Types
+pub mod Groups
+pub mod Table
+pub mod Spans
+pub mod Elements
+pub mod Finding
+pub mod Fields
+pub mod Messages
+pub mod Grammar
+pub mod Spelling
+pub mod Keys
+pub mod Codes
+pub mod Made

@@ -1,0 +1,225 @@
+//! Elements, kept as places in one buffer.
+ghost use Rattle.std.specs.Prelude.{◌≡◌, ◌≤◌, [], ◌∷◌, ◌++◌, length, map, OnOk, OnErr, IfOk, MatchOption, MatchResult, slice_set, insert, ◌<◌};
+ghost use Rattle.iso_message.specs.Finding.{find_element, put, without};
+ghost use Rattle.iso_message.specs.Made.{kept};
+ghost use Rattle.iso_message.specs.Spelling.{Ascends, AreGood, bits, low_numbers, high_numbers, pieces};
+ghost use Rattle.iso_message.specs.Spans.{seen, AreWithin, placed, numbers};
+ghost use Rattle.iso_message.specs.declared.elements.Span.{Span};
+
+use crate::writing::push_piece;
+use std::alloc::{AllocError, Global};
+use std::marker::Model;
+
+/// Where an element's bytes stand.
+#[derive(Clone, Copy, Debug)]
+pub(crate) struct Span {
+    number: u8,
+    start: usize,
+    end: usize,
+}
+
+/// Numbers and their bytes, in the order of adding.
+#[derive(Debug, Drop)]
+pub(crate) struct Elements {
+    spans: Vec<Span>,
+    values: Vec<u8>,
+}
+
+impl Model for Elements {
+    ghost use Rattle.std.specs.Prelude.{ℕ, List};
+    ghost use Rattle.std.specs.Coded.{coded_ℕ, coded×, coded_list};
+    ghost use Rattle.iso_message.specs.Spans.{seen, AreWithin};
+
+    ghost Value = { List (ℕ × List ℕ) };
+
+    ghost coded = { coded_list (coded× coded_ℕ (coded_list coded_ℕ)) };
+
+    ghost view = { λ a. seen a.values.items a.spans.items };
+
+    ghost invariant = { λ a. AreWithin a.values.items a.spans.items };
+}
+
+impl Elements {
+    pub(crate) fn new(alloc: Global) -> Elements
+        ensures { result ≡ [] }
+    {
+        let spans = Vec::new(alloc);
+        let values = Vec::new(alloc);
+        Elements { spans, values }
+    }
+
+    pub(crate) fn with_capacity(
+        alloc: Global,
+        count: usize,
+        len: usize,
+    ) -> Result<Elements, AllocError>
+        ensures { IfOk result (λ es. es ≡ []) }
+    {
+        let spans = Vec::with_capacity(alloc, count)?;
+        let values = Vec::with_capacity(alloc, len)?;
+        Ok(Elements { spans, values })
+    }
+
+    pub(crate) fn push(&mut self, number: u8, content: &[u8]) -> Result<(), AllocError>
+        ensures ok { OnOk result (self.new ≡ self.old ++ (number, content.now) ∷ []) }
+        ensures err { OnErr result (self.new ≡ self.old) }
+    {
+        let start = self.values.len();
+        self.values.extend_from_slice(content)?;
+        let end = self.values.len();
+        self.spans.push(Span { number, start, end })?;
+        Ok(())
+    }
+
+    /// The bytes of a number, the first where there are several.
+    pub(crate) fn get(&self, number: u8) -> Option<&[u8]>
+        ensures { MatchOption result (find_element number self.now ≡ None) (λ v. find_element number self.now ≡ Some v.now) }
+    {
+        value_of(&self.spans, &self.values, number)
+    }
+
+    /// Adds the element in its place, instead of one of its number.
+    pub(crate) fn put(&mut self, number: u8, content: &[u8]) -> Result<(), AllocError>
+        ensures ok { OnOk result (self.new ≡ put number content.now self.old) }
+        ensures err { OnErr result (self.new ≡ self.old) }
+    {
+        let start = self.values.len();
+        self.values.extend_from_slice(content)?;
+        let end = self.values.len();
+        match search(&self.spans, number) {
+            Ok(place) => self.spans[place] = Span { number, start, end },
+            Err(place) => self.spans.insert(place, Span { number, start, end })?,
+        }
+        Ok(())
+    }
+
+    /// The maps of the numbers up to 64 and above.
+    pub(crate) fn maps(&self) -> (u64, u64)
+        requires { Ascends 1 128 (map (λ e. e.0) self.now) }
+        ensures low { result.0 ≡ bits 64 (low_numbers (map (λ e. e.0) self.now)) }
+        ensures high { result.1 ≡ bits 128 (high_numbers (map (λ e. e.0) self.now)) }
+    {
+        maps_of(&self.spans)
+    }
+
+    /// Writes the pieces in order.
+    pub(crate) fn push_to(&self, out: &mut Vec<u8>) -> Result<(), AllocError>
+        requires { AreGood self.now }
+        ensures { OnOk result (out.new.items ≡ out.old.items ++ pieces self.now) }
+    {
+        push_pieces(out, &self.spans, &self.values)
+    }
+
+    /// Takes the elements of a number out. Their bytes stay in the buffer, and are shown no more.
+    pub(crate) fn remove(&mut self, number: u8)
+        ensures { self.new ≡ without number self.old }
+    {
+        self.spans.retain(|span| span.number != number);
+    }
+
+    /// A copy of the elements of these numbers.
+    pub(crate) fn kept(&self, numbers: &[u8]) -> Result<Elements, AllocError>
+        ensures { IfOk result (λ es. es ≡ kept numbers.now self.now) }
+    {
+        let alloc = *self.values.allocator();
+        let mut elements = Elements::with_capacity(alloc, self.spans.len(), self.values.len())?;
+        copy_kept(&self.spans, &self.values, numbers, &mut elements)?;
+        Ok(elements)
+    }
+
+    /// At least as many bytes as the pieces take.
+    pub(crate) fn room(&self) -> usize {
+        let lengths = self.spans.len().saturating_mul(3);
+        lengths.saturating_add(self.values.len())
+    }
+
+    pub(crate) fn copy(&self) -> Result<Elements, AllocError>
+        ensures { IfOk result (λ es. es ≡ self.now) }
+    {
+        let alloc = *self.values.allocator();
+        let spans = Vec::from_slice(alloc, &self.spans)?;
+        let values = Vec::from_slice(alloc, &self.values)?;
+        Ok(Elements { spans, values })
+    }
+}
+
+/// Where a span of the number stands, or where one is to be added.
+fn search(spans: &[Span], number: u8) -> Result<usize, usize>
+    ensures bound { MatchResult result (λ i. i < length spans.now) (λ i. i ≤ length spans.now) }
+    ensures place { (s : Span) → s.number ≡ number → MatchResult result
+        (λ i. slice_set spans.now i s ≡ placed s spans.now)
+        (λ i. insert spans.now i s ≡ placed s spans.now) }
+{
+    for place in 0..spans.len() {
+        let found = spans[place].number;
+        if found == number {
+            return Ok(place);
+        }
+        if number < found {
+            return Err(place);
+        }
+    }
+    Err(spans.len())
+}
+
+/// The bytes of the first span of a number.
+fn value_of<'a>(spans: &[Span], values: &'a [u8], number: u8) -> Option<&'a [u8]>
+    requires { AreWithin values.now spans.now }
+    ensures { let found = find_element number (seen values.now spans.now) in MatchOption result (found ≡ None) (λ v. found ≡ Some v.now) }
+{
+    for span in spans {
+        if span.number == number {
+            return Some(&values[span.start..span.end]);
+        }
+    }
+    None
+}
+
+/// Adds the values of the spans with these numbers.
+fn copy_kept(
+    spans: &[Span],
+    values: &[u8],
+    numbers: &[u8],
+    elements: &mut Elements,
+) -> Result<(), AllocError>
+    requires { AreWithin values.now spans.now }
+    ensures { OnOk result (elements.new ≡ elements.old ++ kept numbers.now (seen values.now spans.now)) }
+{
+    for span in spans {
+        if numbers.contains(&span.number) {
+            elements.push(span.number, &values[span.start..span.end])?;
+        }
+    }
+    Ok(())
+}
+
+/// The maps of the numbers up to 64 and above.
+#[tactic(auto, using(crate::proofs::Maps::low_fits, crate::proofs::Maps::high_fits))]
+pub(crate) fn maps_of(spans: &[Span]) -> (u64, u64)
+    requires { Ascends 1 128 (numbers spans.now) }
+    ensures low { result.0 ≡ bits 64 (low_numbers (numbers spans.now)) }
+    ensures high { result.1 ≡ bits 128 (high_numbers (numbers spans.now)) }
+{
+    let mut low: u64 = 0;
+    let mut high: u64 = 0;
+    for span in spans {
+        if span.number <= 64 {
+            low += 1 << (64 - span.number);
+        } else {
+            high += 1 << (128 - span.number);
+        }
+    }
+    (low, high)
+}
+
+/// Writes the pieces of the spans' values.
+fn push_pieces(out: &mut Vec<u8>, spans: &[Span], values: &[u8]) -> Result<(), AllocError>
+    requires within { AreWithin values.now spans.now }
+    requires good { AreGood (seen values.now spans.now) }
+    ensures { OnOk result (out.new.items ≡ out.old.items ++ pieces (seen values.now spans.now)) }
+{
+    for span in spans {
+        push_piece(out, span.number, &values[span.start..span.end])?;
+    }
+    Ok(())
+}

@@ -1,0 +1,41 @@
+//! Why bytes are no message.
+
+ghost use Rattle.std.specs.Prelude.{◌≡◌};
+ghost use Rattle.iso_message.specs.declared.fault.DecodeFault.TheVariants.{Memory};
+
+use std::alloc::{AllocError, AllocFailed};
+
+#[derive(Clone, Copy, Debug, PartialEq, Eq)]
+pub enum DecodeFault {
+    /// The bytes end too early.
+    Short,
+    /// No type stands at the front.
+    BadType,
+    /// A byte of a bit map is no hexadecimal digit.
+    BitMap,
+    /// The element is not in the table.
+    Element(u8),
+    /// The length is no number, or above the most.
+    Length(u8),
+    /// A byte is not of the element's class.
+    Character(u8),
+    /// Bytes stand after the last element.
+    Trailing,
+    Memory,
+}
+
+impl From<AllocError> for DecodeFault {
+    ghost from_gives = { λ _ e. e ≡ Memory };
+
+    fn from(_e: AllocError) -> DecodeFault {
+        DecodeFault::Memory
+    }
+}
+
+impl<T: Drop> From<AllocFailed<T>> for DecodeFault {
+    ghost from_gives = { λ _ e. e ≡ Memory };
+
+    fn from(_e: AllocFailed<T>) -> DecodeFault {
+        DecodeFault::Memory
+    }
+}

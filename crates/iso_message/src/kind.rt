@@ -1,0 +1,88 @@
+//! The types of messages.
+ghost use Rattle.std.specs.Prelude.{◌≡◌, IsTrue, true};
+ghost use Rattle.iso_message.specs.Groups.{group, is_04xx, response_kind};
+
+/// A message type (ISO 8583:1987).
+#[derive(Clone, Copy, Debug, PartialEq, Eq, PartialOrd, Ord, Hash)]
+pub enum Kind {
+    /// Authorization request.
+    K0100,
+    /// Authorization request repeat.
+    K0101,
+    /// Authorization request response.
+    K0110,
+    /// Authorization advice.
+    K0120,
+    /// Authorization advice repeat.
+    K0121,
+    /// Authorization advice response.
+    K0130,
+    /// Reversal request.
+    K0400,
+    /// Reversal request repeat.
+    K0401,
+    /// Reversal request response.
+    K0410,
+    /// Reversal advice.
+    K0420,
+    /// Reversal advice repeat.
+    K0421,
+    /// Reversal advice response.
+    K0430,
+}
+
+/// What a message of a type is to a node.
+#[derive(Clone, Copy, Debug, PartialEq, Eq)]
+pub enum Group {
+    /// 0100, 0101.
+    Request,
+    /// 0110.
+    Answer,
+    /// 0120, 0121.
+    StandInAdvice,
+    /// 0400, 0401, 0420, 0421.
+    Reversal,
+    /// 0130, 0430.
+    Acknowledgement,
+    /// 0410.
+    Reply,
+}
+
+impl Kind {
+    pub fn group(self) -> Group
+        ensures { result ≡ group self }
+    {
+        match self {
+            Kind::K0100 | Kind::K0101 => Group::Request,
+            Kind::K0110 => Group::Answer,
+            Kind::K0120 | Kind::K0121 => Group::StandInAdvice,
+            Kind::K0400 | Kind::K0401 | Kind::K0420 | Kind::K0421 => Group::Reversal,
+            Kind::K0130 | Kind::K0430 => Group::Acknowledgement,
+            Kind::K0410 => Group::Reply,
+        }
+    }
+
+    /// Whether the key of such a message is that of its original.
+    pub fn is_04xx(self) -> bool
+        ensures { result ≡ is_04xx self }
+    {
+        match self.group() {
+            Group::Reversal | Group::Reply => true,
+            Group::Acknowledgement => self == Kind::K0430,
+            Group::Request | Group::Answer | Group::StandInAdvice => false,
+        }
+    }
+
+    /// The type of the response; a response keeps its own.
+    pub fn response(self) -> Kind
+        ensures { result ≡ response_kind self }
+    {
+        match self {
+            Kind::K0100 | Kind::K0101 => Kind::K0110,
+            Kind::K0120 | Kind::K0121 => Kind::K0130,
+            Kind::K0400 | Kind::K0401 => Kind::K0410,
+            Kind::K0420 | Kind::K0421 => Kind::K0430,
+            Kind::K0110 | Kind::K0130 | Kind::K0410 | Kind::K0430 => self,
+        }
+    }
+}

@@ -1,0 +1,160 @@
+//! Messages.
+ghost use Rattle.std.specs.Prelude.{◌≡◌, ◌⊎◌, ◌<◌, ◌^◌, ◌++◌, [], Some, None, IfOk, OnOk, OnErr, IfErr};
+ghost use Rattle.std.specs.Option.{option_copied};
+ghost use Rattle.iso_message.specs.declared.fault.DecodeFault.TheVariants.{Memory};
+ghost use Rattle.iso_message.specs.Elements.{set_fault};
+ghost use Rattle.iso_message.specs.Table.{form_of};
+ghost use Rattle.iso_message.specs.Grammar.{Spells};
+ghost use Rattle.iso_message.specs.Spelling.{IsMessage, spelling, two_maps};
+ghost use Rattle.iso_message.specs.Fields.{get, set_element, remove_element, as_kind};
+
+use crate::elements::Elements;
+use crate::fault::DecodeFault;
+use crate::form::{Form, form_at};
+use crate::kind::Kind;
+use crate::reading::are_of;
+use crate::writing::{push_map, text_of};
+use std::alloc::{AllocError, Global};
+use std::marker::Model;
+
+/// A type, and elements in ascending order of number, each with the bytes that the table of elements allows it.
+#[derive(Debug, Drop)]
+pub struct Message {
+    pub(crate) kind: Kind,
+    pub(crate) elements: Elements,
+}
+
+impl Model for Message {
+    ghost use Rattle.iso_message.specs.Fields.{Fields};
+    ghost use Rattle.iso_message.specs.Spelling.{IsMessage};
+
+    ghost Value = { Fields };
+
+    ghost view = { λ a. record { kind = a.kind; elements = a.elements } };
+
+    ghost invariant = { λ a. IsMessage (record { kind = a.kind; elements = a.elements }) };
+}
+
+impl Message {
+    /// A message with no elements.
+    pub fn new(alloc: Global, kind: Kind) -> Message
+        ensures { result ≡ record { kind = kind; elements = [] } }
+    {
+        Message {
+            kind,
+            elements: Elements::new(alloc),
+        }
+    }
+
+    pub fn kind(&self) -> Kind
+        ensures kind { result ≡ self.now.kind }
+
+        // Every message is one that can be written and read.
+        ensures is_message { IsMessage self.now }
+    {
+        self.kind
+    }
+
+    /// Gives the message another type.
+    pub fn set_kind(&mut self, kind: Kind)
+        ensures { self.new ≡ as_kind kind self.old }
+    {
+        self.kind = kind;
+    }
+
+    /// The bytes of an element, which for a binary one are eight. An element of length 0 is there.
+    pub fn get(&self, number: u8) -> Option<&[u8]>
+        ensures { option_copied result ≡ get self.now number }
+    {
+        self.elements.get(number)
+    }
+
+    /// Sets an element, in place of the value that it has. `Element` names a number that is not in the table, `Length` a
+    /// value of a length that the element doesn't take, `Character` one with a byte of another class; they are tested in
+    /// this order, and the message is unchanged after each, and where memory was refused.
+    pub fn set(&mut self, number: u8, value: &[u8]) -> Result<(), DecodeFault>
+        ensures fits { OnOk result (set_fault (form_of number) number value.now ≡ None) }
+        ensures ok { OnOk result (self.new ≡ set_element self.old number value.now) }
+        ensures fault { IfErr result (λ e. (e ≡ Memory) ⊎ (set_fault (form_of number) number value.now ≡ Some e)) }
+        ensures err { OnErr result (self.new ≡ self.old) }
+    {
+        match fault_of(number, value) {
+            Some(fault) => Err(fault),
+            None => {
+                self.elements.put(number, value)?;
+                Ok(())
+            }
+        }
+    }
+
+    /// Takes an element out, where it is there.
+    pub fn remove(&mut self, number: u8)
+        ensures { self.new ≡ remove_element self.old number }
+    {
+        self.elements.remove(number);
+    }
+
+    pub fn copy(&self) -> Result<Message, AllocError>
+        ensures { IfOk result (λ m. m ≡ self.now) }
+    {
+        Ok(Message {
+            kind: self.kind,
+            elements: self.elements.copy()?,
+        })
+    }
+}
+
+/// The bytes that spell the message, with hexadecimal digits in upper case and a secondary bit map only where an element
+/// above 64 is there.
+pub fn encode(alloc: Global, message: &Message) -> Result<Vec<u8>, AllocError>
+    ensures spelling { IfOk result (λ bytes. bytes.items ≡ spelling message.now) }
+    ensures spells { IfOk result (λ bytes. Spells bytes.items message.now) }
+{
+    let (low, high) = message.elements.maps();
+    let mut out = Vec::with_capacity(alloc, message.elements.room().saturating_add(OTHER_ROOM))?;
+    out.extend_from_slice(text_of(message.kind))?;
+    push_maps(&mut out, low, high)?;
+    message.elements.push_to(&mut out)?;
+    Ok(out)
+}
+
+/// The room for a type, two bit maps, and the second digits of the three binary elements.
+const OTHER_ROOM: usize = 4 + 32 + 3 * 8;
+/// Writes the first map, and the second where it has a bit.
+fn push_maps(out: &mut Vec<u8>, low: u64, high: u64) -> Result<(), AllocError>
+    requires { low < 2 ^ 63 }
+    ensures { OnOk result (out.new.items ≡ out.old.items ++ two_maps low high) }
+{
+    if high == 0 {
+        push_map(out, low)?;
+    } else {
+        push_map(out, (1 << 63) + low)?;
+        push_map(out, high)?;
+    }
+    Ok(())
+}
+
+/// What is wrong with a value for an element.
+fn fault_of(number: u8, value: &[u8]) -> Option<DecodeFault>
+    ensures { result ≡ set_fault (form_of number) number value.now }
+{
+    let (class, long) = match form_at(number) {
+        None => return Some(DecodeFault::Element(number)),
+        Some(Form::Binary) => {
+            if value.len() == 8 {
+                return None;
+            }
+            return Some(DecodeFault::Length(number));
+        }
+        Some(Form::Fixed(class, size)) => (class, value.len() == size),
+        Some(Form::Llvar(class, most)) => (class, value.len() <= most),
+        Some(Form::Lllvar(class, most)) => (class, value.len() <= most),
+    };
+    if !long {
+        return Some(DecodeFault::Length(number));
+    }
+    if !are_of(class, value) {
+        return Some(DecodeFault::Character(number));
+    }
+    None
+}

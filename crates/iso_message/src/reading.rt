@@ -1,0 +1,275 @@
+//! Reading a message.
+ghost use Rattle.std.specs.Prelude.{◌≡◌, ◌<◌, ◌≤◌, ◌⊎◌, ℕ, List, true, length, IfOk, IfErr, Ok};
+ghost use Rattle.std.specs.List.{list_all};
+ghost use Rattle.iso_message.specs.Types.{kind_of};
+ghost use Rattle.iso_message.specs.Elements.{fits, decimal, content_at, length_at, counted_at, binary_at, field_at, with_next, with_all};
+ghost use Rattle.iso_message.specs.Table.{form_of};
+ghost use Rattle.iso_message.specs.declared.form.Class.TheVariants.{Digits};
+ghost use Rattle.iso_message.specs.declared.fault.DecodeFault.TheVariants.{Memory};
+ghost use Rattle.iso_message.specs.Grammar.{Spells, IsFault};
+ghost use Rattle.iso_message.specs.Spelling.{spelling, IsMessage};
+ghost use Rattle.iso_message.specs.Fields.{Fields};
+ghost use Rattle.iso_message.specs.Messages.{marks, kind_at, map_at, second_at, read, Reads, Gives};
+
+use crate::elements::Elements;
+use crate::fault::DecodeFault;
+use crate::form::{Class, Form, form_at};
+use crate::kind::Kind;
+use crate::message::Message;
+use std::alloc::Global;
+
+pub(crate) fn are_of(class: Class, content: &[u8]) -> bool
+    ensures { result ≡ list_all (fits class) content.now }
+{
+    match class {
+        Class::Digits => content.iter().all(|b| b.is_ascii_digit()),
+        Class::Text => content.iter().all(|b| 0x20 <= *b && *b <= 0x7E),
+    }
+}
+
+#[tactic(auto, unfolding(crate::specs::Elements::content_at))]
+fn content_of(
+    class: Class,
+    size: usize,
+    number: u8,
+    bytes: &[u8],
+) -> Result<(&[u8], &[u8]), DecodeFault>
+    ensures { Reads (λ x. (x.0.now, x.1.now)) result (content_at class size number bytes.now) }
+{
+    if bytes.len() < size {
+        return Err(DecodeFault::Short);
+    }
+    let (content, rest) = bytes.split_at(size);
+    if !are_of(class, content) {
+        return Err(DecodeFault::Character(number));
+    }
+    Ok((content, rest))
+}
+
+/// The number that at most three digits write.
+fn number_of(digits: &[u8]) -> usize
+    requires digits { list_all (fits Digits) digits.now ≡ true }
+    requires few { length digits.now < 4 }
+    ensures { result ≡ decimal digits.now }
+{
+    let mut number = 0;
+    for digit in digits {
+        number = 10 * number + (*digit - b'0') as usize;
+    }
+    number
+}
+
+#[tactic(auto, unfolding(crate::specs::Elements::length_at))]
+fn length_of(
+    width: usize,
+    most: usize,
+    number: u8,
+    bytes: &[u8],
+) -> Result<(usize, &[u8]), DecodeFault>
+    requires { width < 4 }
+    ensures { Reads (λ x. (x.0, x.1.now)) result (length_at width most number bytes.now) }
+{
+    if bytes.len() < width {
+        return Err(DecodeFault::Short);
+    }
+    let (digits, rest) = bytes.split_at(width);
+    if !are_of(Class::Digits, digits) {
+        return Err(DecodeFault::Length(number));
+    }
+    let len = number_of(digits);
+    if len > most {
+        return Err(DecodeFault::Length(number));
+    }
+    Ok((len, rest))
+}
+
+#[tactic(auto, unfolding(crate::specs::Elements::counted_at))]
+fn counted_of(
+    width: usize,
+    class: Class,
+    most: usize,
+    number: u8,
+    bytes: &[u8],
+) -> Result<(&[u8], &[u8]), DecodeFault>
+    requires { width < 4 }
+    ensures { Reads (λ x. (x.0.now, x.1.now)) result (counted_at width class most number bytes.now) }
+{
+    let (len, rest) = length_of(width, most, number, bytes)?;
+    content_of(class, len, number, rest)
+}
+
+#[tactic(auto, unfolding(crate::specs::Elements::binary_at))]
+fn binary_of(number: u8, bytes: &[u8]) -> Result<([u8; 8], &[u8]), DecodeFault>
+    ensures { Reads (λ x. (x.0, x.1.now)) result (binary_at number bytes.now) }
+{
+    if bytes.len() < 16 {
+        return Err(DecodeFault::Short);
+    }
+    let (digits, rest) = bytes.split_at(16);
+    let mut value = [0; 8];
+    match hex::decode_to_slice(digits, &mut value) {
+        Ok(()) => Ok((value, rest)),
+        Err(_) => Err(DecodeFault::Character(number)),
+    }
+}
+
+/// Reads the element of a form, and adds it.
+#[tactic(auto, unfolding(crate::specs::Elements::with_next))]
+fn add_next<'a>(
+    elements: &mut Elements,
+    form: Option<Form>,
+    number: u8,
+    bytes: &'a [u8],
+) -> Result<&'a [u8], DecodeFault>
+    ensures { Gives (λ rest. (elements.new, rest.now)) result (with_next elements.old form number bytes.now) }
+{
+    let (content, rest) = match form {
+        None => return Err(DecodeFault::Element(number)),
+        Some(Form::Fixed(class, size)) => content_of(class, size, number, bytes)?,
+        Some(Form::Llvar(class, most)) => counted_of(2, class, most, number, bytes)?,
+        Some(Form::Lllvar(class, most)) => counted_of(3, class, most, number, bytes)?,
+        Some(Form::Binary) => {
+            let (value, rest) = binary_of(number, bytes)?;
+            elements.push(number, &value)?;
+            return Ok(rest);
+        }
+    };
+    elements.push(number, content)?;
+    Ok(rest)
+}
+
+/// Reads the elements of a bit map's set bits, and adds them.
+fn add_all<'a>(
+    elements: &mut Elements,
+    last: u8,
+    map: u64,
+    bytes: &'a [u8],
+) -> Result<&'a [u8], DecodeFault>
+    requires least { 64 ≤ last }
+    requires most { last ≤ 128 }
+    ensures { Gives (λ rest. (elements.new, rest.now)) result (with_all elements.old (marks last 64 map) bytes.now) }
+{
+    let mut left = map;
+    let mut rest = bytes;
+    while left != 0 {
+        let place = 63 - left.leading_zeros();
+        let number = last - place as u8;
+        rest = add_next(elements, form_at(number), number, rest)?;
+        left -= 1 << place;
+    }
+    Ok(rest)
+}
+
+fn named(text: &[u8]) -> Option<Kind>
+    ensures { result ≡ kind_of text.now }
+{
+    match text {
+        b"0100" => Some(Kind::K0100),
+        b"0101" => Some(Kind::K0101),
+        b"0110" => Some(Kind::K0110),
+        b"0120" => Some(Kind::K0120),
+        b"0121" => Some(Kind::K0121),
+        b"0130" => Some(Kind::K0130),
+        b"0400" => Some(Kind::K0400),
+        b"0401" => Some(Kind::K0401),
+        b"0410" => Some(Kind::K0410),
+        b"0420" => Some(Kind::K0420),
+        b"0421" => Some(Kind::K0421),
+        b"0430" => Some(Kind::K0430),
+        _ => None,
+    }
+}
+
+#[tactic(auto, unfolding(crate::specs::Messages::kind_at))]
+fn read_kind(bytes: &[u8]) -> Result<(Kind, &[u8]), DecodeFault>
+    ensures { Reads (λ x. (x.0, x.1.now)) result (kind_at bytes.now) }
+{
+    if bytes.len() < 4 {
+        return Err(DecodeFault::Short);
+    }
+    let (text, rest) = bytes.split_at(4);
+    match named(text) {
+        None => Err(DecodeFault::BadType),
+        Some(kind) => Ok((kind, rest)),
+    }
+}
+
+#[tactic(auto, unfolding(crate::specs::Messages::map_at))]
+fn bit_map(bytes: &[u8]) -> Result<(u64, &[u8]), DecodeFault>
+    ensures { Reads (λ x. (x.0, x.1.now)) result (map_at bytes.now) }
+{
+    if bytes.len() < 16 {
+        return Err(DecodeFault::Short);
+    }
+    let (digits, rest) = bytes.split_at(16);
+    let mut value = [0; 8];
+    match hex::decode_to_slice(digits, &mut value) {
+        Ok(()) => Ok((u64::from_be_bytes(value), rest)),
+        Err(_) => Err(DecodeFault::BitMap),
+    }
+}
+
+#[tactic(auto, unfolding(crate::specs::Messages::second_at))]
+fn second_map(first: u64, bytes: &[u8]) -> Result<(u64, &[u8]), DecodeFault>
+    ensures { Reads (λ x. (x.0, x.1.now)) result (second_at first bytes.now) }
+{
+    if first < 1 << 63 {
+        return Ok((0, bytes));
+    }
+    bit_map(bytes)
+}
+
+/// The type and the elements that the bytes spell.
+#[tactic(auto, unfolding(crate::specs::Messages::read))]
+fn parts(alloc: Global, bytes: &[u8]) -> Result<(Kind, Elements), DecodeFault>
+    ensures exact { Gives (λ x. record { kind = x.0; elements = x.1 }) result (read bytes.now) }
+{
+    let (kind, rest) = read_kind(bytes)?;
+    let (first, rest) = bit_map(rest)?;
+    let (second, rest) = second_map(first, rest)?;
+    let low = first % (1 << 63);
+    let count = low.count_ones() + second.count_ones();
+    let mut elements = Elements::with_capacity(alloc, count as usize, rest.len())?;
+    let rest = add_all(&mut elements, 64, low, rest)?;
+    let rest = add_all(&mut elements, 128, second, rest)?;
+    if !rest.is_empty() {
+        return Err(DecodeFault::Trailing);
+    }
+    Ok((kind, elements))
+}
+
+fn whole(alloc: Global, bytes: &[u8]) -> Result<Message, DecodeFault>
+    ensures exact { Gives (λ m. m) result (read bytes.now) }
+{
+    let (kind, elements) = parts(alloc, bytes)?;
+    Ok(Message { kind, elements })
+}
+
+/// The message that the bytes spell.
+pub fn decode(alloc: Global, bytes: &[u8]) -> Result<Message, DecodeFault>
+    // What is read is spelled so.
+    ensures found { IfOk result (λ m. Spells bytes.now m) }
+    // What is spelled so is read, unless memory ran out.
+    ensures only { (m : Fields) → Spells bytes.now m → Gives (λ x. x) result (Ok m) }
+    // A fault stands in the place of the first piece that isn't right.
+    ensures fault { IfErr result (λ e. (e ≡ Memory) ⊎ IsFault bytes.now e) }
+    // Which answer it is.
+    ensures exact { Gives (λ x. x) result (read bytes.now) }
+{
+    whole(alloc, bytes)
+}
+
+/// Bytes spell at most one message.
+pub fn one_message()
+    ensures { (bytes : List ℕ) (m n : Fields) → Spells bytes m → Spells bytes n → m ≡ n }
+{}
+
+/// Every message of good values in ascending order has the canonical spelling.
+pub fn canonical()
+    ensures { (m : Fields) → IsMessage m → Spells (spelling m) m }
+{}
+
+/// What is spelled is a message of good values in ascending order.
+pub fn spelled_is_message()
+    ensures { (bytes : List ℕ) (m : Fields) → Spells bytes m → IsMessage m }
+{}

@@ -1,0 +1,78 @@
+//! Writing a message.
+ghost use Rattle.std.specs.Prelude.{◌≡◌, ◌<◌, ◌++◌, map, length, IfOk, OnOk};
+ghost use Rattle.hex.specs.Hex.{encode_upper, IsBytes};
+ghost use Rattle.std.specs.Int.{w64, to_be_bytes};
+ghost use Rattle.iso_message.specs.Types.{kind_text};
+ghost use Rattle.iso_message.specs.Table.{form_of};
+ghost use Rattle.iso_message.specs.Grammar.{Spells};
+ghost use Rattle.iso_message.specs.Spelling.{two_digits, three_digits, piece, map_text, IsGood, IsMessage, spelling};
+
+use crate::form::{Form, form_at};
+use crate::kind::Kind;
+use std::alloc::AllocError;
+
+pub(crate) fn text_of(kind: Kind) -> &'static [u8]
+    ensures { result.now ≡ kind_text kind }
+{
+    match kind {
+        Kind::K0100 => b"0100",
+        Kind::K0101 => b"0101",
+        Kind::K0110 => b"0110",
+        Kind::K0120 => b"0120",
+        Kind::K0121 => b"0121",
+        Kind::K0130 => b"0130",
+        Kind::K0400 => b"0400",
+        Kind::K0401 => b"0401",
+        Kind::K0410 => b"0410",
+        Kind::K0420 => b"0420",
+        Kind::K0421 => b"0421",
+        Kind::K0430 => b"0430",
+    }
+}
+
+const UPPER: [u8; 16] = *b"0123456789ABCDEF";
+
+/// Writes bytes as upper-case hexadecimal digits.
+fn push_hex(out: &mut Vec<u8>, bytes: &[u8]) -> Result<(), AllocError>
+    ensures { OnOk result (out.new.items ≡ out.old.items ++ encode_upper bytes.now) }
+{
+    for byte in bytes {
+        out.push(UPPER[(*byte / 16) as usize])?;
+        out.push(UPPER[(*byte % 16) as usize])?;
+    }
+    Ok(())
+}
+
+pub(crate) fn push_map(out: &mut Vec<u8>, bits: u64) -> Result<(), AllocError>
+    ensures { OnOk result (out.new.items ≡ out.old.items ++ map_text bits) }
+{
+    push_hex(out, &bits.to_be_bytes())
+}
+
+/// Writes the piece of an element.
+pub(crate) fn push_piece(out: &mut Vec<u8>, number: u8, value: &[u8]) -> Result<(), AllocError>
+    requires { IsGood (form_of number) value.now }
+    ensures { OnOk result (out.new.items ≡ out.old.items ++ piece (form_of number) value.now) }
+{
+    let len = value.len();
+    match form_at(number) {
+        None => {}
+        Some(Form::Fixed(_, _)) => out.extend_from_slice(value)?,
+        Some(Form::Llvar(_, _)) => {
+            let digits = [b'0' + (len / 10) as u8, b'0' + (len % 10) as u8];
+            out.extend_from_slice(&digits)?;
+            out.extend_from_slice(value)?;
+        }
+        Some(Form::Lllvar(_, _)) => {
+            let digits = [
+                b'0' + (len / 100) as u8,
+                b'0' + (len / 10 % 10) as u8,
+                b'0' + (len % 10) as u8,
+            ];
+            out.extend_from_slice(&digits)?;
+            out.extend_from_slice(value)?;
+        }
+        Some(Form::Binary) => push_hex(out, value)?,
+    }
+    Ok(())
+}

@@ -1,0 +1,418 @@
+-- What follows from a node's trace. A history is a trace read from its newest event: each entry is its input,
+-- and then its outputs, each with the input that it came from. So an entry that is decided in part has a history too.
+use Rattle.std.specs.Prelude.{ℕ, suc, ◌≡◌, ◌⊎◌, ◌+◌, ◌*◌, List, [], ◌∷◌, ◌++◌, length, map, filter, reverse, count_by, Bool, true, false, cond, ◌&&◌, ◌||◌, not, if◌then◌else◌, ◌==◌, bytes_eq, Option, Some, None, is_some, is_none}
+use Rattle.std.specs.Option.{option_or, option_and_then}
+use Rattle.std.specs.List.{list_any}
+use Rattle.card_digits.specs.Numbers.{decimal}
+use Rattle.net_rows.specs.Network.{Network, issuer}
+use Rattle.net_rows.specs.declared.row.Issuer.{Issuer}
+use Rattle.network_law.specs.Tables.{is_home, node_id, link_ticks}
+use Rattle.network_law.specs.Cards.{Bytes, card_of}
+use Rattle.iso_message.specs.Fields.{Fields, el, set_element, remove_element, as_kind, get}
+use Rattle.iso_message.specs.declared.kind.Group.{Group}
+use Rattle.iso_message.specs.Groups.{group, is_request, is_answer, is_04xx}
+use Rattle.iso_message.specs.declared.kind.Kind.TheVariants.{K0420, K0120}
+use Rattle.card_digits.specs.declared.key.Key.{Key}
+use Rattle.iso_message.specs.Keys.{key_eq, key_of, identity_of, identity_eq, own_key, original_key, content}
+use Rattle.iso_message.specs.declared.keys.AdviceId.{AdviceId}
+use Rattle.iso_message.specs.Codes.{code_of, code_00, code_94}
+use Rattle.iso_message.specs.Made.{made_reversal, made_stand_in, response, made_from}
+use Rattle.iso_message.specs.Finding.{find_element, without, put}
+use Rattle.iso_message.specs.declared.kind.Group.TheVariants as groups
+
+pub data Source : Type 0 where
+  Gate : Source
+  ByLink : (link : ℕ) → Source
+
+pub data Input : Type 0 where
+  Enter : (message : Fields) → Input
+  Take : (link serial : ℕ) (message : Fields) → Input
+  LinkUp : (link : ℕ) → Input
+  LinkDown : (link : ℕ) → Input
+  Tick : Input
+  HostAnswer : (ask : ℕ) (code : Bytes) → Input
+  NewDate : (date : Bytes) → Input
+
+pub data Output : Type 0 where
+  Put : (link serial : ℕ) (message : Fields) → Output
+  Answer : (message : Fields) → Output
+  Ask : (ask : ℕ) (message : Fields) → Output
+  Post : (message : Fields) → Output
+
+pub data Event : Type 0 where
+  In : (input : Input) → Event
+  Out : (input : Input) (output : Output) → Event
+
+abbrev pub History : Type 0
+History = List Event
+
+-- x is an element
+abbrev pub IsIn : {X : Type 0} → X → List X → Type 0
+IsIn x [] = ⊥
+IsIn x (y ∷ ys) = (y ≡ x) ⊎ IsIn x ys
+
+-- an event stands in a history
+abbrev pub Has : Event → History → Type 0
+Has e h = IsIn e h
+
+-- the date, the count and the links
+
+abbrev pub date_after : Input → Bytes → Bytes
+date_after (NewDate date) old = date
+date_after _ old = old
+
+unfoldable pub date_of : Network → History → Bytes
+date_of t [] = t.settings.date
+date_of t (In i ∷ h) = date_after i (date_of t h)
+date_of t (Out i o ∷ h) = date_of t h
+
+abbrev pub ticks_in : Input → ℕ
+ticks_in Tick = 1
+ticks_in _ = 0
+
+unfoldable pub count_of : History → ℕ
+count_of [] = 0
+count_of (In i ∷ h) = ticks_in i + count_of h
+count_of (Out i o ∷ h) = count_of h
+
+abbrev pub up_after : Input → ℕ → Bool → Bool
+up_after (LinkUp k) l old = cond (k == l) true old
+up_after (LinkDown k) l old = cond (k == l) false old
+up_after _ l old = old
+
+unfoldable pub is_up : History → ℕ → Bool
+is_up [] l = true
+is_up (In i ∷ h) l = up_after i l (is_up h l)
+is_up (Out i o ∷ h) l = is_up h l
+
+-- serials and asks
+
+abbrev pub puts_on : ℕ → Output → ℕ
+puts_on l (Put k s m) = if k == l then 1 else 0
+puts_on l _ = 0
+
+unfoldable pub put_count : History → ℕ → ℕ
+put_count [] l = 0
+put_count (In i ∷ h) l = put_count h l
+put_count (Out i o ∷ h) l = puts_on l o + put_count h l
+
+abbrev pub asks_in : Output → ℕ
+asks_in (Ask a m) = 1
+asks_in _ = 0
+
+unfoldable pub ask_count : History → ℕ
+ask_count [] = 0
+ask_count (In i ∷ h) = ask_count h
+ask_count (Out i o ∷ h) = asks_in o + ask_count h
+
+-- the key of an ask
+
+abbrev pub key_asked : ℕ → Output → Option Key
+key_asked a (Ask b m) = if a == b then Some (key_of m) else None
+key_asked a _ = None
+
+unfoldable pub ask_key : History → ℕ → Option Key
+ask_key [] a = None
+ask_key (In i ∷ h) a = ask_key h a
+ask_key (Out i o ∷ h) a = option_or (ask_key h a) (key_asked a o)
+
+-- the message handled: entered, it lacks element 33, and a request has element 15 equal to the date
+
+pub record Handled : Type 0 where
+  pub message : Fields
+  pub source : Source
+
+abbrev pub dated : Bytes → Fields → Fields
+dated date m = if is_request m.kind then set_element m 15 date else m
+
+unfoldable pub handled : Network → History → Input → Option Handled
+unfolding date_of remove_element set_element
+handled t h (Enter m) = Some (record { message = dated (date_of t h) (remove_element m 33); source = Gate })
+handled t h (Take l s m) = Some (record { message = m; source = ByLink l })
+handled t h _ = None
+
+-- requests
+
+pub record Opening : Type 0 where
+  pub message : Fields
+  pub source : Source
+  pub count : ℕ
+  pub input : Input
+
+abbrev pub opened_by : Key → ℕ → Input → Option Handled → Option Opening
+opened_by k n i None = None
+opened_by k n i (Some x) = if is_request x.message.kind && key_eq (key_of x.message) k then Some (record { message = x.message; source = x.source; count = n; input = i }) else None
+
+-- the opening of a key: its first request
+unfoldable pub opening : Network → History → Key → Option Opening
+unfolding handled count_of key_of
+opening t [] k = None
+opening t (In i ∷ h) k = option_or (opening t h k) (opened_by k (count_of h) i (handled t h i))
+opening t (Out i o ∷ h) k = opening t h k
+
+abbrev pub key_handled : Option Handled → Option Key
+key_handled None = None
+key_handled (Some x) = if is_request x.message.kind then Some (key_of x.message) else None
+
+abbrev pub with_new : {X : Type 0} → Bool → Option X → List X → List X
+with_new true (Some x) xs = x ∷ xs
+with_new _ _ xs = xs
+
+-- the open keys, the newest first
+unfoldable pub opened : Network → History → List Key
+unfolding handled opening key_of
+opened t [] = []
+opened t (In i ∷ h) = with_new (is_none (option_and_then (opening t h) (key_handled (handled t h i)))) (key_handled (handled t h i)) (opened t h)
+opened t (Out i o ∷ h) = opened t h
+
+abbrev pub sent : Output → Option Fields
+sent (Put l s m) = Some m
+sent (Answer m) = Some m
+sent (Ask a m) = None
+sent (Post m) = None
+
+abbrev pub answers : Key → Option Fields → Option Fields
+answers k None = None
+answers k (Some m) = if is_answer m.kind && key_eq (key_of m) k && not (bytes_eq (code_of m) code_94) then Some m else None
+
+-- the answer of a key: the first 0110 in the outputs whose code isn't 94
+unfoldable pub answer : History → Key → Option Fields
+unfolding key_of code_of
+answer [] k = None
+answer (In i ∷ h) k = answer h k
+answer (Out i o ∷ h) k = option_or (answer h k) (answers k (sent o))
+
+abbrev pub pending : Network → History → Key → Bool
+pending t h k = is_some (opening t h k) && is_none (answer h k)
+
+-- a put of a request of k
+abbrev pub forwards : Key → Output → Option ℕ
+forwards k (Put l s m) = if is_request m.kind && key_eq (key_of m) k then Some l else None
+forwards k _ = None
+
+unfoldable pub forwarded : History → Key → Option ℕ
+unfolding key_of
+forwarded [] k = None
+forwarded (In i ∷ h) k = forwarded h k
+forwarded (Out i o ∷ h) k = option_or (forwarded h k) (forwards k o)
+
+abbrev pub asks : Key → Output → Bool
+asks k (Ask a m) = key_eq (key_of m) k
+asks k _ = false
+
+unfoldable pub asked : History → Key → Bool
+unfolding key_of
+asked [] k = false
+asked (In i ∷ h) k = asked h k
+asked (Out i o ∷ h) k = asked h k || asks k o
+
+-- how long it may be pending
+abbrev pub ticks_by : Network → Option ℕ → Bool → Option ℕ
+ticks_by t (Some l) asked = Some (link_ticks t l)
+ticks_by t None asked = if asked then Some t.settings.host_ticks else None
+
+abbrev pub is_due_at : ℕ → Option Opening → Option ℕ → Bool
+is_due_at now (Some op) (Some ticks) = op.count + ticks == now
+is_due_at now _ _ = false
+
+abbrev pub is_due : Network → History → ℕ → Key → Bool
+is_due t h now k = is_due_at now (opening t h k) (ticks_by t (forwarded h k) (asked h k))
+
+abbrev pub is_link : ℕ → Option ℕ → Bool
+is_link l None = false
+is_link l (Some k) = k == l
+
+-- k fails at an input
+abbrev pub fails : Network → History → Input → Key → Bool
+fails t h (LinkDown l) k = pending t h k && is_link l (forwarded h k)
+fails t h Tick k = pending t h k && is_due t h (suc (count_of h)) k
+fails t h _ k = false
+
+-- own approvals
+
+abbrev pub is_00_of : Key → Option Fields → Bool
+is_00_of k None = false
+is_00_of k (Some m) = is_answer m.kind && key_eq (key_of m) k && bytes_eq (code_of m) code_00
+
+-- a 0110 of k with code 00 was put out
+unfoldable pub has_00 : History → Key → Bool
+unfolding key_of code_of
+has_00 [] k = false
+has_00 (In i ∷ h) k = has_00 h k
+has_00 (Out i o ∷ h) k = has_00 h k || is_00_of k (sent o)
+
+abbrev pub is_key : Key → Option Key → Bool
+is_key k None = false
+is_key k (Some j) = key_eq j k
+
+-- the input is a 0110 of k with 00, or the host's 00 for k
+abbrev pub brings_00 : History → Key → Input → Bool
+brings_00 h k (Take l s m) = is_00_of k (Some m)
+brings_00 h k (HostAnswer a c) = is_key k (ask_key h a) && bytes_eq c code_00
+brings_00 h k _ = false
+
+abbrev pub key_of_00 : Option Fields → Option Key
+key_of_00 None = None
+key_of_00 (Some m) = if is_answer m.kind && bytes_eq (code_of m) code_00 then Some (key_of m) else None
+
+-- the key that is approved by the node itself in this output
+abbrev pub own_in : History → Input → Option Key → Option Key
+own_in h i None = None
+own_in h i (Some k) = if has_00 h k || brings_00 h k i then None else Some k
+
+abbrev pub own_approval : History → Input → Output → Option Key
+own_approval h i o = own_in h i (key_of_00 (sent o))
+
+pub record Approval : Type 0 where
+  pub key : Key
+  pub request : Fields
+
+abbrev pub approval_by : Key → Option Opening → List Approval
+approval_by k None = []
+approval_by k (Some op) = record { key = k; request = op.message } ∷ []
+
+abbrev pub approval_of : Network → History → Option Key → List Approval
+approval_of t h None = []
+approval_of t h (Some k) = approval_by k (opening t h k)
+
+-- the keys that the node approved by itself, each with its opened request
+unfoldable pub approvals : Network → History → List Approval
+unfolding opening has_00 ask_key key_of code_of
+approvals t [] = []
+approvals t (In i ∷ h) = approvals t h
+approvals t (Out i o ∷ h) = approval_of t h (own_approval h i o) ++ approvals t h
+
+-- advices
+
+pub record Advice : Type 0 where
+  pub message : Fields  -- 0120 or 0420
+  pub count : ℕ  -- at its storing
+  pub own : Bool  -- made here
+  pub acked : Bool
+
+abbrev pub has_identity : AdviceId → Advice → Bool
+has_identity id a = identity_eq (identity_of a.message) id
+
+abbrev pub reverses_key : Key → Advice → Bool
+reverses_key k a = is_04xx a.message.kind && key_eq (key_of a.message) k
+
+abbrev pub is_ack : Group → Bool
+is_ack groups.Acknowledgement = true
+is_ack _ = false
+
+abbrev pub is_ack_of : Fields → Advice → Bool
+is_ack_of m a = is_ack (group m.kind) && bytes_eq (code_of m) code_00 && has_identity (identity_of m) a
+
+abbrev pub acked_by : Input → Advice → Advice
+acked_by (Take l s m) a = record { message = a.message; count = a.count; own = a.own; acked = a.acked || is_ack_of m a }
+acked_by _ a = a
+
+abbrev pub add_advice : Advice → List Advice → List Advice
+add_advice a as' = if list_any (has_identity (identity_of a.message)) as' then as' else a ∷ as'
+
+abbrev pub add_made : (Fields → Fields) → ℕ → Option Opening → List Advice → List Advice
+add_made make count None as' = as'
+add_made make count (Some op) as' = add_advice (record { message = make op.message; count = count; own = true; acked = false }) as'
+
+abbrev pub code_is_not_00 : Option Fields → Bool
+code_is_not_00 None = false
+code_is_not_00 (Some m) = not (bytes_eq (code_of m) code_00)
+
+-- a 00 came for k, which is answered otherwise, and no reversal of k was made or accepted
+abbrev pub comes_late : History → List Advice → Key → Bool
+comes_late h as' k = code_is_not_00 (answer h k) && not (list_any (reverses_key k) as')
+
+abbrev pub late_key : History → List Advice → Input → Option Key
+late_key h as' (Take l s m) = if is_answer m.kind && bytes_eq (code_of m) code_00 && is_link l (forwarded h (key_of m)) && comes_late h as' (key_of m) then Some (key_of m) else None
+late_key h as' (HostAnswer a c) = option_and_then (λ k. if bytes_eq c code_00 && comes_late h as' k then Some k else None) (ask_key h a)
+late_key h as' _ = None
+
+abbrev pub is_timer : Input → Bool
+is_timer (LinkDown l) = true
+is_timer Tick = true
+is_timer _ = false
+
+-- the key that fails in this output: in an entry of LinkDown or Tick the 0110 of a pending key is that of its failing
+abbrev pub failed_key : Network → History → Input → Option Fields → Option Key
+failed_key t h i None = None
+failed_key t h i (Some m) = if is_timer i && is_answer m.kind && pending t h (key_of m) then Some (key_of m) else None
+
+abbrev pub is_advice_group : Group → Bool
+is_advice_group groups.StandInAdvice = true
+is_advice_group groups.Reversal = true
+is_advice_group _ = false
+
+abbrev pub is_ack_kind : Group → Bool
+is_ack_kind groups.Acknowledgement = true
+is_ack_kind groups.Reply = true
+is_ack_kind _ = false
+
+abbrev pub is_ok_ack : Option Fields → Bool
+is_ok_ack None = false
+is_ok_ack (Some m) = is_ack_kind (group m.kind) && bytes_eq (code_of m) code_00
+
+abbrev pub as_kept : Fields → Fields
+as_kept m = as_kind (if is_04xx m.kind then K0420 else K0120) m
+
+abbrev pub add_accepted : ℕ → Bool → Option Handled → List Advice → List Advice
+add_accepted count true (Some x) as' = if is_advice_group (group x.message.kind) then add_advice (record { message = as_kept x.message; count = count; own = false; acked = false }) as' else as'
+add_accepted count _ _ as' = as'
+
+-- all advices that were made or accepted, the newest first
+unfoldable pub advices : Network → ℕ → History → List Advice
+unfolding opening answer forwarded asked ask_key handled count_of has_00 get find_element el put without set_element remove_element own_key original_key key_of content identity_of code_of response made_from made_stand_in made_reversal
+advices t n [] = []
+advices t n (In i ∷ h) = add_made (λ m. made_reversal m (node_id t n)) (count_of h) (option_and_then (opening t h) (late_key h (advices t n h) i)) (map (acked_by i) (advices t n h))
+advices t n (Out i o ∷ h) =
+    add_accepted (count_of h) (is_ok_ack (sent o)) (handled t h i)
+    (add_made (λ m. made_stand_in m (node_id t n)) (count_of h) (option_and_then (opening t h) (own_approval h i o))
+    (add_made (λ m. made_reversal m (node_id t n)) (count_of h) (option_and_then (opening t h) (failed_key t h i (sent o)))
+    (advices t n h)))
+
+unfoldable pub known : Network → ℕ → History → AdviceId → Bool
+unfolding advices
+known t n h id = list_any (has_identity id) (advices t n h)
+
+-- reversed: a reversal was accepted
+unfoldable pub reversed : Network → ℕ → History → Key → Bool
+unfolding advices
+reversed t n h k = list_any (λ a. not a.own && reverses_key k a) (advices t n h)
+
+abbrev pub home_is : ℕ → Option Issuer → Bool
+home_is n None = false
+home_is n (Some s) = is_home s n
+
+abbrev pub is_at_home : Network → ℕ → Fields → Bool
+is_at_home t n m = home_is n (issuer t (card_of m))
+
+-- the store, oldest first
+unfoldable pub stored : Network → ℕ → History → List Advice
+unfolding advices card_of
+stored t n h = reverse (filter (λ a. not a.acked && not (is_at_home t n a.message)) (advices t n h))
+
+unfoldable pub load : Network → ℕ → History → ℕ
+unfolding stored opened opening answer
+load t n h = length (stored t n h) + 2 * count_by (pending t h) (opened t h)
+
+abbrev pub is_put_of : AdviceId → Output → Bool
+is_put_of id (Put l s m) = is_advice_group (group m.kind) && identity_eq (identity_of m) id
+is_put_of id _ = false
+
+-- this node has put the advice
+unfoldable pub was_put : History → AdviceId → Bool
+unfolding identity_of
+was_put [] id = false
+was_put (In i ∷ h) id = was_put h id
+was_put (Out i o ∷ h) id = was_put h id || is_put_of id o
+
+-- used: the amounts of own approvals of the card and date, of keys that aren't reversed
+abbrev pub counted : Network → ℕ → History → Bytes → Bytes → Approval → ℕ
+counted t n h card date a = if bytes_eq (card_of a.request) card && bytes_eq (el a.request 15) date && not (reversed t n h a.key) then decimal (el a.request 4) else 0
+
+abbrev pub added : {X : Type 0} → (X → ℕ) → List X → ℕ
+added f [] = 0
+added f (x ∷ xs) = f x + added f xs
+
+unfoldable pub used : Network → ℕ → History → Bytes → Bytes → ℕ
+unfolding approvals reversed el card_of
+used t n h card date = added (counted t n h card date) (approvals t h)
