@@ -1,4 +1,7 @@
 pub mod Rows
+pub mod ReadRuns
+pub mod Ids
+pub mod Whole
 pub mod Ends
 pub mod Refused
 pub mod Emits
@@ -18,5 +21,7 @@ pub mod Posts
 pub mod Origins
 pub mod Covered
 pub mod Marks
+pub mod Written
+pub mod Reading
 mod ARun
 mod Premises

@@ -1,14 +1,16 @@
 -- The premises of the law of advices are met, by a run in which a reversal is made, sent, posted and acknowledged.
-use Rattle.std.proofs.Common.{◌≡◌, ℕ, zero, suc, ◌≤◌, ◌<◌, List, [], ◌∷◌, replicate, Some, Bool, true, false, ◌&&◌, refl, sym, ◌∙◌, inl, inr, ⊎_elim, subst, arith, bytes_eq, eqb}
+use Rattle.std.proofs.Common.{◌≡◌, ℕ, zero, suc, ◌≤◌, ◌<◌, List, [], ◌∷◌, Some, Bool, true, false, ◌&&◌, refl, sym, ◌∙◌, inl, inr, ⊎_elim, subst, arith, bytes_eq, eqb}
 use Rattle.std.proofs.lemmas.Bool.{and_parts, or_cases, eqb-true}
 use Rattle.card_digits.specs.Numbers.{pad11}
 use Rattle.card_digits.specs.Longest.{begins}
 use Rattle.net_rows.specs.Network.{other_end}
+use Rattle.card_digits.specs.Reading.{id_of}
 use Rattle.network_law.specs.Tables.{route_links, is_attached, node_id}
-use Rattle.network_law.specs.Traces.{Input, Enter, Take, Tick, Put, Answer, Post, Event, In, Out, advices, stored, IsIn, Has}
+use Rattle.network_law.specs.Traces.{ReadInput, Enter, Take, Tick, Put, Answer, Post, Event, In, Out, advices, stored, IsIn, Has}
 use Rattle.network_law.specs.Decision.{decide}
 use Rattle.network_law.specs.Refusals.{refusal}
-use Rattle.network_law.specs.Runs.{Entry, Legal, IsRun, history}
+use Rattle.network_law.specs.Entries.{ReadEntry, read_history}
+use Rattle.network_law.proofs.ReadRuns.{IsLegalRead, IsReadRun}
 use Rattle.network_law.specs.Checked.{Ranks, Falls, IsRanked, IsSound}
 use Rattle.network_law.specs.Claims.{AdvicesKept}
 use Rattle.network_law.proofs.Emits.{bytes_eq_refl}
@@ -55,7 +57,7 @@ other_ids : (x y : Bytes) → bytes_eq x y ≡ false → x ≡ y → ⊥
 other_ids x y d e = not_both (bytes_eq x y) (subst (λ z. bytes_eq x z ≡ true) e (bytes_eq_refl x)) d
 
 sound : IsSound base
-sound = record { single_gates = gates; single_ids = single; no_zero_ids = not_zeros }
+sound = record { date = (refl, refl); ids = ids; single_gates = gates; single_ids = single }
   where
     single : (n m : ℕ) → n < 2 → m < 2 → pad11 (node_id base n) ≡ pad11 (node_id base m) → n ≡ m
     single zero zero p q e = refl
@@ -66,23 +68,23 @@ sound = record { single_gates = gates; single_ids = single; no_zero_ids = not_ze
     single zero (suc (suc m)) p q e = absurd (omega (arith, q))
     single (suc zero) (suc (suc m)) p q e = absurd (omega (arith, q))
 
-    not_zeros : (n : ℕ) → n < 2 → pad11 (node_id base n) ≡ replicate 11 48 → ⊥
-    not_zeros zero p e = other_ids (pad11 id_a) (replicate 11 48) refl e
-    not_zeros (suc zero) p e = other_ids (pad11 id_h) (replicate 11 48) refl e
-    not_zeros (suc (suc n)) p e = absurd (omega (arith, p))
+    ids : (n : ℕ) → n < 2 → id_of (node_id base n) ≡ Some (node_id base n)
+    ids zero p = refl
+    ids (suc zero) p = refl
+    ids (suc (suc n)) p = absurd (omega (arith, p))
 
 -- a run: A forwards, the key fails at A at the third tick, H posts the reversal, and A takes the acknowledgement
 
 abbrev ack : Fields
 ack = record { kind = K0430; elements = (2, card) ∷ (3, zeros6) ∷ (4, amount1) ∷ (7, time1) ∷ (11, trace1) ∷ (15, date1) ∷ (32, acq) ∷ (33, id_a) ∷ (39, code_00) ∷ (49, cur) ∷ (90, e90) ∷ [] }
 
-at_a : List Entry
+at_a : List ReadEntry
 at_a = record { input = Take 0 1 ack; outputs = [] } ∷ record { input = Tick; outputs = Put 0 2 reversal ∷ Answer (R (57 ∷ 49 ∷ [])) ∷ [] } ∷ record { input = Tick; outputs = [] } ∷ record { input = Tick; outputs = [] } ∷ record { input = Enter M; outputs = Put 0 1 M15 ∷ [] } ∷ []
 
-at_h : List Entry
+at_h : List ReadEntry
 at_h = record { input = Take 0 2 reversal; outputs = Put 0 1 ack ∷ Post reversal ∷ [] } ∷ []
 
-traces : ℕ → List Entry
+traces : ℕ → List ReadEntry
 traces zero = at_a
 traces (suc zero) = at_h
 traces (suc (suc n)) = []
@@ -90,8 +92,8 @@ traces (suc (suc n)) = []
 no_request : {A : Type 0} → false ≡ true → A
 no_request p = cc
 
-legal_a : Legal base 0 at_a
-unfolding at_a history decide refusal
+legal_a : IsLegalRead base 0 at_a
+unfolding at_a read_history decide refusal
 legal_a = (
   (
     (
@@ -106,22 +108,22 @@ legal_a = (
   record { own = refl; formed = λ r. no_request r; accepted = refl; outputs = refl },
 )
 
-legal_h : Legal base 1 at_h
-unfolding at_h history decide refusal
+legal_h : IsLegalRead base 1 at_h
+unfolding at_h read_history decide refusal
 legal_h = (omega arith, record { own = refl; formed = λ r. no_request r; accepted = refl; outputs = refl })
 
-legal_each : (n : ℕ) → Legal base n (traces n)
+legal_each : (n : ℕ) → IsLegalRead base n (traces n)
 unfolding traces
 legal_each zero = legal_a
 legal_each (suc zero) = legal_h
 legal_each (suc (suc n)) = omega arith
 
 abbrev HasPut : ℕ → Event → Type 0
-HasPut n (In (Take l s m)) = (i : Input) × Has (Out i (Put l s m)) (history (traces (other_end base n l)))
+HasPut n (In (Take l s m)) = (i : ReadInput) × Has (Out i (Put l s m)) (read_history (traces (other_end base n l)))
 HasPut n _ = 0 ≤ n
 
-linked : (n : ℕ) (e : Event) → Has e (history (traces n)) → HasPut n e
-unfolding traces at_a at_h history
+linked : (n : ℕ) (e : Event) → Has e (read_history (traces n)) → HasPut n e
+unfolding traces at_a at_h read_history
 linked zero e has = ⊎_elim (λ p. subst (HasPut 0) p (Take 0 2 reversal, inr (inl refl))) (λ has. ⊎_elim (λ p. subst (HasPut 0) p (omega arith)) (λ has. ⊎_elim (λ p. subst (HasPut 0) p (omega arith)) (λ has. ⊎_elim (λ p. subst (HasPut 0) p (omega arith)) (λ has. ⊎_elim (λ p. subst (HasPut 0) p (omega arith)) (λ has. ⊎_elim (λ p. subst (HasPut 0) p (omega arith)) (λ has. ⊎_elim (λ p. subst (HasPut 0) p (omega arith)) (λ has. ⊎_elim (λ p. subst (HasPut 0) p (omega arith)) (λ bad. absurd bad) has) has) has) has) has) has) has) has
 linked (suc zero) e has = ⊎_elim (λ p. subst (HasPut 1) p (omega arith)) (λ has. ⊎_elim (λ p. subst (HasPut 1) p (omega arith)) (λ has. ⊎_elim (λ p. subst (HasPut 1) p (Tick, inr (inr (inl refl)))) (λ bad. absurd bad) has) has) has
 linked (suc (suc n)) e has = absurd has
@@ -132,17 +134,17 @@ none zero le = absurd (omega (arith, le))
 none (suc zero) le = absurd (omega (arith, le))
 none (suc (suc n)) le = refl
 
-run : IsRun base traces
+run : IsReadRun base traces
 run = record { legal = λ n less. legal_each n; no_others = none; linked = λ n l s m has. linked n (In (Take l s m)) has }
 
 covered : AdvicesKept base (histories traces)
 covered = AdvicesKept_holds base ranks traces run ranked sound
 
 -- the reversal that A made is acknowledged, and stands in A's store no more
-made_one : advices base 0 (history (traces 0)) ≡ record { message = reversal; count = 3; own = true; acked = true } ∷ []
-unfolding traces at_a history advices
+made_one : advices base 0 (read_history (traces 0)) ≡ record { message = reversal; count = 3; own = true; acked = true } ∷ []
+unfolding traces at_a read_history advices
 made_one = refl
 
-stored_none : stored base 0 (history (traces 0)) ≡ []
-unfolding traces at_a history stored
+stored_none : stored base 0 (read_history (traces 0)) ≡ []
+unfolding traces at_a read_history stored
 stored_none = refl

@@ -1,7 +1,7 @@
 -- Worked rows, computed by the definitions.
 use Rattle.std.proofs.Common.{◌≡◌, ℕ, [], ◌∷◌, ◌++◌, None, refl, List}
 use Rattle.net_rows.specs.Network.{Network}
-use Rattle.network_law.specs.Traces.{Input, Enter, Take, LinkDown, Tick, HostAnswer, Put, Answer, Ask, In, Out, History}
+use Rattle.network_law.specs.Traces.{ReadInput, Enter, Take, LinkDown, Tick, HostAnswer, Put, Answer, Ask, In, Out, History}
 use Rattle.network_law.specs.Decision.{decide}
 use Rattle.network_law.specs.Refusals.{refusal}
 use Rattle.network_law.specs.Cards.{Bytes}
@@ -70,7 +70,7 @@ base = record {
 }
 
 -- what an input adds, the last output first
-abbrev step : Network → ℕ → History → Input → History
+abbrev step : Network → ℕ → History → ReadInput → History
 step t n h i = decide t n h i
 
 row6 : decide base 0 [] (Enter M) ≡ Out (Enter M) (Put 0 1 M15) ∷ In (Enter M) ∷ []

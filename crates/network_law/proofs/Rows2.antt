@@ -1,7 +1,7 @@
 -- More worked rows, by the kinds, links, serials and codes of what is put out.
 use Rattle.std.proofs.Common.{◌≡◌, ℕ, zero, suc, List, [], ◌∷◌, ◌++◌, map, refl}
 use Rattle.net_rows.specs.Network.{Network}
-use Rattle.network_law.specs.Traces.{Input, Enter, LinkDown, Tick, Output, Put, Answer, Ask, Post, In, Out, History}
+use Rattle.network_law.specs.Traces.{ReadInput, Enter, LinkDown, Tick, ReadOutput, Put, Answer, Ask, Post, In, Out, History}
 use Rattle.network_law.specs.Decision.{decide}
 use Rattle.network_law.specs.Cards.{Bytes}
 use Rattle.iso_message.specs.Fields.{Fields}
@@ -83,12 +83,12 @@ limited = record {
   stand_ins = record { node = 0; prefix = four; day = 1000; single = 1000 } ∷ [];
 }
 
-after : Network → ℕ → List Input → History
+after : Network → ℕ → List ReadInput → History
 after t n [] = []
 after t n (i ∷ is) = decide t n (after t n is) i
 
 -- the last entry's outputs, in order
-outputs_onto : List Output → History → List Output
+outputs_onto : List ReadOutput → History → List ReadOutput
 outputs_onto os [] = os
 outputs_onto os (In i ∷ h) = os
 outputs_onto os (Out i o ∷ h) = outputs_onto (o ∷ os) h
@@ -99,14 +99,14 @@ data Brief : Type 0 where
   AskOf : (ask : ℕ) → Brief
   PostOf : (kind : Kind) → Brief
 
-brief : Output → Brief
+brief : ReadOutput → Brief
 brief (Put l s m) = PutOf l s m.kind (code_of m)
 brief (Answer m) = AnswerOf m.kind (code_of m)
 brief (Ask a m) = AskOf a
 brief (Post m) = PostOf m.kind
 
 -- what is put out for the last of these inputs (the newest stands first)
-said : Network → ℕ → List Input → List Brief
+said : Network → ℕ → List ReadInput → List Brief
 said t n is = map brief (outputs_onto [] (after t n is))
 
 -- row 11
@@ -120,7 +120,7 @@ unfolding said after outputs_onto brief decide
 row26 = refl
 
 -- row 13: the link is down
-abbrev spent : List Input
+abbrev spent : List ReadInput
 spent = Enter (request 50 (amount 48 52 48 48) cur) ∷ Enter (request 49 (amount 48 54 48 48) cur) ∷ LinkDown 0 ∷ []
 
 row13_400 : said limited 0 spent ≡ AnswerOf K0110 code_00 ∷ []
@@ -131,7 +131,7 @@ row13_1 : said limited 0 (Enter (request 51 (amount 48 48 48 49) cur) ∷ spent)
 unfolding said after outputs_onto brief decide
 row13_1 = refl
 
-abbrev freed : List Input
+abbrev freed : List ReadInput
 freed = Enter (reversal_of 49 (amount 48 54 48 48)) ∷ Enter (reversal_of 49 (amount 48 54 48 48)) ∷ spent
 
 row13_reversed : said limited 0 freed ≡ AnswerOf K0410 code_00 ∷ []
@@ -151,7 +151,7 @@ unfolding said after outputs_onto brief decide
 row13_currency = refl
 
 -- row 27
-abbrev ticks : ℕ → List Input → List Input
+abbrev ticks : ℕ → List ReadInput → List ReadInput
 ticks zero is = is
 ticks (suc n) is = Tick ∷ ticks n is
 

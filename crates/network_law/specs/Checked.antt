@@ -1,18 +1,21 @@
 -- What tables and ranks keep that a checker accepts. A card is any list of digits here: a checker that looks at the longest
 -- prefixes of the rows gives no less, and for each card number it is what is said.
-use Rattle.std.specs.Prelude.{ℕ, zero, suc, ◌+◌, ◌<◌, ◌≤◌, ◌≡◌, ◌≢◌, List, length, replicate, Contains, Option, Some, true}
+use Rattle.std.specs.Prelude.{ℕ, zero, suc, ◌+◌, ◌<◌, ◌≤◌, ◌≡◌, ◌≢◌, List, length, Contains, Option, Some, true}
 use Rattle.card_digits.specs.Numbers.{pad11}
+use Rattle.card_digits.specs.Reading.{id_of}
 use Rattle.net_rows.specs.Network.{Network, issuer, other_end, day}
 use Rattle.net_rows.specs.declared.row.Issuer.{Issuer}
 use Rattle.network_law.specs.Cards.{Bytes}
 use Rattle.network_law.specs.Tables.{route_links, is_attached, node_id}
 use Rattle.network_law.specs.Traces.{IsIn}
+use Rattle.network_law.specs.Entries.{IsDate}
 
--- an acquirer is attached to one node; padded node ids are distinct, and none is all zeros
+-- the forms that reading the tables leaves, a single gate for each acquirer, and distinct ids
 pub record IsSound (t : Network) : Type 0 where
-  pub single_gates : (acquirer : Bytes) (n m : ℕ) → is_attached t n acquirer ≡ true → is_attached t m acquirer ≡ true → n ≡ m
+  pub date : IsDate t.settings.date
+  pub ids : (n : ℕ) → n < length t.nodes → id_of (node_id t n) ≡ Some (node_id t n)
   pub single_ids : (n m : ℕ) → n < length t.nodes → m < length t.nodes → pad11 (node_id t n) ≡ pad11 (node_id t m) → n ≡ m
-  pub no_zero_ids : (n : ℕ) → n < length t.nodes → pad11 (node_id t n) ≢ replicate 11 48
+  pub single_gates : (acquirer : Bytes) (n m : ℕ) → is_attached t n acquirer ≡ true → is_attached t m acquirer ≡ true → n ≡ m
 
 -- the sum of f over the numbers below n
 abbrev pub sum_below : (ℕ → ℕ) → ℕ → ℕ

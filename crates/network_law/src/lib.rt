@@ -1,17 +1,18 @@
 //! The safety of a network of nodes as a law over definitions: what its tables, a node's decision and its runs are, and what holds
-//! of every run. Messages here are types and elements; the bytes that spell them are not spoken of yet.
+//! of every run.
 #![tactic(auto)]
 
 mod fault;
 
-pub use fault::StepFault;
-
 ghost use Rattle.std.specs.Prelude.{ℕ, List};
 ghost use Rattle.net_rows.specs.Network.{Network};
 ghost use Rattle.network_law.specs.Checked.{IsSound, IsBounded, IsRanked, Ranks};
-ghost use Rattle.network_law.specs.Runs.{Entry, IsRun, history};
+ghost use Rattle.network_law.specs.Entries.{Entry, history};
+ghost use Rattle.network_law.specs.Runs.{IsRun};
 ghost use Rattle.network_law.specs.Claims.{Safe, Covered};
 ghost use Rattle.network_law.specs.Marks.{FailsAreMarked, FailsAreReversed};
+
+pub use fault::StepFault;
 
 /// Where the tables are sound, ranks fall along each route and limits stay within ceilings, every run is safe and nothing in it is
 /// lost, however steps interleave, links fail and packets are lost, repeated or late.
@@ -22,6 +23,6 @@ pub fn every_run_is_safe()
 
 /// In every legal trace the mark of a failing key stands exactly where the key fails, and its reversal is made there.
 pub fn failing_is_marked()
-    ensures marked { (t : Network) → FailsAreMarked t }
-    ensures reversed { (t : Network) → FailsAreReversed t }
+    ensures marked { (t : Network) → IsSound t → FailsAreMarked t }
+    ensures reversed { (t : Network) → IsSound t → FailsAreReversed t }
 {}
