@@ -11,3 +11,5 @@ pub mod TableLemmas
 pub mod Equality
 pub mod Changes
 pub mod MessageLemmas
+pub mod KeyLemmas
+pub mod FrameLemmas
