@@ -9,7 +9,7 @@ use Rattle.iso_message.specs.Made.{original_data}
 use Rattle.iso_message.proofs.KeyLemmas.{here, good_found, id_length}
 use Rattle.std.proofs.Common.{◌-◌, ◌++◌, zero, suc, replicate, Result, Ok, Err, ◌+◌, get_or, drop, ◌≡◌, ℕ, ◌<◌, ◌≤◌, Bool, true, false, not, ◌&&◌, ltb, leb, eqb, List, [], ◌∷◌, length, map, filter, Option, Some, None, refl, sym, ap, ◌∙◌, arith, inl, inr, Bor, MatchOption}
 use Rattle.std.specs.List.{list_all}
-use Rattle.std.proofs.lemmas.Bool.{and_parts, and_from, and_right, and_left, ltb-true, leb-true, eqb-true, lt-ltb, le-ltb, eq-eqb, ne_eqb, cases_lt, cases_eq, cases_Bool}
+use Rattle.std.proofs.lemmas.Bool.{and_parts, and_from, and_right, and_left, ltb-true, leb-true, eqb-true, lt-ltb, le-ltb, le-leb, eq-eqb, ne_eqb, cases_lt, cases_eq, cases_Bool}
 use Rattle.std.specs.Option.{option_copied}
 use Rattle.hex.specs.Hex.{IsBytes}
 use Rattle.iso_message.specs.declared.fault.DecodeFault.{DecodeFault}
@@ -106,6 +106,14 @@ settable n value bytes e = go (form_of n) refl e
     go (Some form) h e =
         let at = listed n form h in
         (at.above, at.up_to, rw h (good_by_form form n value at.bounded bytes e))
+
+-- a good value may be set
+pub fits_again : (form : Option Form) (n : ℕ) (value : List ℕ) → IsGood form value → set_fault form n value ≡ None
+fits_again None n value g = absurd g
+fits_again (Some (Fixed class size)) n value g = rw (eq-eqb (length value) size g.0, g.1) refl
+fits_again (Some (Llvar class most)) n value g = rw (le-leb (length value) most g.0, g.2) refl
+fits_again (Some (Lllvar class most)) n value g = rw (le-leb (length value) most g.0, g.2) refl
+fits_again (Some Binary) n value g = rw (eq-eqb (length value) 8 g.0) refl
 
 -- ---- lists of elements
 

@@ -8,6 +8,7 @@ mod frame;
 mod form;
 mod keys;
 mod kind;
+pub mod laws;
 mod made;
 mod message;
 mod reading;
