@@ -1,6 +1,6 @@
 -- Decimal digits, as numbers from 0 to 9.
-use Rattle.std.specs.Prelude.{◌≡◌, ℕ, ◌<◌, ◌≤◌, ◌-◌, List, length, drop, map, replicate}
-use Rattle.std.specs.List.{AllByRecursion}
+use Rattle.std.specs.Prelude.{◌≡◌, ℕ, ◌<◌, ◌≤◌, ◌-◌, ◌==◌, false, List, length, drop, map, replicate}
+use Rattle.std.specs.List.{AllByRecursion, list_all}
 
 -- the numbers that ASCII digits write
 abbrev pub digits_of : List ℕ → List ℕ
@@ -23,6 +23,11 @@ IsPrefix = AreDigitsWithin 1 12
 
 abbrev pub IsDateLabel : List ℕ → Type 0
 IsDateLabel = AreDigitsWithin 4 4
+
+-- at most eleven ASCII digits, not all of them 0
+pub record IsId (text : List ℕ) : Type 0 where
+  pub few : length text ≤ 11
+  pub not_zeros : list_all (λ b. b == 48) text ≡ false
 
 -- an array of n digits, of which those from len on are 0
 pub record IsPadded (n len : ℕ) (ds : List ℕ) : Type 0 where

@@ -1,5 +1,5 @@
 //! Names and ids.
-ghost use Rattle.std.specs.Prelude.{◌≡◌, ◌==◌};
+ghost use Rattle.std.specs.Prelude.{◌≡◌, ◌==◌, IfSome};
 ghost use Rattle.std.specs.List.{list_all};
 ghost use Rattle.std.specs.Char.{is_ascii_alphanumeric};
 
@@ -58,15 +58,21 @@ impl Model for Id {
 
     ghost view = { λ a. a.text };
 
+    ghost use Rattle.card_digits.specs.Digits.{IsId};
+
+    ghost invariant = { λ a. IsId a.text };
+
     ghost inverse = { λ bs. record { text = bs } };
 }
 
 impl Id {
     ghost use Rattle.card_digits.specs.Reading.{id_of};
+    ghost use Rattle.card_digits.specs.Digits.{IsId};
 
     /// The id that the bytes are.
     pub fn read(text: &[u8]) -> Option<Id>
-        ensures { result ≡ id_of text.now }
+        ensures value { result ≡ id_of text.now }
+        ensures form { IfSome result IsId }
     {
         if text.len() > 11 || !all_digits(text) || all_zeros(text) {
             return None;
@@ -78,7 +84,8 @@ impl Id {
 
     /// The digits, as text.
     pub fn as_slice(&self) -> &[u8]
-        ensures { result.now ≡ self.now }
+        ensures text { result.now ≡ self.now }
+        ensures form { IsId result.now }
     {
         self.text.as_slice()
     }

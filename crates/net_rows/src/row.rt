@@ -3,13 +3,13 @@ ghost use Rattle.std.specs.Prelude.{◌≡◌, ◌==◌, if◌then◌else◌};
 
 use crate::lists::{Links, Nodes};
 use crate::longest::{AtNode, Prefixed};
-use card_digits::{Amount, Id, LinkNo, Name, NodeNo, Prefix, ShortBytes};
+use card_digits::{Amount, DateLabel, Id, LinkNo, Name, NodeNo, Prefix, ShortBytes};
 
 /// What holds for the whole network.
 #[derive(Clone, Copy, Debug)]
 pub struct Settings {
     pub currency: ShortBytes<3>,
-    pub date: ShortBytes<4>,
+    pub date: DateLabel,
     pub host_ticks: u16,
     pub advice_ticks: u16,
 }
@@ -64,7 +64,11 @@ impl Link {
     pub fn other_end(&self, node: NodeNo) -> NodeNo
         ensures { result ≡ (if self.now.from == node then self.now.to else self.now.from) }
     {
-        if self.from == node { self.to } else { self.from }
+        if self.from == node {
+            self.to
+        } else {
+            self.from
+        }
     }
 }
 

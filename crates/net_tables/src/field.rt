@@ -5,8 +5,10 @@ use crate::fault::TableFault;
 use crate::keys::{get, has_only};
 use crate::place::{Key, Place, Table};
 use crate::value::{currency_of, date_of, ends_of, id_of, name_of, prefix_of, whole_of};
-use card_digits::{Amount, Id, Name, Prefix, ShortBytes};
+use card_digits::{Amount, DateLabel, Id, Name, Prefix, ShortBytes};
 use toml::Value;
+
+const MOST_AMOUNT: u64 = 999_999_999_999;
 
 /// A row of the text, and where it stands.
 #[derive(Clone, Copy)]
@@ -17,6 +19,7 @@ pub(crate) struct Row<'a> {
 }
 
 impl<'a> Row<'a> {
+    ghost use Rattle.card_digits.specs.Digits.{IsId};
     ghost use Rattle.net_tables.specs.Fields.{Lent, row_view, place_of, field_at, name_at, id_at, currency_at, date_at, whole_at, prefix_at, ends_at, no_other};
 
     pub fn place(&self, key: Key) -> Place
@@ -55,7 +58,8 @@ impl<'a> Row<'a> {
 
     #[tactic(auto, unfolding(crate::specs::Fields::form_at))]
     pub fn id(&self, key: Key) -> Result<Id, TableFault>
-        ensures { result ≡ id_at (row_view self.now) key }
+        ensures value { result ≡ id_at (row_view self.now) key }
+        ensures form { IfOk result IsId }
     {
         id_of(self.field(key)?).ok_or(self.bad(key))
     }
@@ -75,7 +79,7 @@ impl<'a> Row<'a> {
     }
 
     #[tactic(auto, unfolding(crate::specs::Fields::form_at))]
-    pub fn date(&self, key: Key) -> Result<ShortBytes<4>, TableFault>
+    pub fn date(&self, key: Key) -> Result<DateLabel, TableFault>
         ensures { result ≡ date_at (row_view self.now) key }
     {
         date_of(self.field(key)?).ok_or(self.bad(key))
@@ -88,6 +92,14 @@ impl<'a> Row<'a> {
         ensures within { IfOk result (λ n. (least ≤ n) × (n ≤ most)) }
     {
         whole_of(self.field(key)?, least, most).ok_or(self.bad(key))
+    }
+
+    /// An amount.
+    pub fn amount(&self, key: Key) -> Result<Amount, TableFault>
+        ensures { result ≡ whole_at 0 999_999_999_999 (row_view self.now) key }
+    {
+        let value = self.whole(key, 0, MOST_AMOUNT)?;
+        Ok(Amount::new(value))
     }
 
     /// Two different names.

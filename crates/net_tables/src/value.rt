@@ -2,9 +2,10 @@
 ghost use Rattle.std.specs.Prelude.{◌≡◌, ◌≤◌, ◌<◌, ◌^◌, length, IfSome};
 ghost use Rattle.std.specs.List.{list_all};
 ghost use Rattle.toml.specs.View.{view};
+ghost use Rattle.card_digits.specs.Digits.{IsId};
 ghost use Rattle.net_tables.specs.Values.{whole_in, name_in, id_in, prefix_in, currency_in, date_in, ends_in, is_printable};
 
-use card_digits::{Id, Name, Prefix, ShortBytes, all_digits};
+use card_digits::{DateLabel, Id, Name, Prefix, ShortBytes, all_digits};
 use toml::Value;
 
 /// A whole number from `least` to `most`.
@@ -45,7 +46,8 @@ pub(crate) fn name_of(value: &Value) -> Option<Name>
 }
 
 pub(crate) fn id_of(value: &Value) -> Option<Id>
-    ensures { result ≡ id_in (view value.now) }
+    ensures value { result ≡ id_in (view value.now) }
+    ensures form { IfSome result IsId }
 {
     match value.as_str() {
         Some(text) => Id::read(text.as_bytes()),
@@ -68,7 +70,7 @@ fn all_printable(text: &[u8]) -> bool
     text.iter().all(|byte| *byte >= 0x20 && *byte <= 0x7e)
 }
 
-ghost use Rattle.net_tables.specs.Values.{currency_text, date_text};
+ghost use Rattle.net_tables.specs.Values.{currency_text};
 
 fn currency_text(text: &[u8]) -> Option<ShortBytes<3>>
     ensures { result ≡ currency_text text.now }
@@ -89,21 +91,12 @@ pub(crate) fn currency_of(value: &Value) -> Option<ShortBytes<3>>
     }
 }
 
-fn date_text(text: &[u8]) -> Option<ShortBytes<4>>
-    ensures { result ≡ date_text text.now }
-{
-    if text.len() != 4 || !all_digits(text) {
-        return None;
-    }
-    Some(ShortBytes::from_digits(text))
-}
-
 /// Four digits.
-pub(crate) fn date_of(value: &Value) -> Option<ShortBytes<4>>
+pub(crate) fn date_of(value: &Value) -> Option<DateLabel>
     ensures { result ≡ date_in (view value.now) }
 {
     match value.as_str() {
-        Some(text) => date_text(text.as_bytes()),
+        Some(text) => DateLabel::read(text.as_bytes()).ok(),
         None => None,
     }
 }

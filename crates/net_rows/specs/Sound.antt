@@ -1,0 +1,27 @@
+-- What holds of the rows of every network that is built: what they point to is there.
+use Rattle.std.specs.Prelude.{◌≡◌, ℕ, ◌<◌, ◌≤◌, List, length}
+use Rattle.std.specs.List.{AllByRecursion}
+use Rattle.card_digits.specs.Digits.{IsId}
+use Rattle.net_rows.specs.declared.row.Node.{Node}
+use Rattle.net_rows.specs.declared.row.Link.{Link}
+use Rattle.net_rows.specs.declared.row.Acquirer.{Acquirer}
+use Rattle.net_rows.specs.Network.{Network}
+
+-- both ends are among so many nodes
+pub record HasEnds (nodes : ℕ) (l : Link) : Type 0 where
+  pub from : l.from < nodes
+  pub to : l.to < nodes
+
+abbrev pub AreEnds : ℕ → List Link → Type 0
+AreEnds nodes links = AllByRecursion (HasEnds nodes) links
+
+-- each acquirer is at one of so many nodes
+abbrev pub AreAtNodes : ℕ → List Acquirer → Type 0
+AreAtNodes nodes acquirers = AllByRecursion (λ a. a.node < nodes) acquirers
+
+pub record IsSound (t : Network) : Type 0 where
+  pub few_nodes : length t.nodes ≤ 64
+  pub few_links : length t.links ≤ 256
+  pub ids : AllByRecursion (λ n. IsId n.id) t.nodes
+  pub ends : AreEnds (length t.nodes) t.links
+  pub gates : AreAtNodes (length t.nodes) t.acquirers

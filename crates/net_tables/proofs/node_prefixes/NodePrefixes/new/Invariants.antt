@@ -1,0 +1,10 @@
+use Rattle.std.proofs.Common.{◌≡◌, ℕ, List, length}
+use Rattle.net_tables.specs.Prefixes.{AreEmpty}
+use Rattle.net_tables.proofs.node_prefixes.NodePrefixes.new.Given as goal
+
+pub record AreMade (lists : List (List (List ℕ))) (count : ℕ) : Type 0 where
+  pub empty : AreEmpty lists
+  pub len : length lists ≡ count
+
+abbrev pub invariant-loop : goal.invariant-loop
+invariant-loop l = AreMade l.lists.items l.counter

@@ -1,0 +1,155 @@
+//! Fields that name several rows.
+ghost use Rattle.std.specs.Prelude.{◌≡◌, ◌≤◌, [], length, option_map, IfOk};
+ghost use Rattle.std.specs.List.{list_all};
+ghost use Rattle.toml.specs.View.{items_view};
+ghost use Rattle.net_tables.specs.Values.{all_names};
+ghost use Rattle.net_tables.specs.Fields.{Gives, row_view, names_at};
+ghost use Rattle.net_tables.specs.Rows.{node_names, link_names};
+ghost use Rattle.net_tables.specs.Reading.{all_named, nodes_at, links_at, is_twice, is_end};
+
+use crate::fault::TableFault;
+use crate::field::Row;
+use crate::link::LinkRows;
+use crate::node::NodeRows;
+use crate::place::{Key, Place};
+use crate::value::name_of;
+use card_digits::{LinkNo, Name, NodeNo};
+use net_rows::{Link, Links, Nodes};
+use std::alloc::{AllocError, Global};
+use toml::Value;
+
+const MOST_LINKS: usize = 8;
+
+/// The names that the values are, where each is one.
+fn all_names(alloc: Global, values: &[Value]) -> Result<Option<Vec<Name>>, AllocError>
+    ensures { IfOk result (λ o. option_map (λ v. v.items) o ≡ all_names (items_view values.now)) }
+{
+    let mut names = Vec::new(alloc);
+    for value in values {
+        match name_of(value) {
+            Some(name) => names.push(name)?,
+            None => return Ok(None),
+        }
+    }
+    Ok(Some(names))
+}
+
+#[tactic(auto, unfolding(crate::specs::Fields::form_at))]
+fn names_at(alloc: Global, row: &Row, key: Key) -> Result<Vec<Name>, TableFault>
+    ensures { Gives (λ v. v.items) result (names_at (row_view row.now) key) }
+{
+    let Some(values) = row.field(key)?.as_array() else {
+        return Err(row.bad(key));
+    };
+    match all_names(alloc, values)? {
+        Some(names) => Ok(names),
+        None => Err(row.bad(key)),
+    }
+}
+
+fn all_nodes(
+    alloc: Global,
+    nodes: &NodeRows,
+    names: &[Name],
+    at: Place,
+) -> Result<Nodes, TableFault>
+    ensures { Gives (λ v. v) result (all_named (node_names nodes.now) at names.now) }
+{
+    let mut found = Nodes::new(alloc);
+    for name in names {
+        found.push(nodes.named(name, at)?)?;
+    }
+    Ok(found)
+}
+
+fn is_node_twice(nodes: &[NodeNo]) -> bool
+    ensures { result ≡ is_twice nodes.now }
+{
+    match nodes {
+        [] => false,
+        [first, rest @ ..] => rest.contains(first) || is_node_twice(rest),
+    }
+}
+
+/// The nodes that a field names, none twice.
+#[tactic(auto, unfolding(crate::specs::Reading::nodes_at), using(crate::proofs::Rows::fails_bind))]
+pub(crate) fn nodes_at(
+    alloc: Global,
+    row: &Row,
+    key: Key,
+    nodes: &NodeRows,
+) -> Result<Nodes, TableFault>
+    ensures { Gives (λ v. v) result (nodes_at (node_names nodes.now) (row_view row.now) key) }
+{
+    let names = names_at(alloc, row, key)?;
+    let found = all_nodes(alloc, nodes, &names, row.place(key))?;
+    if is_node_twice(found.as_slice()) {
+        return Err(TableFault::Twice(row.place(key)));
+    }
+    Ok(found)
+}
+
+fn all_links(
+    alloc: Global,
+    links: &LinkRows,
+    names: &[Name],
+    at: Place,
+) -> Result<Links, TableFault>
+    ensures { Gives (λ v. v) result (all_named (link_names links.now) at names.now) }
+{
+    let mut found = Links::new(alloc);
+    for name in names {
+        found.push(links.named(name, at)?)?;
+    }
+    Ok(found)
+}
+
+fn is_link_twice(links: &[LinkNo]) -> bool
+    ensures { result ≡ is_twice links.now }
+{
+    match links {
+        [] => false,
+        [first, rest @ ..] => rest.contains(first) || is_link_twice(rest),
+    }
+}
+
+fn is_end(links: &[Link], node: NodeNo, link: LinkNo) -> bool
+    ensures { result ≡ is_end links.now node link }
+{
+    match links.get(link.place()) {
+        Some(row) => row.from == node || row.to == node,
+        None => false,
+    }
+}
+
+fn all_at(links: &[Link], node: NodeNo, found: &[LinkNo]) -> bool
+    ensures { result ≡ list_all (is_end links.now node) found.now }
+{
+    found.iter().all(|link| is_end(links, node, *link))
+}
+
+/// One to eight links of the node that a field names, none twice.
+#[tactic(auto, unfolding(crate::specs::Reading::links_at), using(crate::proofs::Rows::fails_bind))]
+pub(crate) fn links_at(
+    alloc: Global,
+    row: &Row,
+    key: Key,
+    node: NodeNo,
+    links: &LinkRows,
+) -> Result<Links, TableFault>
+    ensures { Gives (λ v. v) result (links_at links.now node (row_view row.now) key) }
+{
+    let names = names_at(alloc, row, key)?;
+    let count = names.as_slice().len();
+    if count == 0 || count > MOST_LINKS {
+        return Err(row.bad(key));
+    }
+    let found = all_links(alloc, links, &names, row.place(key))?;
+    if !all_at(links.rows(), node, found.as_slice()) {
+        return Err(TableFault::NotAtLink(row.place(key)));
+    }
+    if is_link_twice(found.as_slice()) {
+        return Err(TableFault::Twice(row.place(key)));
+    }
+    Ok(found)
+}

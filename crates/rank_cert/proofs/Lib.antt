@@ -1,0 +1,4 @@
+mod Pairs
+mod Cuts
+mod Again
+mod Behind

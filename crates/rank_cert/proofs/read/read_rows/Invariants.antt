@@ -1,0 +1,9 @@
+use Rattle.std.proofs.Common.{◌≡◌, [], length}
+use Rattle.rank_cert.specs.Reading.{rows_in, lines}
+use Rattle.rank_cert.proofs.read.read_rows.Given as goal
+
+abbrev pub invariant-loop-line : goal.invariant-loop-line
+invariant-loop-line l = rows_in l.cert (lines l.rest) ≡ rows_in [] (lines l.text)
+
+abbrev pub decreases-loop-line : goal.decreases-loop-line
+decreases-loop-line l = length l.rest

@@ -1,0 +1,6 @@
+use Rattle.std.proofs.Common.{◌≡◌, ◌++◌, drop}
+use Rattle.rank_cert.specs.Writing.{lines_of}
+use Rattle.rank_cert.proofs.write.write_rows.Given as goal
+
+abbrev pub invariant-loop-row : goal.invariant-loop-row
+invariant-loop-row l = l.text.items ++ lines_of (drop l.row-index l.rows) ≡ l.fn.text.items ++ lines_of l.rows

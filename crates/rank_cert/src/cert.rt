@@ -1,0 +1,119 @@
+//! Ranks of pairs of a node's name and a prefix.
+ghost use Rattle.std.specs.Prelude.{◌≡◌, [], ◌∷◌, ◌++◌, false, IfOk, OnErr, Some, None};
+ghost use Rattle.rank_cert.specs.Ranks.{rank_of, is_new, IsRow, IsCert};
+
+use card_digits::{Name, Prefix};
+use std::alloc::{AllocError, Global};
+use std::collections::BTreeMap;
+use std::marker::Model;
+
+/// The rank of the node of that name at a prefix.
+#[derive(Clone, Copy, Debug, PartialEq, Eq)]
+pub struct Rank {
+    pub node: Name,
+    pub prefix: Prefix,
+    pub rank: u16,
+}
+
+/// What has one rank.
+#[derive(Clone, Copy, Debug, PartialEq, Eq, PartialOrd, Ord)]
+pub(crate) struct Pair {
+    node: Name,
+    prefix: Prefix,
+}
+
+/// Ranks in the order in which they were added, at most one for a pair of a name and a prefix.
+#[derive(Debug, Drop)]
+pub struct Cert {
+    rows: Vec<Rank>,
+    ranks: BTreeMap<Pair, u16>,
+}
+
+impl Model for Cert {
+    ghost use Rattle.std.specs.Prelude.{List};
+    ghost use Rattle.rank_cert.specs.declared.cert.Rank.{Rank};
+    ghost use Rattle.rank_cert.specs.Ranks.{IsCert};
+    ghost use Rattle.rank_cert.specs.Index.{IsIndex};
+
+    ghost Value = { List Rank };
+
+    ghost view = { λ a. a.rows.items };
+
+    ghost invariant = { λ a. IsCert a.rows.items × IsIndex a.rows.items a.ranks };
+}
+
+impl Cert {
+    pub fn new(alloc: Global) -> Cert
+        ensures { result ≡ [] }
+    {
+        Cert {
+            rows: Vec::new(alloc),
+            ranks: BTreeMap::new(alloc),
+        }
+    }
+
+    /// Adds a row at the end, but not where the pair is there or the bytes are no name.
+    pub fn add(&mut self, name: &[u8], prefix: Prefix, rank: u16) -> Result<bool, AllocError>
+        ensures added { IfOk result (λ added. added ≡ is_new self.old name.now prefix) }
+        ensures yes { result ≡ Ok true → self.new ≡ self.old ++ record { node = name.now; prefix = prefix; rank = rank } ∷ [] }
+        ensures no { result ≡ Ok false → self.new ≡ self.old }
+        ensures err { OnErr result (self.new ≡ self.old) }
+    {
+        match Name::read(name) {
+            Some(node) => self.add_row(Rank { node, prefix, rank }),
+            None => Ok(false),
+        }
+    }
+
+    /// The rows in the order in which they were added.
+    pub fn rows(&self) -> &[Rank]
+        ensures { result.now ≡ self.now }
+    {
+        self.rows.as_slice()
+    }
+
+    /// The rank of a name at a prefix.
+    pub fn rank(&self, node: &Name, prefix: &Prefix) -> Option<u16>
+        ensures { result ≡ rank_of self.now node.now prefix.now }
+    {
+        let pair = Pair {
+            node: *node,
+            prefix: *prefix,
+        };
+        self.ranks.get(&pair).copied()
+    }
+}
+
+impl Cert {
+    /// The rows, of which no two have the same pair.
+    pub(crate) fn good_rows(&self) -> &[Rank]
+        ensures rows { result.now ≡ self.now }
+        ensures good { IsCert self.now }
+        ensures each { All IsRow self.now }
+    {
+        &self.rows
+    }
+
+    /// Adds a row at the end, but not where its pair is there.
+    pub(crate) fn add_row(&mut self, row: Rank) -> Result<bool, AllocError>
+        requires { IsRow row }
+        ensures added { IfOk result (λ added. added ≡ is_none (rank_of self.old row.node row.prefix)) }
+        ensures yes { result ≡ Ok true → self.new ≡ self.old ++ row ∷ [] }
+        ensures no { result ≡ Ok false → self.new ≡ self.old }
+        ensures err { OnErr result (self.new ≡ self.old) }
+    {
+        let pair = Pair {
+            node: row.node,
+            prefix: row.prefix,
+        };
+        if self.ranks.contains_key(&pair) {
+            return Ok(false);
+        }
+        self.rows.reserve(1)?;
+        self.ranks.insert(pair, row.rank)?;
+        self.rows.push(row)?;
+        Ok(true)
+    }
+}
+
+ghost use Rattle.std.specs.Prelude.{is_none, true, Ok, All};

@@ -1,0 +1,16 @@
+//! Certificates: ranks of nodes at prefixes, and their text.
+#![tactic(auto)]
+
+mod cert;
+mod fault;
+mod parts;
+mod read;
+mod row;
+#[cfg(test)]
+mod tests;
+mod write;
+
+pub use cert::{Cert, Rank};
+pub use fault::CertFault;
+pub use read::read_cert;
+pub use write::write_cert;

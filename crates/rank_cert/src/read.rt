@@ -1,0 +1,73 @@
+//! Certificates from text.
+ghost use Rattle.std.specs.Prelude.{◌≡◌, [], codes};
+ghost use Rattle.rank_cert.specs.Reading.{is_line, lines, new_row, line_behind, rows_in, cert_in, Gives};
+
+use crate::cert::{Cert, Rank};
+use crate::fault::CertFault;
+use crate::parts::first_line;
+use crate::row::row_of;
+use std::alloc::Global;
+
+fn is_header(line: &[u8]) -> bool
+    ensures { result ≡ is_line line.now (codes "RANKS 1") }
+{
+    line == b"RANKS 1".as_slice()
+}
+
+fn is_end(line: &[u8]) -> bool
+    ensures { result ≡ is_line line.now (codes "END") }
+{
+    line == b"END".as_slice()
+}
+
+/// The certificate that a text has.
+pub fn read_cert(alloc: Global, text: &[u8]) -> Result<Cert, CertFault>
+    ensures { Gives result (cert_in text.now) }
+{
+    match first_line(text) {
+        Some((line, behind)) if is_header(line) => read_rows(alloc, behind),
+        _ => Err(CertFault::Header),
+    }
+}
+
+/// The rows of the lines behind the header.
+fn read_rows(alloc: Global, text: &[u8]) -> Result<Cert, CertFault>
+    ensures { Gives result (rows_in [] (lines text.now)) }
+{
+    let mut cert = Cert::new(alloc);
+    let mut rest = text;
+    while let Some((line, behind)) = first_line(rest) {
+        if is_end(line) {
+            return ended(cert, behind);
+        }
+        read_row(&mut cert, line)?;
+        rest = behind;
+    }
+    Err(CertFault::NoEnd)
+}
+
+/// The certificate, where nothing stands behind its end.
+fn ended(cert: Cert, behind: &[u8]) -> Result<Cert, CertFault>
+    ensures { result ≡ ended cert (lines behind.now) }
+{
+    if behind.is_empty() {
+        Ok(cert)
+    } else {
+        Err(CertFault::AfterEnd)
+    }
+}
+
+ghost use Rattle.rank_cert.specs.Reading.{ended, Adds};
+
+/// Adds the row of the next line.
+fn read_row(cert: &mut Cert, line: &[u8]) -> Result<(), CertFault>
+    ensures { Adds cert.old cert.new line.now result }
+{
+    let number = cert.rows().len() + 2;
+    let row = row_of(line).ok_or(CertFault::Line(number))?;
+    if cert.add_row(row)? {
+        Ok(())
+    } else {
+        Err(CertFault::Twice(number))
+    }
+}

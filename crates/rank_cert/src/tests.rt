@@ -1,0 +1,99 @@
+use crate::{Cert, CertFault, read_cert, write_cert};
+use card_digits::{Name, Prefix};
+use std::alloc::{AllocError, Global};
+use std::test::Fail;
+
+/// The fault of a text, or what is written of its rows.
+fn again(alloc: Global, text: &[u8]) -> Result<Vec<u8>, CertFault> {
+    let cert = read_cert(alloc, text)?;
+    Ok(write_cert(alloc, &cert)?)
+}
+
+fn fault(alloc: Global, text: &[u8]) -> Option<CertFault> {
+    read_cert(alloc, text).err()
+}
+
+#[test]
+fn writes_what_it_reads(rt: HostRuntime) -> Result<(), Fail> {
+    let cases: [(&[u8], &[u8]); 4] = [
+        (
+            b"RANKS 1\nA 4 1\nH 4 0\nEND\n",
+            b"RANKS 1\nA 4 1\nH 4 0\nEND\n",
+        ),
+        (b"RANKS 1\nEND", b"RANKS 1\nEND\n"),
+        (
+            b"RANKS 1\nNode0001 000000000012 00007\nEND\n",
+            b"RANKS 1\nNode0001 000000000012 7\nEND\n",
+        ),
+        (
+            b"RANKS 1\na 4 65535\nA 4 0\nA 41 10\nEND",
+            b"RANKS 1\na 4 65535\nA 4 0\nA 41 10\nEND\n",
+        ),
+    ];
+    for (text, want) in cases {
+        let written = again(rt.alloc(), text).ok().ok_or("read")?;
+        assert!(rt; written.as_slice() == want);
+    }
+    Ok(())
+}
+
+#[test]
+fn reports_the_first_fault(rt: HostRuntime) {
+    let cases: [(&[u8], CertFault); 22] = [
+        (b"RANKS 2\nA 4 1\nH 4 0\nEND\n", CertFault::Header),
+        (b"", CertFault::Header),
+        (b"\nRANKS 1\nEND\n", CertFault::Header),
+        (b"RANKS 1 \nEND\n", CertFault::Header),
+        (b"RANKS 1\nA 4 65536\nH 4 0\nEND\n", CertFault::Line(2)),
+        (b"RANKS 1\nA 4 000001\nEND\n", CertFault::Line(2)),
+        (b"RANKS 1\nA 4 1\nA  5 1\nEND\n", CertFault::Line(3)),
+        (b"RANKS 1\nA 4\nEND\n", CertFault::Line(2)),
+        (b"RANKS 1\nA 4 \nEND\n", CertFault::Line(2)),
+        (b"RANKS 1\nA 4 1 \nEND\n", CertFault::Line(2)),
+        (b"RANKS 1\nA-B 4 1\nEND\n", CertFault::Line(2)),
+        (b"RANKS 1\nNode00001 4 1\nEND\n", CertFault::Line(2)),
+        (b"RANKS 1\nA 1234567890123 1\nEND\n", CertFault::Line(2)),
+        (b"RANKS 1\n\nEND\n", CertFault::Line(2)),
+        (b"RANKS 1\nA 4 1\nA 4 1\nEND\n", CertFault::Twice(3)),
+        (b"RANKS 1\nA 4 1\nH 4 0\nA 4 2\nx", CertFault::Twice(4)),
+        (b"RANKS 1\nA 4 1\nx\nA 4 1\n", CertFault::Line(3)),
+        (b"RANKS 1\nA 4 1\nH 4 0\n", CertFault::NoEnd),
+        (b"RANKS 1", CertFault::NoEnd),
+        (b"RANKS 1\n", CertFault::NoEnd),
+        (b"RANKS 1\nA 4 1\nH 4 0\nEND\nA 5 1\n", CertFault::AfterEnd),
+        (b"RANKS 1\nEND\n\n", CertFault::AfterEnd),
+    ];
+    for (i, (text, want)) in cases.into_iter().enumerate() {
+        assert_eq!(rt; fault(rt.alloc(), text), Some(want), "text {i}");
+    }
+}
+
+fn base(alloc: Global, a: Prefix, b: Prefix) -> Result<(Cert, [bool; 5]), AllocError> {
+    let mut cert = Cert::new(alloc);
+    let added = [
+        cert.add(b"A", a, 1)?,
+        cert.add(b"A", b, 2)?,
+        cert.add(b"A", a, 3)?,
+        cert.add(b"", a, 4)?,
+        cert.add(b"H", a, 0)?,
+    ];
+    Ok((cert, added))
+}
+
+#[test]
+fn keeps_one_rank_for_a_pair(rt: HostRuntime) -> Result<(), Fail> {
+    let a = Prefix::read(b"4").ok().ok_or("prefix")?;
+    let b = Prefix::read(b"41").ok().ok_or("prefix")?;
+    let (cert, added) = base(rt.alloc(), a, b)?;
+    assert_eq!(rt; added, [true, true, false, false, true]);
+    let node = Name::read(b"A").ok_or("name")?;
+    let home = Name::read(b"H").ok_or("name")?;
+    assert_eq!(rt; cert.rank(&node, &a), Some(1));
+    assert_eq!(rt; cert.rank(&node, &b), Some(2));
+    assert_eq!(rt; cert.rank(&home, &a), Some(0));
+    assert_eq!(rt; cert.rank(&home, &b), None);
+    assert_eq!(rt; cert.rows().len(), 3);
+    let text = write_cert(rt.alloc(), &cert)?;
+    assert!(rt; text.as_slice() == b"RANKS 1\nA 4 1\nA 41 2\nH 4 0\nEND\n".as_slice());
+    Ok(())
+}
