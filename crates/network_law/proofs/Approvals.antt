@@ -8,7 +8,7 @@ use Rattle.network_law.specs.Decision.{decide, sent_kind}
 use Rattle.network_law.specs.Refusals.{refusal}
 use Rattle.network_law.specs.Entries.{ReadEntry, read_history}
 use Rattle.network_law.proofs.ReadRuns.{IsFormed, IsLegalRead, IsReadRun}
-use Rattle.network_law.specs.Checked.{Ranks, IsRanked, IsSound}
+use Rattle.network_law.specs.Checked.{Ranks, IsRanked, IsChecked}
 use Rattle.network_law.specs.Claims.{LeadsToApproval, ApprovalsLead}
 use Rattle.network_law.proofs.Emits.{Allowed, forwarding, asking, standing_in, passing, declining, repeating, refusing, acking, sending, posting, OpenedFirst, Failed, ViaLink, ViaHost, decide_keeps, key_eq_is, bytes_eq_is, stays_open}
 use Rattle.network_law.proofs.Node.{NodeFacts, OpensNow, opening_in_cases, legal_facts, facts_out, keeps_issuers, answer_no_request, answer_is, response_is_of_kind, forwarded_has}
@@ -244,7 +244,7 @@ put_00 (Out j o ∷ h) i l s m k has e = ⊎_elim (λ here. or_right (has_00 h k
 
 -- by induction on the rank
 
-approval_by_rank : (t : Network) (ranks : Ranks) (traces : ℕ → List ReadEntry) → IsReadRun t traces → IsRanked t ranks → IsSound t → (k : Key) (n0 : ℕ) (op0 : Opening) → opening t (read_history (traces n0)) k ≡ Some op0 → (fuel n : ℕ) → rank ranks (card_of op0.message) n < fuel → has_00 (read_history (traces n)) k ≡ true → (ns : List ℕ) × LeadsToApproval t (histories traces) k n ns
+approval_by_rank : (t : Network) (ranks : Ranks) (traces : ℕ → List ReadEntry) → IsReadRun t traces → IsRanked t ranks → IsChecked t → (k : Key) (n0 : ℕ) (op0 : Opening) → opening t (read_history (traces n0)) k ≡ Some op0 → (fuel n : ℕ) → rank ranks (card_of op0.message) n < fuel → has_00 (read_history (traces n)) k ≡ true → (ns : List ℕ) × LeadsToApproval t (histories traces) k n ns
 approval_by_rank t ranks traces run ranked sound k n0 op0 e0 zero n low has = absurd (omega (arith, low))
 approval_by_rank t ranks traces run ranked sound k n0 op0 e0 (suc fuel) n low has = ⊎_elim (λ c. came c (approval_by_rank t ranks traces run ranked sound k n0 op0 e0 fuel (other_end t n c.link))) (λ w. ([], w)) (legal_origins t n (traces n) (legal_at run n) k has)
   where
@@ -256,7 +256,7 @@ approval_by_rank t ranks traces run ranked sound k n0 op0 e0 (suc fuel) n low ha
         let b = forwarded_has (read_history (traces n)) k c.link c.forwarded_on in
         (other_end t n c.link ∷ rest.0, ((c.link, b.1, b.2, record { input = b.0; put = b.3; request = b.4; key = b.5 }, refl), rest.1))
 
-pub ApprovalsLead_holds : (t : Network) (ranks : Ranks) (traces : ℕ → List ReadEntry) → IsReadRun t traces → IsRanked t ranks → IsSound t → ApprovalsLead t (histories traces)
+pub ApprovalsLead_holds : (t : Network) (ranks : Ranks) (traces : ℕ → List ReadEntry) → IsReadRun t traces → IsRanked t ranks → IsChecked t → ApprovalsLead t (histories traces)
 ApprovalsLead_holds t ranks traces run ranked sound k n a e code =
     ⊎_elim forwarded_there (λ w. ([], w)) (legal_origins t n (traces n) (legal_at run n) k has)
   where

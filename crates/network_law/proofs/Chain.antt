@@ -10,7 +10,7 @@ use Rattle.network_law.specs.Tables.{is_home, is_attached, is_link_of}
 use Rattle.network_law.specs.Traces.{ByLink, ReadInput, Take, ReadOutput, Put, Ask, In, Out, History, Opening, opening, forwarded, forwards, Has}
 use Rattle.network_law.specs.Entries.{ReadEntry, read_history}
 use Rattle.network_law.proofs.ReadRuns.{IsLegalRead, NamesOwnLink, IsReadRun}
-use Rattle.network_law.specs.Checked.{Ranks, Falls, IsRanked, IsSound}
+use Rattle.network_law.specs.Checked.{Ranks, Falls, IsRanked, IsChecked}
 use Rattle.network_law.specs.Claims.{IsForward, IsAsk, OnePath, OpenedByThatPut}
 use Rattle.network_law.proofs.Ends.{legal_at, is_node, not_home, back, histories}
 use Rattle.network_law.proofs.Emits.{decide_keeps, key_eq_refl}
@@ -142,7 +142,7 @@ pub record Came (t : Network) (traces : ℕ → List ReadEntry) (k : Key) (n : �
   pub back_to : other_end t (other_end t n link) link ≡ n
   pub sent : Sent t (other_end t n link) (read_history (traces (other_end t n link))) link op.message
 
-module _ (t : Network) (ranks : Ranks) (traces : ℕ → List ReadEntry) (run : IsReadRun t traces) (ranked : IsRanked t ranks) (sound : IsSound t) (k : Key) where
+module _ (t : Network) (ranks : Ranks) (traces : ℕ → List ReadEntry) (run : IsReadRun t traces) (ranked : IsRanked t ranks) (sound : IsChecked t) (k : Key) where
   facts : (n : ℕ) → NodeFacts t n (read_history (traces n))
   facts n = legal_facts t n (traces n) (legal_at run n)
 
@@ -357,11 +357,11 @@ module _ (t : Network) (ranks : Ranks) (traces : ℕ → List ReadEntry) (run : 
 
 -- the laws
 
-pub OnePath_holds : (t : Network) (ranks : Ranks) (traces : ℕ → List ReadEntry) → IsReadRun t traces → IsRanked t ranks → IsSound t → OnePath t (histories traces)
+pub OnePath_holds : (t : Network) (ranks : Ranks) (traces : ℕ → List ReadEntry) → IsReadRun t traces → IsRanked t ranks → IsChecked t → OnePath t (histories traces)
 OnePath_holds t ranks traces run ranked sound = record {
   forwards = λ k. one_forward t ranks traces run ranked sound k;
   asks = λ k. one_ask_in_all t ranks traces run ranked sound k;
 }
 
-pub OpenedByThatPut_holds : (t : Network) (ranks : Ranks) (traces : ℕ → List ReadEntry) → IsReadRun t traces → IsRanked t ranks → IsSound t → OpenedByThatPut t (histories traces)
+pub OpenedByThatPut_holds : (t : Network) (ranks : Ranks) (traces : ℕ → List ReadEntry) → IsReadRun t traces → IsRanked t ranks → IsChecked t → OpenedByThatPut t (histories traces)
 OpenedByThatPut_holds t ranks traces run ranked sound k n l s x op f e = opened_by_put t ranks traces run ranked sound k n l s x op f e

@@ -11,7 +11,7 @@ use Rattle.network_law.specs.Refusals.{refusal}
 use Rattle.network_law.specs.Entries.{ReadEntry, read_history}
 use Rattle.network_law.proofs.ReadRuns.{IsFormed, IsLegalRead, IsReadRun}
 use Rattle.network_law.specs.Claims.{is_response, IsForward}
-use Rattle.network_law.specs.Checked.{Ranks, IsRanked, IsSound}
+use Rattle.network_law.specs.Checked.{Ranks, IsRanked, IsChecked}
 use Rattle.network_law.proofs.Emits.{Allowed, forwarding, asking, standing_in, passing, declining, repeating, refusing, acking, sending, posting, handled_as, decide_keeps, from_link, stays_open, bytes_eq_refl}
 use Rattle.network_law.proofs.Node.{NodeFacts, EntryFacts, legal_facts, facts_in, facts_out, keeps_issuers}
 use Rattle.network_law.proofs.Elements.{code_response}
@@ -167,7 +167,7 @@ pub content_eq_refl : (c : Content) → content_eq c c ≡ true
 content_eq_refl c = rw (bytes_eq_refl c.card, bytes_eq_refl c.processing, bytes_eq_refl c.amount, bytes_eq_refl c.currency) refl
 
 -- no request that was taken is answered 94
-pub no_request_refused : (t : Network) (ranks : Ranks) (traces : ℕ → List ReadEntry) → IsReadRun t traces → IsRanked t ranks → IsSound t → (n l s : ℕ) (m : Fields) (op : Opening) → Has (In (Take l s m)) (read_history (traces n)) → is_request m.kind ≡ true → opening t (read_history (traces n)) (key_of m) ≡ Some op → (same_source op.source (ByLink l) && content_eq (content op.message) (content m)) ≡ true
+pub no_request_refused : (t : Network) (ranks : Ranks) (traces : ℕ → List ReadEntry) → IsReadRun t traces → IsRanked t ranks → IsChecked t → (n l s : ℕ) (m : Fields) (op : Opening) → Has (In (Take l s m)) (read_history (traces n)) → is_request m.kind ≡ true → opening t (read_history (traces n)) (key_of m) ≡ Some op → (same_source op.source (ByLink l) && content_eq (content op.message) (content m)) ≡ true
 no_request_refused t ranks traces run ranked sound n l s m op has r e =
     let put = run.linked n l s m has in
     let back = Rattle.network_law.proofs.Ends.back t l n (Rattle.network_law.proofs.Chain.legal_own t n (traces n) (legal_at run n) l s m has) in

@@ -10,7 +10,7 @@ use Rattle.network_law.specs.Tables.{node_id, is_attached}
 use Rattle.network_law.specs.Traces.{ReadInput, Put, In, Out, History, Opening, opening, Advice, advices, stored, is_at_home, home_is, is_advice_group, IsIn, Has}
 use Rattle.network_law.specs.Entries.{ReadEntry, read_history}
 use Rattle.network_law.proofs.ReadRuns.{IsReadRun}
-use Rattle.network_law.specs.Checked.{Ranks, IsRanked, IsSound}
+use Rattle.network_law.specs.Checked.{Ranks, IsRanked, IsChecked}
 use Rattle.network_law.specs.Claims.{IsStored, IsPosted, post_count, AdvicesKept}
 use Rattle.network_law.proofs.Node.{Opened, legal_facts}
 use Rattle.network_law.proofs.Chain.{rank, highest, RankFalls, falls, legal_own}
@@ -75,7 +75,7 @@ began_alike t traces x y a b = record {
   how = ⊎_elim (λ p. inl (p.0, ap AdviceId.forwarder (sym a.id) ∙ p.1)) (λ p. inr (ap AdviceId.forwarder (sym a.id) ∙ p.0, ap (λ z. is_attached t (Began.node b) (Key.acquirer (AdviceId.key z))) (sym a.id) ∙ p.1)) (Began.how b);
 }
 
-module _ (t : Network) (ranks : Ranks) (traces : ℕ → List ReadEntry) (run : IsReadRun t traces) (ranked : IsRanked t ranks) (sound : IsSound t) where
+module _ (t : Network) (ranks : Ranks) (traces : ℕ → List ReadEntry) (run : IsReadRun t traces) (ranked : IsRanked t ranks) (sound : IsChecked t) where
   at : ℕ → History
   at n = read_history (traces n)
 
@@ -251,7 +251,7 @@ module _ (t : Network) (ranks : Ranks) (traces : ℕ → List ReadEntry) (run : 
       let s : h.0 ≡ h'.0 = same_Some h.0 h'.0 (sym h.1 ∙ (ap (issuer t) card ∙ h'.1)) in
       sym h.2 ∙ (ap Issuer.home s ∙ h'.2)
 
-pub AdvicesKept_holds : (t : Network) (ranks : Ranks) (traces : ℕ → List ReadEntry) → IsReadRun t traces → IsRanked t ranks → IsSound t → AdvicesKept t (histories traces)
+pub AdvicesKept_holds : (t : Network) (ranks : Ranks) (traces : ℕ → List ReadEntry) → IsReadRun t traces → IsRanked t ranks → IsChecked t → AdvicesKept t (histories traces)
 unfolding Somewhere
 AdvicesKept_holds t ranks traces run ranked sound = record {
   somewhere = λ n a m. somewhere t ranks traces run ranked sound (suc (rank ranks (card_of a.message) n)) n a m (omega arith);

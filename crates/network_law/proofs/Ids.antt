@@ -5,10 +5,10 @@ use Rattle.std.proofs.lemmas.List.{drop_at, length-replicate}
 use Rattle.std.specs.List.{list_all}
 use Rattle.std.specs.Char.{is_ascii_digit}
 use Rattle.card_digits.specs.Numbers.{pad11}
-use Rattle.card_digits.specs.Reading.{id_of}
+use Rattle.card_digits.specs.Digits.{IsId}
 use Rattle.net_rows.specs.Network.{Network}
 use Rattle.network_law.specs.Tables.{node_id}
-use Rattle.network_law.specs.Checked.{IsSound}
+use Rattle.network_law.specs.Checked.{IsChecked}
 
 -- digits that fit eleven, and not all of them zeros
 pub record IsIdText (bs : List ℕ) : Type 0 where
@@ -16,18 +16,8 @@ pub record IsIdText (bs : List ℕ) : Type 0 where
   pub digits : list_all is_ascii_digit bs ≡ true
   pub not_zeros : list_all (λ b. eqb b 48) bs ≡ false
 
-pub id_text : (bs : List ℕ) → id_of bs ≡ Some bs → IsIdText bs
-id_text bs e = go ((nat_lt 11 (length bs) || not (list_all is_ascii_digit bs)) || list_all (λ b. eqb b 48) bs) refl
-  where
-    go : (b : Bool) → ((nat_lt 11 (length bs) || not (list_all is_ascii_digit bs)) || list_all (λ b. eqb b 48) bs) ≡ b → IsIdText bs
-    go true at = absurd (no (rw at at e))
-      where
-        no : None ≡ Some bs → ⊥
-        no p = cc
-    go false at =
-        let p = or_parts (nat_lt 11 (length bs) || not (list_all is_ascii_digit bs)) (list_all (λ b. eqb b 48) bs) at in
-        let q = or_parts (nat_lt 11 (length bs)) (not (list_all is_ascii_digit bs)) p.0 in
-        record { fits = ltb-false 11 (length bs) q.0; digits = not-false _ q.1; not_zeros = p.1 }
+pub id_text : (t : Network) → IsChecked t → (n : ℕ) → n < length t.nodes → IsIdText (node_id t n)
+id_text t sound n less = record { fits = IsId.few (sound.ids n less); digits = sound.id_digits n less; not_zeros = IsId.not_zeros (sound.ids n less) }
 
 all_zeros : (n : ℕ) → list_all (λ b. eqb b 48) (replicate n 48) ≡ true
 all_zeros zero = refl
@@ -44,8 +34,8 @@ padded_zeros bs e =
     let all : bs ≡ replicate (11 - (11 - length bs)) 48 = sym k ∙ (ap (drop (11 - length bs)) e ∙ drop_same 48 (11 - length bs) 11) in
     ap (list_all (λ b. eqb b 48)) all ∙ all_zeros (11 - (11 - length bs))
 
-pub no_zero_id : (t : Network) → IsSound t → (n : ℕ) → n < length t.nodes → pad11 (node_id t n) ≡ replicate 11 48 → ⊥
-no_zero_id t sound n less e = no (sym (padded_zeros (node_id t n) e) ∙ IsIdText.not_zeros (id_text (node_id t n) (sound.ids n less)))
+pub no_zero_id : (t : Network) → IsChecked t → (n : ℕ) → n < length t.nodes → pad11 (node_id t n) ≡ replicate 11 48 → ⊥
+no_zero_id t sound n less e = no (sym (padded_zeros (node_id t n) e) ∙ IsIdText.not_zeros (id_text t sound n less))
   where
     no : true ≡ false → ⊥
     no p = cc

@@ -12,7 +12,7 @@ use Rattle.network_law.specs.Refusals.{refusal}
 use Rattle.network_law.specs.Entries.{ReadEntry, read_history}
 use Rattle.network_law.proofs.ReadRuns.{IsLegalRead, HasLengths, IsFormed}
 use Rattle.network_law.proofs.Emits.{Allowed, forwarding, asking, standing_in, passing, declining, repeating, refusing, acking, sending, posting, Forwarding, Asking, handled_as, Issued, KeepsIssuers, decide_keeps, stays_open, opening_now, opens_now, key_eq_is}
-use Rattle.network_law.specs.Cards.{Bytes, card_of}
+use Rattle.network_law.specs.Cards.{text_of, Bytes, card_of}
 use Rattle.iso_message.proofs.Changes.{get_set, get_remove}
 use Rattle.iso_message.specs.Fields.{Fields, el, set_element, remove_element, as_kind}
 use Rattle.iso_message.specs.declared.kind.Kind.{Kind}
@@ -279,14 +279,14 @@ pub el_remove : (m : Fields) (k n : ℕ) → eqb n k ≡ false → el (remove_el
 unfolding el
 el_remove m k n d = ap (λ o. unwrap_or o []) (get_remove m k n (other_number n k d))
 
-pub el_dated : (date : Bytes) (m : Fields) (n : ℕ) → eqb n 15 ≡ false → el (dated date m) n ≡ el m n
+pub el_dated : (date : List ℕ) (m : Fields) (n : ℕ) → eqb n 15 ≡ false → el (dated date m) n ≡ el m n
 el_dated date m n d = go (is_request m.kind) refl
   where
     go : (b : Bool) → is_request m.kind ≡ b → el (dated date m) n ≡ el m n
-    go true at = rw at (el_set m 15 n date d)
+    go true at = rw at (el_set m 15 n (text_of date) d)
     go false at = rw at refl
 
-pub dated_kind : (date : Bytes) (m : Fields) → is_request (dated date m).kind ≡ is_request m.kind
+pub dated_kind : (date : List ℕ) (m : Fields) → is_request (dated date m).kind ≡ is_request m.kind
 unfolding set_element
 dated_kind date m = go (is_request m.kind) refl
   where

@@ -236,7 +236,7 @@ entered_source t n past m x src ok e g = go (is_request m.kind) refl
           gate = entered_reversal t n past m x src ok e r;
         }
       where
-        not_dated : (date : Bytes) → dated date (remove_element m 33) ≡ remove_element m 33
+        not_dated : (date : List ℕ) → dated date (remove_element m 33) ≡ remove_element m 33
         not_dated date = rw at refl
 
 kept_entered : (t : Network) (n : ℕ) (m : Fields) → Entered t n m → Entered t n (as_kept m)

@@ -4,14 +4,16 @@ use Rattle.std.proofs.lemmas.Bool.{and_parts, or_cases, eqb-true}
 use Rattle.card_digits.specs.Numbers.{pad11}
 use Rattle.card_digits.specs.Longest.{begins}
 use Rattle.net_rows.specs.Network.{other_end}
-use Rattle.card_digits.specs.Reading.{id_of}
+use Rattle.card_digits.specs.Digits.{IsId}
+use Rattle.std.specs.Char.{is_ascii_digit}
+use Rattle.std.specs.List.{list_all}
 use Rattle.network_law.specs.Tables.{route_links, is_attached, node_id}
 use Rattle.network_law.specs.Traces.{ReadInput, Enter, Take, Tick, Put, Answer, Post, Event, In, Out, advices, stored, IsIn, Has}
 use Rattle.network_law.specs.Decision.{decide}
 use Rattle.network_law.specs.Refusals.{refusal}
 use Rattle.network_law.specs.Entries.{ReadEntry, read_history}
 use Rattle.network_law.proofs.ReadRuns.{IsLegalRead, IsReadRun}
-use Rattle.network_law.specs.Checked.{Ranks, Falls, IsRanked, IsSound}
+use Rattle.network_law.specs.Checked.{Ranks, Falls, IsRanked, IsChecked}
 use Rattle.network_law.specs.Claims.{AdvicesKept}
 use Rattle.network_law.proofs.Emits.{bytes_eq_refl}
 use Rattle.network_law.proofs.Rows.{M, M15, R, base, card, zeros6, amount1, time1, trace1, date1, acq, cur, id_a, id_h, four, e90, reversal}
@@ -56,8 +58,8 @@ gates a n m e e' = at_gate n a e ∙ sym (at_gate m a e')
 other_ids : (x y : Bytes) → bytes_eq x y ≡ false → x ≡ y → ⊥
 other_ids x y d e = not_both (bytes_eq x y) (subst (λ z. bytes_eq x z ≡ true) e (bytes_eq_refl x)) d
 
-sound : IsSound base
-sound = record { date = (refl, refl); ids = ids; single_gates = gates; single_ids = single }
+sound : IsChecked base
+sound = record { date = record { not_short = omega arith; not_long = omega arith; digits = (omega arith, (omega arith, (omega arith, (omega arith, tt)))) }; ids = ids; id_digits = digits; single_gates = gates; single_ids = single }
   where
     single : (n m : ℕ) → n < 2 → m < 2 → pad11 (node_id base n) ≡ pad11 (node_id base m) → n ≡ m
     single zero zero p q e = refl
@@ -68,10 +70,15 @@ sound = record { date = (refl, refl); ids = ids; single_gates = gates; single_id
     single zero (suc (suc m)) p q e = absurd (omega (arith, q))
     single (suc zero) (suc (suc m)) p q e = absurd (omega (arith, q))
 
-    ids : (n : ℕ) → n < 2 → id_of (node_id base n) ≡ Some (node_id base n)
-    ids zero p = refl
-    ids (suc zero) p = refl
+    ids : (n : ℕ) → n < 2 → IsId (node_id base n)
+    ids zero p = record { few = omega arith; not_zeros = refl }
+    ids (suc zero) p = record { few = omega arith; not_zeros = refl }
     ids (suc (suc n)) p = absurd (omega (arith, p))
+
+    digits : (n : ℕ) → n < 2 → list_all is_ascii_digit (node_id base n) ≡ true
+    digits zero p = refl
+    digits (suc zero) p = refl
+    digits (suc (suc n)) p = absurd (omega (arith, p))
 
 -- a run: A forwards, the key fails at A at the third tick, H posts the reversal, and A takes the acknowledgement
 

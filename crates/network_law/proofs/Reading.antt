@@ -9,7 +9,7 @@ use Rattle.iso_message.specs.declared.kind.Kind.TheVariants.{K0100, K0101, K0110
 use Rattle.iso_message.specs.Groups.{group, is_request}
 use Rattle.iso_message.specs.Messages.{read}
 use Rattle.iso_message.specs.Spelling.{spelling, IsMessage}
-use Rattle.iso_message.proofs.Laws.{read_takes, read_again}
+use Rattle.iso_message.proofs.ReadingLaws.{read_takes, read_again}
 use Rattle.iso_message.proofs.Canonical.{spells}
 use Rattle.iso_message.proofs.Good.{is_message}
 use Rattle.net_rows.specs.Network.{Network, other_end}
@@ -21,7 +21,7 @@ use Rattle.network_law.specs.Traces as messages
 use Rattle.network_law.specs.Decision.{decide}
 use Rattle.network_law.specs.Refusals.{refusal, required_entered, required_taken}
 use Rattle.network_law.specs.Entries.{Input, Enter, Take, LinkUp, LinkDown, Tick, HostAnswer, NewDate, Output, Put, Entry, ReadEntry, read_as, read_input, read_output, read_outputs, with_read, read_trace, put_out, read_history, history, spelled, newest_onto, newest_outputs}
-use Rattle.network_law.specs.Checked.{IsSound}
+use Rattle.network_law.specs.Checked.{IsChecked}
 use Rattle.network_law.specs.Runs.{NamesOwnLink, IsTyped, fault_of, step_refusal, outputs_of, step_outputs, IsStep, IsLegal, IsRun}
 use Rattle.network_law.proofs.Ids.{IsIdText, id_text}
 use Rattle.network_law.proofs.Whole.{lengths}
@@ -189,13 +189,13 @@ record Legible (t : Network) (n : ℕ) (es : List Entry) : Type 0 where
   legal : IsLegalRead t n (read_trace es)
   written : AreWritten (history es)
 
-legible : (t : Network) (n : ℕ) → IsSound t → n < length t.nodes → (es : List Entry) → IsLegal t n es → Legible t n es
+legible : (t : Network) (n : ℕ) → IsChecked t → n < length t.nodes → (es : List Entry) → IsLegal t n es → Legible t n es
 unfolding history read_history read_trace
 legible t n sound less [] l = record { legal = omega arith; written = tt }
 legible t n sound less (e ∷ es) l = more (has_reading t n es e l.1) (legible t n sound less es l.0)
   where
     id : IsIdText (node_id t n)
-    id = id_text (node_id t n) (sound.ids n less)
+    id = id_text t sound n less
 
     more : HasReading t n es e → Legible t n es → Legible t n (e ∷ es)
     more r before =
@@ -317,7 +317,7 @@ put_from t n (x ∷ es) f l s bytes m legal has puts e = go (has_reading t n es 
 abbrev pub in_messages : (ℕ → List Entry) → ℕ → List ReadEntry
 in_messages traces n = read_trace (traces n)
 
-pub read_run : (t : Network) (traces : ℕ → List Entry) → IsSound t → IsRun t traces → IsReadRun t (in_messages traces)
+pub read_run : (t : Network) (traces : ℕ → List Entry) → IsChecked t → IsRun t traces → IsReadRun t (in_messages traces)
 unfolding read_trace
 read_run t traces sound run = record {
   legal = λ n less. Legible.legal (legible t n sound less (traces n) (run.legal n less));
@@ -341,7 +341,7 @@ pub record EntryRead (t : Network) (n : ℕ) (e : Entry) (es : List Entry) (i : 
   pub is : read_trace (e ∷ es) ≡ record { input = i; outputs = outputs } ∷ read_trace es
   pub legal : IsLegalRead t n (record { input = i; outputs = outputs } ∷ read_trace es)
 
-pub entry_read : (t : Network) (n : ℕ) (e : Entry) (es : List Entry) (i : ReadInput) → IsSound t → n < length t.nodes → IsLegal t n (e ∷ es) → read_input e.input ≡ Ok i → EntryRead t n e es i
+pub entry_read : (t : Network) (n : ℕ) (e : Entry) (es : List Entry) (i : ReadInput) → IsChecked t → n < length t.nodes → IsLegal t n (e ∷ es) → read_input e.input ≡ Ok i → EntryRead t n e es i
 entry_read t n e es i sound less legal at =
     let here = read_trace_more e es i at in
     record { outputs = read_outputs e.outputs; is = here; legal = subst (IsLegalRead t n) here (Legible.legal (legible t n sound less (e ∷ es) legal)) }

@@ -13,7 +13,7 @@ use Rattle.network_law.proofs.Refused.{EnteredFacts, entered_facts, IsWhole}
 use Rattle.network_law.specs.Refusals.{refusal, strange_original}
 use Rattle.network_law.specs.Entries.{ReadEntry, read_history}
 use Rattle.network_law.proofs.ReadRuns.{IsFormed, IsLegalRead, IsReadRun}
-use Rattle.network_law.specs.Checked.{Ranks, IsRanked, IsSound}
+use Rattle.network_law.specs.Checked.{Ranks, IsRanked, IsChecked}
 use Rattle.network_law.specs.Claims.{NoRepeatReply}
 use Rattle.network_law.proofs.Emits.{Allowed, forwarding, asking, standing_in, passing, declining, repeating, refusing, acking, sending, posting, Forwarding, Sending, Acking, StandingIn, OpenedFirst, Failed, Reversing, ViaLink, ViaHost, Kept, due, reversing, standing, accepting, handled_as, Issued, decide_keeps, key_eq_refl, key_eq_is, bytes_eq_refl, bytes_eq_is, stays_open, ask_key_asked, is_kept_group, is_link_is, found_is_in, via_ticks, IsGood, from_link, handled_no_timer, Accepts}
 use Rattle.network_law.proofs.Node.{NodeFacts, EntryFacts, Opened, OpensNow, opening_in_cases, legal_facts, facts_in, facts_out, keeps_issuers, answer_no_request, response_is_of_kind, response_no_request, forwarded_has, asked_has, Sent, el_dated, el_remove, put_parts, put_case}
@@ -152,7 +152,7 @@ not_strange_is m r e =
     let c = and_parts (bytes_eq (part 0 4 (el m 90)) (48 ∷ 49 ∷ 48 ∷ 48 ∷ [])) (bytes_eq (part 20 11 (el m 90)) (own_key m).acquirer) (not-false _ b) in
     bytes_eq_is (part 20 11 (el m 90)) (own_key m).acquirer c.1
 
-dated_04xx : (date : Bytes) (m : Fields) → is_04xx (dated date m).kind ≡ is_04xx m.kind
+dated_04xx : (date : List ℕ) (m : Fields) → is_04xx (dated date m).kind ≡ is_04xx m.kind
 unfolding Rattle.iso_message.specs.Fields.set_element
 dated_04xx date m = go (is_request m.kind) refl
   where
@@ -895,7 +895,7 @@ pub record Traced (t : Network) (ranks : Ranks) (traces : ℕ → List ReadEntry
   pub made : ((op : Opening) × (opening t (read_history (traces node)) (key_of x) ≡ Some op) × (content op.message ≡ content x))
       ⊎ ((is_attached t node (key_of x).acquirer ≡ true) × ((op : Opening) (l : ℕ) → opening t (read_history (traces node)) (key_of x) ≡ Some op → forwarded (read_history (traces node)) (key_of x) ≡ Some l → content op.message ≡ content x))
 
-module _ (t : Network) (ranks : Ranks) (traces : ℕ → List ReadEntry) (run : IsReadRun t traces) (ranked : IsRanked t ranks) (sound : IsSound t) where
+module _ (t : Network) (ranks : Ranks) (traces : ℕ → List ReadEntry) (run : IsReadRun t traces) (ranked : IsRanked t ranks) (sound : IsChecked t) where
   sent_at : (a l s : ℕ) (i : ReadInput) (x : Fields) → Has (Out i (Put l s x)) (read_history (traces a)) → is_reversal x.kind ≡ true → SentReversal t a (read_history (traces a)) l x
   sent_at a l s i x has r = legal_sent t a (traces a) (legal_at run a) i l s x has r
 
@@ -981,7 +981,7 @@ module _ (t : Network) (ranks : Ranks) (traces : ℕ → List ReadEntry) (run : 
                   let f = first_forward (key_of m) st.gate j n (ap (chain t traces (key_of m) st.gate) (sym is) ∙ st.at) in
                   st.same ∙ g.1 st.first f.0 (ap (λ z. opening t (read_history (traces z)) (key_of m)) (sym same) ∙ st.opened_at_gate) (ap (λ z. forwarded (read_history (traces z)) (key_of m)) (sym same) ∙ f.1)
 
-pub NoRepeatReply_holds : (t : Network) (ranks : Ranks) (traces : ℕ → List ReadEntry) → IsReadRun t traces → IsRanked t ranks → IsSound t → NoRepeatReply (histories traces)
+pub NoRepeatReply_holds : (t : Network) (ranks : Ranks) (traces : ℕ → List ReadEntry) → IsReadRun t traces → IsRanked t ranks → IsChecked t → NoRepeatReply (histories traces)
 NoRepeatReply_holds t ranks traces run ranked sound n l s i m has r code =
     let b = legal_codes t n (traces n) (legal_at run n) i l s m has r code in
     ⊎_elim (λ d. not_both (same_source b.op.source (ByLink l) && content_eq (content b.op.message) (content b.message)) (no_request_refused t ranks traces run ranked sound n l b.serial b.message b.op b.has d.0 b.opens) d.1)

@@ -60,7 +60,7 @@ R code = record { kind = K0110; elements = (2, card) ∷ (3, zeros6) ∷ (4, amo
 
 abbrev pub base : Network
 base = record {
-  settings = record { currency = cur; date = date1; host_ticks = 100; advice_ticks = 50 };
+  settings = record { currency = cur; date = 0 ∷ 3 ∷ 1 ∷ 4 ∷ []; host_ticks = 100; advice_ticks = 50 };
   nodes = record { name = []; id = id_a } ∷ record { name = []; id = id_h } ∷ [];
   links = record { name = []; from = 0; to = 1; ticks = 3 } ∷ [];
   acquirers = record { id = acq; node = 0 } ∷ [];
@@ -134,7 +134,7 @@ id_q = 49 ∷ 48 ∷ 48 ∷ 52 ∷ []
 
 abbrev diamond : Network
 diamond = record {
-  settings = record { currency = cur; date = date1; host_ticks = 100; advice_ticks = 50 };
+  settings = record { currency = cur; date = 0 ∷ 3 ∷ 1 ∷ 4 ∷ []; host_ticks = 100; advice_ticks = 50 };
   nodes = record { name = []; id = id_a } ∷ record { name = []; id = id_p } ∷ record { name = []; id = id_q } ∷ record { name = []; id = id_h } ∷ [];
   links = record { name = []; from = 0; to = 1; ticks = 3 } ∷ record { name = []; from = 0; to = 2; ticks = 3 } ∷ record { name = []; from = 1; to = 3; ticks = 3 } ∷ record { name = []; from = 2; to = 3; ticks = 3 } ∷ [];
   acquirers = record { id = acq; node = 0 } ∷ [];

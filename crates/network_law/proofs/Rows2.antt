@@ -63,7 +63,7 @@ reversal_of n amount = record { kind = K0400; elements = (2, card) ∷ (3, zeros
 
 abbrev base : Network
 base = record {
-  settings = record { currency = cur; date = date1; host_ticks = 100; advice_ticks = 50 };
+  settings = record { currency = cur; date = 0 ∷ 3 ∷ 1 ∷ 4 ∷ []; host_ticks = 100; advice_ticks = 50 };
   nodes = record { name = []; id = (49 ∷ 48 ∷ 48 ∷ 49 ∷ []) } ∷ record { name = []; id = (49 ∷ 48 ∷ 48 ∷ 50 ∷ []) } ∷ [];
   links = record { name = []; from = 0; to = 1; ticks = 3 } ∷ [];
   acquirers = record { id = acq; node = 0 } ∷ [];
@@ -74,7 +74,7 @@ base = record {
 
 abbrev limited : Network
 limited = record {
-  settings = record { currency = cur; date = date1; host_ticks = 100; advice_ticks = 50 };
+  settings = record { currency = cur; date = 0 ∷ 3 ∷ 1 ∷ 4 ∷ []; host_ticks = 100; advice_ticks = 50 };
   nodes = record { name = []; id = (49 ∷ 48 ∷ 48 ∷ 49 ∷ []) } ∷ record { name = []; id = (49 ∷ 48 ∷ 48 ∷ 50 ∷ []) } ∷ [];
   links = record { name = []; from = 0; to = 1; ticks = 3 } ∷ [];
   acquirers = record { id = acq; node = 0 } ∷ [];

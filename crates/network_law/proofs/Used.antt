@@ -19,7 +19,7 @@ use Rattle.network_law.proofs.Emits.{Allowed, forwarding, asking, standing_in, p
 use Rattle.network_law.proofs.Node.{NodeFacts, EntryFacts, Opened, legal_facts, facts_in, facts_out, facts_decide, keeps_issuers, answers_is, response_is_of_kind}
 use Rattle.network_law.proofs.Elements.{code_response, response_key}
 use Rattle.network_law.proofs.Ends.{legal_at, histories}
-use Rattle.network_law.specs.Cards.{Bytes, card_of}
+use Rattle.network_law.specs.Cards.{label_of, Bytes, card_of}
 use Rattle.iso_message.specs.Fields.{Fields, el, as_kind}
 use Rattle.iso_message.specs.declared.kind.Kind.{Kind}
 use Rattle.iso_message.specs.declared.kind.Kind.TheVariants.{K0100, K0110, K0120, K0121, K0130, K0400, K0401, K0410, K0420, K0421, K0430, K0101}
@@ -282,9 +282,9 @@ code_within day single currency u m amount e = first (eqb day 0) refl e
     first true at e = no (rw at at e)
     first false at e = second (not (bytes_eq (el m 49) currency)) refl at (rw at at e)
 
-stood_within : (t : Network) (n : ℕ) (h : History) (k : Key) (s : Stood t n h k) → WithinLimits (day t n (card_of s.op.message)) (used t n h (card_of s.op.message) (el s.op.message 15) + decimal (el s.op.message 4))
+stood_within : (t : Network) (n : ℕ) (h : History) (k : Key) (s : Stood t n h k) → WithinLimits (day t n (card_of s.op.message)) (used t n h (card_of s.op.message) (label_of s.op.message) + decimal (el s.op.message 4))
 unfolding standin_code
-stood_within t n h k s = code_within (day t n (card_of s.op.message)) (single t n (card_of s.op.message)) t.settings.currency (used t n h (card_of s.op.message) (el s.op.message 15)) s.op.message (decimal (el s.op.message 4)) s.code
+stood_within t n h k s = code_within (day t n (card_of s.op.message)) (single t n (card_of s.op.message)) t.settings.currency (used t n h (card_of s.op.message) (label_of s.op.message)) s.op.message (decimal (el s.op.message 4)) s.code
 
 -- amounts
 
@@ -298,8 +298,8 @@ picked true true false amount more = absurd (bad (more refl))
     bad : false ≡ true → ⊥
     bad p = cc
 
-counted_more : (t : Network) (n : ℕ) (e : Event) (h : History) (card : List ℕ) (date : Bytes) (a : Approval) → counted t n (e ∷ h) card date a ≤ counted t n h card date a
-counted_more t n e h card date a = picked (bytes_eq (card_of a.request) card && bytes_eq (el a.request 15) date) (reversed t n h a.key) (reversed t n (e ∷ h) a.key) (decimal (el a.request 4)) (reversed_more t n e h a.key)
+counted_more : (t : Network) (n : ℕ) (e : Event) (h : History) (card : List ℕ) (date : List ℕ) (a : Approval) → counted t n (e ∷ h) card date a ≤ counted t n h card date a
+counted_more t n e h card date a = picked (bytes_eq (card_of a.request) card && bytes_eq (label_of a.request) date) (reversed t n h a.key) (reversed t n (e ∷ h) a.key) (decimal (el a.request 4)) (reversed_more t n e h a.key)
 
 sum_less : {X : Type 0} (f g : X → ℕ) (xs : List X) → ((x : X) → f x ≤ g x) → added f xs ≤ added g xs
 sum_less f g [] le = omega arith
@@ -308,19 +308,19 @@ sum_less f g (x ∷ xs) le =
     let b = sum_less f g xs le in
     omega (arith, a, b)
 
-counted_at_most : (t : Network) (n : ℕ) (h : History) (card : List ℕ) (date : Bytes) (a : Approval) → counted t n h card date a ≤ decimal (el a.request 4)
-counted_at_most t n h card date a = cond_both (bytes_eq (card_of a.request) card && bytes_eq (el a.request 15) date && not (reversed t n h a.key)) (decimal (el a.request 4)) 0 (λ z. z ≤ decimal (el a.request 4)) (λ _. omega arith) (λ _. omega arith)
+counted_at_most : (t : Network) (n : ℕ) (h : History) (card : List ℕ) (date : List ℕ) (a : Approval) → counted t n h card date a ≤ decimal (el a.request 4)
+counted_at_most t n h card date a = cond_both (bytes_eq (card_of a.request) card && bytes_eq (label_of a.request) date && not (reversed t n h a.key)) (decimal (el a.request 4)) 0 (λ z. z ≤ decimal (el a.request 4)) (λ _. omega arith) (λ _. omega arith)
 
 -- what counts for a card and date is of them
-counted_of : (t : Network) (n : ℕ) (h : History) (card : List ℕ) (date : Bytes) (a : Approval) → (counted t n h card date a ≡ 0) ⊎ ((card_of a.request ≡ card) × (el a.request 15 ≡ date))
-counted_of t n h card date a = cond_both (bytes_eq (card_of a.request) card && bytes_eq (el a.request 15) date && not (reversed t n h a.key)) (decimal (el a.request 4)) 0 (λ z. (z ≡ 0) ⊎ ((card_of a.request ≡ card) × (el a.request 15 ≡ date)))
+counted_of : (t : Network) (n : ℕ) (h : History) (card : List ℕ) (date : List ℕ) (a : Approval) → (counted t n h card date a ≡ 0) ⊎ ((card_of a.request ≡ card) × (label_of a.request ≡ date))
+counted_of t n h card date a = cond_both (bytes_eq (card_of a.request) card && bytes_eq (label_of a.request) date && not (reversed t n h a.key)) (decimal (el a.request 4)) 0 (λ z. (z ≡ 0) ⊎ ((card_of a.request ≡ card) × (label_of a.request ≡ date)))
     (λ e. inr (parts e)) (λ _. inl refl)
   where
-    parts : (bytes_eq (card_of a.request) card && bytes_eq (el a.request 15) date && not (reversed t n h a.key)) ≡ true → (card_of a.request ≡ card) × (el a.request 15 ≡ date)
+    parts : (bytes_eq (card_of a.request) card && bytes_eq (label_of a.request) date && not (reversed t n h a.key)) ≡ true → (card_of a.request ≡ card) × (label_of a.request ≡ date)
     parts e =
-        let p = and_parts (bytes_eq (card_of a.request) card && bytes_eq (el a.request 15) date) (not (reversed t n h a.key)) e in
-        let q = and_parts (bytes_eq (card_of a.request) card) (bytes_eq (el a.request 15) date) p.0 in
-        (bytes_eq_is (card_of a.request) card q.0, bytes_eq_is (el a.request 15) date q.1)
+        let p = and_parts (bytes_eq (card_of a.request) card && bytes_eq (label_of a.request) date) (not (reversed t n h a.key)) e in
+        let q = and_parts (bytes_eq (card_of a.request) card) (bytes_eq (label_of a.request) date) p.0 in
+        (bytes_eq_is (card_of a.request) card q.0, bytes_eq_is (label_of a.request) date q.1)
 
 -- the limit of a card at a node, 0 without an issuer
 pub cap_of : Option Issuer → ℕ → ℕ
@@ -329,7 +329,7 @@ cap_of (Some s) day = day
 
 pub record UsedFacts (t : Network) (n : ℕ) (h : History) : Type 0 where
   pub named : (a : Approval) → IsIn a (approvals t h) → (s : Issuer) × (issuer t (card_of a.request) ≡ Some s) × (0 < (day t n (card_of a.request)))
-  pub within : (card : List ℕ) (date : Bytes) → used t n h card date ≤ cap_of (issuer t card) (day t n card)
+  pub within : (card : List ℕ) (date : List ℕ) → used t n h card date ≤ cap_of (issuer t card) (day t n card)
 
 used_in : (t : Network) (n : ℕ) (i : ReadInput) (h : History) → UsedFacts t n h → UsedFacts t n (In i ∷ h)
 unfolding used approvals
@@ -342,7 +342,7 @@ used_out : (t : Network) (n : ℕ) (i : ReadInput) (o : ReadOutput) (h : History
 unfolding used approvals cap_of
 used_out t n i o h stood f = go (own_approval h i o) refl
   where
-    step : (card : List ℕ) (date : Bytes) → added (counted t n (Out i o ∷ h) card date) (approvals t h) ≤ added (counted t n h card date) (approvals t h)
+    step : (card : List ℕ) (date : List ℕ) → added (counted t n (Out i o ∷ h) card date) (approvals t h) ≤ added (counted t n h card date) (approvals t h)
     step card date = sum_less (counted t n (Out i o ∷ h) card date) (counted t n h card date) (approvals t h) (counted_more t n (Out i o) h card date)
 
     named_more : (as' : List Approval) → approval_of t h (own_approval h i o) ≡ as' → ((a : Approval) → IsIn a as' → (s : Issuer) × (issuer t (card_of a.request) ≡ Some s) × (0 < (day t n (card_of a.request)))) → (a : Approval) → IsIn a (approval_of t h (own_approval h i o) ++ approvals t h) → (s : Issuer) × (issuer t (card_of a.request) ≡ Some s) × (0 < (day t n (card_of a.request)))
@@ -370,13 +370,13 @@ used_out t n i o h stood f = go (own_approval h i o) refl
           within = λ card date. rw one (sums k s card date);
         }
       where
-        sums : (k : Key) (s : Stood t n h k) (card : List ℕ) (date : Bytes) → counted t n (Out i o ∷ h) card date (record { key = k; request = s.op.message }) + added (counted t n (Out i o ∷ h) card date) (approvals t h) ≤ cap_of (issuer t card) (day t n card)
+        sums : (k : Key) (s : Stood t n h k) (card : List ℕ) (date : List ℕ) → counted t n (Out i o ∷ h) card date (record { key = k; request = s.op.message }) + added (counted t n (Out i o ∷ h) card date) (approvals t h) ≤ cap_of (issuer t card) (day t n card)
         sums k s card date = ⊎_elim none same (counted_of t n (Out i o ∷ h) card date (record { key = k; request = s.op.message }))
           where
             none : counted t n (Out i o ∷ h) card date (record { key = k; request = s.op.message }) ≡ 0 → counted t n (Out i o ∷ h) card date (record { key = k; request = s.op.message }) + added (counted t n (Out i o ∷ h) card date) (approvals t h) ≤ cap_of (issuer t card) (day t n card)
             none z = let a = f.within card date in let b = step card date in omega (arith, a, b, z)
 
-            same : (card_of s.op.message ≡ card) × (el s.op.message 15 ≡ date) → counted t n (Out i o ∷ h) card date (record { key = k; request = s.op.message }) + added (counted t n (Out i o ∷ h) card date) (approvals t h) ≤ cap_of (issuer t card) (day t n card)
+            same : (card_of s.op.message ≡ card) × (label_of s.op.message ≡ date) → counted t n (Out i o ∷ h) card date (record { key = k; request = s.op.message }) + added (counted t n (Out i o ∷ h) card date) (approvals t h) ≤ cap_of (issuer t card) (day t n card)
             same e =
                 let limit = stood_within t n h k s in
                 let a : used t n h card date + decimal (el s.op.message 4) ≤ (day t n card) = subst (λ c. used t n h c date + decimal (el s.op.message 4) ≤ (day t n c)) e.0 (subst (λ d. used t n h (card_of s.op.message) d + decimal (el s.op.message 4) ≤ (day t n (card_of s.op.message))) e.1 limit.all) in

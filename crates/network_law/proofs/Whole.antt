@@ -1,7 +1,7 @@
 -- What a node makes of messages can be written again.
-use Rattle.std.proofs.Common.{◌≡◌, ℕ, zero, suc, ◌-◌, ◌<◌, ◌≤◌, List, [], ◌∷◌, ◌++◌, length, map, replicate, Option, Some, None, Bool, true, false, not, refl, sym, subst, arith, eqb, unwrap_or, inl, inr}
-use Rattle.std.proofs.lemmas.Bool.{and_parts, and_from, cases_eq, eq-eqb, ne_eqb}
-use Rattle.std.proofs.lemmas.List.{length-append, length-replicate}
+use Rattle.std.proofs.Common.{leb, ◌≡◌, ℕ, zero, suc, ◌-◌, ◌<◌, ◌≤◌, List, [], ◌∷◌, ◌++◌, length, map, replicate, Option, Some, None, Bool, true, false, not, refl, sym, subst, arith, eqb, unwrap_or, inl, inr, ◌+◌}
+use Rattle.std.proofs.lemmas.Bool.{le-leb, and_parts, and_from, cases_eq, eq-eqb, ne_eqb}
+use Rattle.std.proofs.lemmas.List.{length-map, length-append, length-replicate}
 use Rattle.std.specs.Prelude.{codes}
 use Rattle.std.specs.List.{list_all}
 use Rattle.std.specs.Char.{is_ascii_digit}
@@ -18,7 +18,9 @@ use Rattle.iso_message.specs.Codes.{code_00, code_68}
 use Rattle.iso_message.specs.Groups.{response_kind}
 use Rattle.iso_message.specs.Made.{kept, is_one_of, response_numbers, advice_numbers, response, made_from, made_stand_in, made_reversal, original_data}
 use Rattle.iso_message.proofs.MessageLemmas.{without_is, ascends_kept, good_kept, ascends_put, good_put}
-use Rattle.network_law.specs.Entries.{IsCode, IsDate}
+use Rattle.network_law.specs.Entries.{IsCode}
+use Rattle.network_law.specs.Cards.{text_of}
+use Rattle.card_digits.specs.Digits.{IsDateLabel, AreDigits}
 use Rattle.network_law.proofs.Ids.{IsIdText}
 use Rattle.network_law.proofs.ReadRuns.{HasLengths}
 
@@ -101,9 +103,23 @@ code_is : (m : Fields) (c : List ℕ) → IsMessage m → IsCode c → IsMessage
 unfolding form_of table
 code_is m c g h = set_is m 39 c g (omega arith) (omega arith) h
 
-pub date_is : (m : Fields) (d : List ℕ) → IsMessage m → IsDate d → IsMessage (set_element m 15 d)
+digit_text : (d : ℕ) → d < 10 → is_ascii_digit (d + 48) ≡ true
+digit_text d less = and_from (leb 48 (d + 48)) (leb (d + 48) 57) (le-leb 48 (d + 48) (omega arith)) (le-leb (d + 48) 57 (omega (arith, less)))
+
+digits_text : (ds : List ℕ) → AreDigits ds → list_all is_ascii_digit (text_of ds) ≡ true
+digits_text [] a = refl
+digits_text (d ∷ ds) a = and_from (is_ascii_digit (d + 48)) (list_all is_ascii_digit (text_of ds)) (digit_text d a.0) (digits_text ds a.1)
+
+pub date_is : (m : Fields) (d : List ℕ) → IsMessage m → IsDateLabel d → IsMessage (set_element m 15 (text_of d))
 unfolding form_of table
-date_is m d g h = set_is m 15 d g (omega arith) (omega arith) h
+date_is m d g h = set_is m 15 (text_of d) g (omega arith) (omega arith) (long, digits_text d h.digits)
+  where
+    long : length (text_of d) ≡ 4
+    long =
+        let a = length-map d (λ x. x + 48) in
+        let b = h.not_short in
+        let c = h.not_long in
+        omega (arith, a, b, c)
 
 pub response_is : (m : Fields) (c : List ℕ) → IsMessage m → IsCode c → IsMessage (response m c)
 unfolding response

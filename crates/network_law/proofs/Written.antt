@@ -1,5 +1,5 @@
 -- Every message of a legal history can be written, and is read as itself.
-use Rattle.std.proofs.Common.{◌≡◌, ℕ, ◌+◌, ◌≤◌, length, [], ◌∷◌, map, Option, Some, None, Bool, true, false, cond, not, ◌&&◌, refl, sym, ap, ◌∙◌, subst, inl, inr, ⊎_elim, eqb, nat_lt, bytes_eq}
+use Rattle.std.proofs.Common.{◌≡◌, ℕ, ◌+◌, ◌≤◌, length, [], ◌∷◌, map, Option, Some, None, Bool, true, false, cond, not, ◌&&◌, refl, sym, ap, ◌∙◌, subst, inl, inr, ⊎_elim, eqb, nat_lt, bytes_eq, List}
 use Rattle.std.proofs.lemmas.Bool.{cond_both, and_parts}
 use Rattle.std.proofs.lemmas.Option.{same_Some}
 use Rattle.std.specs.Prelude.{⊤}
@@ -15,12 +15,13 @@ use Rattle.iso_message.specs.Codes.{code_of, code_00, code_57, code_61, code_91,
 use Rattle.iso_message.specs.Made.{response, made_stand_in, made_reversal}
 use Rattle.iso_message.specs.Spelling.{IsMessage}
 use Rattle.net_rows.specs.Network.{Network, day}
-use Rattle.network_law.specs.Cards.{Bytes, card_of}
+use Rattle.network_law.specs.Cards.{text_of, Bytes, card_of}
 use Rattle.network_law.specs.Tables.{node_id, single}
 use Rattle.network_law.specs.Traces.{Source, Gate, ByLink, ReadInput, Enter, Take, LinkUp, LinkDown, Tick, HostAnswer, NewDate, ReadOutput, Put, Answer, Ask, Post, Event, In, Out, History, IsIn, date_of, count_of, Handled, handled, dated, Opening, opening, opened_by, answer, answers, sent, own_approval, Advice, advices, acked_by, add_made, add_accepted, late_key, failed_key, is_ok_ack, as_kept, used}
 use Rattle.network_law.specs.Decision.{decide, reply_output, standin_code, code_by_limits}
 use Rattle.network_law.specs.Refusals.{refusal, required_taken}
-use Rattle.network_law.specs.Entries.{IsCode, IsDate}
+use Rattle.network_law.specs.Entries.{IsCode}
+use Rattle.card_digits.specs.Digits.{IsDateLabel}
 use Rattle.network_law.proofs.Ids.{IsIdText}
 use Rattle.network_law.proofs.Whole.{kind_is, remove_is, date_is, response_is, stand_in_is, reversal_is, code_good}
 use Rattle.network_law.proofs.ReadRuns.{HasLengths}
@@ -35,7 +36,7 @@ abbrev pub InputIs : ReadInput → Type 0
 InputIs (Enter m) = IsMessage m × (is_request m.kind ≡ true → HasLengths m)
 InputIs (Take l s m) = IsMessage m × (is_request m.kind ≡ true → HasLengths m)
 InputIs (HostAnswer a c) = IsCode c
-InputIs (NewDate d) = IsDate d
+InputIs (NewDate d) = IsDateLabel d
 InputIs _ = ⊤
 
 abbrev pub OutputIs : ReadOutput → Type 0
@@ -70,8 +71,8 @@ answer_needs K0430 e = cc
 abbrev pub IsOpened : Fields → Type 0
 IsOpened m = IsMessage m × HasLengths m
 
-module _ (t : Network) (n : ℕ) (date : IsDate t.settings.date) (id : IsIdText (node_id t n)) where
-  date_written : (h : History) → AreWritten h → IsDate (date_of t h)
+module _ (t : Network) (n : ℕ) (date : IsDateLabel t.settings.date) (id : IsIdText (node_id t n)) where
+  date_written : (h : History) → AreWritten h → IsDateLabel (date_of t h)
   unfolding date_of
   date_written [] w = date
   date_written (In (NewDate d) ∷ h) w = w.0
@@ -86,10 +87,10 @@ module _ (t : Network) (n : ℕ) (date : IsDate t.settings.date) (id : IsIdText 
   abbrev IsHandled : Fields → Type 0
   IsHandled m = IsMessage m × (is_request m.kind ≡ true → HasLengths m)
 
-  dated_written : (d : Bytes) (m : Fields) → IsDate d → IsMessage m → IsMessage (dated d m)
-  dated_written d m is g = cond_both (is_request m.kind) (set_element m 15 d) m IsMessage (λ _. date_is m d g is) (λ _. g)
+  dated_written : (d : List ℕ) (m : Fields) → IsDateLabel d → IsMessage m → IsMessage (dated d m)
+  dated_written d m is g = cond_both (is_request m.kind) (set_element m 15 (text_of d)) m IsMessage (λ _. date_is m d g is) (λ _. g)
 
-  entered_written : (d : Bytes) (m : Fields) → IsDate d → IsHandled m → IsHandled (dated d (remove_element m 33))
+  entered_written : (d : List ℕ) (m : Fields) → IsDateLabel d → IsHandled m → IsHandled (dated d (remove_element m 33))
   unfolding remove_element
   entered_written d m is g = (dated_written d (remove_element m 33) is (remove_is m 33 g.0), lengths)
     where

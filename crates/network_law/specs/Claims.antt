@@ -44,7 +44,7 @@ abbrev pub NamedApprovers : Network → (ℕ → History) → Type 0
 NamedApprovers t at = (n : ℕ) (a : Approval) → IsIn a (approvals t (at n)) → (s : Issuer) × (issuer t (card_of a.request) ≡ Some s) × Contains s.named n
 
 -- what is used of a card and date at all nodes together
-abbrev pub exposure : Network → (ℕ → History) → List ℕ → Bytes → ℕ
+abbrev pub exposure : Network → (ℕ → History) → List ℕ → List ℕ → ℕ
 exposure t at card date = sum_below (λ n. used t n (at n) card date) (length t.nodes)
 
 -- at most the issuer's ceiling, and nothing without an issuer
@@ -54,7 +54,7 @@ AtMost (Some s) n = n ≤ s.ceiling
 
 -- the unreversed own approvals of a card and date never exceed the ceiling of its issuer
 abbrev pub WithinCeiling : Network → (ℕ → History) → Type 0
-WithinCeiling t at = (card : List ℕ) (date : Bytes) → AtMost (issuer t card) (exposure t at card date)
+WithinCeiling t at = (card date : List ℕ) → AtMost (issuer t card) (exposure t at card date)
 
 abbrev pub is_response : Kind → Bool
 is_response K0110 = true

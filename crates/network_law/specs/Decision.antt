@@ -7,7 +7,7 @@ use Rattle.net_rows.specs.Network.{Network, issuer, day}
 use Rattle.net_rows.specs.declared.row.Issuer.{Issuer}
 use Rattle.network_law.specs.Tables.{is_home, node_id, route_links, single}
 use Rattle.network_law.specs.Traces.{Source, Gate, ByLink, ReadInput, Enter, Take, LinkUp, LinkDown, Tick, HostAnswer, NewDate, ReadOutput, Put, Answer, Ask, Post, Event, In, Out, History, count_of, is_up, put_count, ask_count, ask_key, Handled, handled, Opening, opening, opened, answer, pending, forwarded, fails, Advice, advices, known, reversed, stored, load, was_put, used, as_kept, is_at_home, comes_late, is_link, is_advice_group}
-use Rattle.network_law.specs.Cards.{Bytes, is_good_card, card_of}
+use Rattle.network_law.specs.Cards.{label_of, Bytes, is_good_card, card_of}
 use Rattle.iso_message.specs.Fields.{Fields, el, get, as_kind, set_element, remove_element}
 use Rattle.iso_message.specs.declared.kind.Kind.{Kind}
 use Rattle.iso_message.specs.declared.kind.Kind.TheVariants.{K0100, K0120, K0121, K0420, K0421}
@@ -78,8 +78,8 @@ code_by_limits day single currency used_now m amount =
     else code_00
 
 unfoldable pub standin_code : Network → ℕ → History → Fields → Bytes
-unfolding el card_of used
-standin_code t n h m = code_by_limits (day t n (card_of m)) (single t n (card_of m)) t.settings.currency (used t n h (card_of m) (el m 15)) m (decimal (el m 4))
+unfolding el card_of label_of used
+standin_code t n h m = code_by_limits (day t n (card_of m)) (single t n (card_of m)) t.settings.currency (used t n h (card_of m) (label_of m)) m (decimal (el m 4))
 
 abbrev pub standin_by : Network → ℕ → History → ReadInput → Opening → Bytes → History → History
 standin_by t n past i op c h =

@@ -1,7 +1,7 @@
 -- What a node is given and puts out, with the bytes of messages; and the same with the messages that the bytes spell.
 use Rattle.std.specs.Prelude.{ℕ, ◌≡◌, List, [], ◌∷◌, length, Result, Ok, Err}
 use Rattle.iso_message.specs.declared.fault.DecodeFault.{DecodeFault}
-use Rattle.iso_message.specs.declared.form.Class.TheVariants.{Digits, Text}
+use Rattle.iso_message.specs.declared.form.Class.TheVariants.{Text}
 use Rattle.iso_message.specs.Grammar.{AreOf}
 use Rattle.iso_message.specs.Fields.{Fields}
 use Rattle.iso_message.specs.Messages.{read}
@@ -14,12 +14,8 @@ use Rattle.network_law.specs.Traces as messages
 abbrev pub IsCode : Bytes → Type 0
 IsCode code = (length code ≡ 2) × AreOf Text code
 
--- four ASCII digits
-abbrev pub IsDate : Bytes → Type 0
-IsDate date = (length date ≡ 4) × AreOf Digits date
-
 -- the bytes of a message that an acquirer enters or that comes by a link; a link of the node; the host's code for an ask of the
--- node; the new settlement date, as four ASCII digits
+-- node; the digits of the new settlement date
 pub data Input : Type 0 where
   Enter : (bytes : Bytes) → Input
   Take : (link serial : ℕ) (bytes : Bytes) → Input
@@ -27,7 +23,7 @@ pub data Input : Type 0 where
   LinkDown : (link : ℕ) → Input
   Tick : Input
   HostAnswer : (ask : ℕ) (code : Bytes) → Input
-  NewDate : (date : Bytes) → Input
+  NewDate : (date : List ℕ) → Input
 
 -- serials of a node's puts on one link, and its asks, count from 1
 pub data Output : Type 0 where

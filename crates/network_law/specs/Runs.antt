@@ -1,5 +1,6 @@
 -- Legal traces of a node, and runs of a network.
 use Rattle.std.specs.Prelude.{ℕ, ◌<◌, ◌≤◌, ◌≡◌, List, [], ◌∷◌, length, map, true, nat_le, if◌then◌else◌, Option, Some, None, Result, Ok, Err, ⊤}
+use Rattle.card_digits.specs.Digits.{IsDateLabel}
 use Rattle.iso_message.specs.declared.fault.DecodeFault.{DecodeFault}
 use Rattle.net_rows.specs.Network.{Network, other_end}
 use Rattle.network_law.specs.declared.fault.StepFault.{StepFault}
@@ -9,7 +10,7 @@ use Rattle.network_law.specs.Tables.{is_link_of}
 use Rattle.network_law.specs.Traces.{ReadInput, History, IsIn}
 use Rattle.network_law.specs.Decision.{decide}
 use Rattle.network_law.specs.Refusals.{refusal}
-use Rattle.network_law.specs.Entries.{Input, Take, LinkUp, LinkDown, HostAnswer, NewDate, Output, Put, Entry, read_input, history, spelled, newest_outputs, IsCode, IsDate}
+use Rattle.network_law.specs.Entries.{Input, Take, LinkUp, LinkDown, HostAnswer, NewDate, Output, Put, Entry, read_input, history, spelled, newest_outputs, IsCode}
 
 -- the input names no link but the node's own
 abbrev pub NamesOwnLink : Network → ℕ → Input → Type 0
@@ -21,7 +22,7 @@ NamesOwnLink t n _ = ⊤
 -- a code is two characters, and a date four digits
 abbrev pub IsTyped : Input → Type 0
 IsTyped (HostAnswer ask code) = IsCode code
-IsTyped (NewDate date) = IsDate date
+IsTyped (NewDate date) = IsDateLabel date
 IsTyped _ = ⊤
 
 -- the first fault of an input after these entries

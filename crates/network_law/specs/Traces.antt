@@ -7,7 +7,7 @@ use Rattle.card_digits.specs.Numbers.{decimal}
 use Rattle.net_rows.specs.Network.{Network, issuer}
 use Rattle.net_rows.specs.declared.row.Issuer.{Issuer}
 use Rattle.network_law.specs.Tables.{is_home, node_id, link_ticks}
-use Rattle.network_law.specs.Cards.{Bytes, card_of}
+use Rattle.network_law.specs.Cards.{label_of, text_of, Bytes, card_of}
 use Rattle.iso_message.specs.Fields.{Fields, el, set_element, remove_element, as_kind, get}
 use Rattle.iso_message.specs.declared.kind.Group.{Group}
 use Rattle.iso_message.specs.Groups.{group, is_request, is_answer, is_04xx}
@@ -31,7 +31,7 @@ pub data ReadInput : Type 0 where
   LinkDown : (link : ℕ) → ReadInput
   Tick : ReadInput
   HostAnswer : (ask : ℕ) (code : Bytes) → ReadInput
-  NewDate : (date : Bytes) → ReadInput
+  NewDate : (date : List ℕ) → ReadInput
 
 pub data ReadOutput : Type 0 where
   Put : (link serial : ℕ) (message : Fields) → ReadOutput
@@ -57,11 +57,12 @@ Has e h = IsIn e h
 
 -- the date, the count and the links
 
-abbrev pub date_after : ReadInput → Bytes → Bytes
+-- the digits of the last new date, else of the tables' date
+abbrev pub date_after : ReadInput → List ℕ → List ℕ
 date_after (NewDate date) old = date
 date_after _ old = old
 
-unfoldable pub date_of : Network → History → Bytes
+unfoldable pub date_of : Network → History → List ℕ
 date_of t [] = t.settings.date
 date_of t (In i ∷ h) = date_after i (date_of t h)
 date_of t (Out i o ∷ h) = date_of t h
@@ -122,8 +123,8 @@ pub record Handled : Type 0 where
   pub message : Fields
   pub source : Source
 
-abbrev pub dated : Bytes → Fields → Fields
-dated date m = if is_request m.kind then set_element m 15 date else m
+abbrev pub dated : List ℕ → Fields → Fields
+dated date m = if is_request m.kind then set_element m 15 (text_of date) else m
 
 unfoldable pub handled : Network → History → ReadInput → Option Handled
 unfolding date_of remove_element set_element
@@ -406,13 +407,13 @@ was_put (In i ∷ h) id = was_put h id
 was_put (Out i o ∷ h) id = was_put h id || is_put_of id o
 
 -- used: the amounts of own approvals of the card and date, of keys that aren't reversed
-abbrev pub counted : Network → ℕ → History → Bytes → Bytes → Approval → ℕ
-counted t n h card date a = if bytes_eq (card_of a.request) card && bytes_eq (el a.request 15) date && not (reversed t n h a.key) then decimal (el a.request 4) else 0
+abbrev pub counted : Network → ℕ → History → List ℕ → List ℕ → Approval → ℕ
+counted t n h card date a = if bytes_eq (card_of a.request) card && bytes_eq (label_of a.request) date && not (reversed t n h a.key) then decimal (el a.request 4) else 0
 
 abbrev pub added : {X : Type 0} → (X → ℕ) → List X → ℕ
 added f [] = 0
 added f (x ∷ xs) = f x + added f xs
 
-unfoldable pub used : Network → ℕ → History → Bytes → Bytes → ℕ
-unfolding approvals reversed el card_of
+unfoldable pub used : Network → ℕ → History → List ℕ → List ℕ → ℕ
+unfolding approvals reversed el card_of label_of
 used t n h card date = added (counted t n h card date) (approvals t h)

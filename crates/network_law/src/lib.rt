@@ -6,7 +6,7 @@ mod fault;
 
 ghost use Rattle.std.specs.Prelude.{ℕ, List};
 ghost use Rattle.net_rows.specs.Network.{Network};
-ghost use Rattle.network_law.specs.Checked.{IsSound, IsBounded, IsRanked, Ranks};
+ghost use Rattle.network_law.specs.Checked.{IsChecked, IsBounded, IsRanked, Ranks};
 ghost use Rattle.network_law.specs.Entries.{Entry, history};
 ghost use Rattle.network_law.specs.Runs.{IsRun};
 ghost use Rattle.network_law.specs.Claims.{Safe, Covered};
@@ -17,12 +17,12 @@ pub use fault::StepFault;
 /// Where the tables are sound, ranks fall along each route and limits stay within ceilings, every run is safe and nothing in it is
 /// lost, however steps interleave, links fail and packets are lost, repeated or late.
 pub fn every_run_is_safe()
-    ensures safe { (t : Network) (ranks : Ranks) (traces : ℕ → List Entry) → IsSound t → IsRanked t ranks → IsBounded t → IsRun t traces → Safe t (λ n. history (traces n)) }
-    ensures covered { (t : Network) (ranks : Ranks) (traces : ℕ → List Entry) → IsSound t → IsRanked t ranks → IsRun t traces → Covered t (λ n. history (traces n)) }
+    ensures safe { (t : Network) (ranks : Ranks) (traces : ℕ → List Entry) → IsChecked t → IsRanked t ranks → IsBounded t → IsRun t traces → Safe t (λ n. history (traces n)) }
+    ensures covered { (t : Network) (ranks : Ranks) (traces : ℕ → List Entry) → IsChecked t → IsRanked t ranks → IsRun t traces → Covered t (λ n. history (traces n)) }
 {}
 
 /// In every legal trace the mark of a failing key stands exactly where the key fails, and its reversal is made there.
 pub fn failing_is_marked()
-    ensures marked { (t : Network) → IsSound t → FailsAreMarked t }
-    ensures reversed { (t : Network) → IsSound t → FailsAreReversed t }
+    ensures marked { (t : Network) → IsChecked t → FailsAreMarked t }
+    ensures reversed { (t : Network) → IsChecked t → FailsAreReversed t }
 {}
