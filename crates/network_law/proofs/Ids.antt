@@ -1,6 +1,5 @@
 -- The ids of nodes.
-use Rattle.std.proofs.Common.{◌≡◌, ℕ, zero, suc, ◌-◌, ◌<◌, ◌≤◌, List, length, replicate, drop, Some, None, Bool, true, false, not, ◌||◌, refl, sym, ap, ◌∙◌, arith, eqb, nat_lt}
-use Rattle.std.proofs.lemmas.Bool.{ltb-false, or_parts, not-false}
+use Rattle.std.proofs.Common.{◌≡◌, ℕ, zero, suc, ◌-◌, ◌<◌, ◌≤◌, List, length, replicate, drop, true, false, refl, sym, ap, ◌∙◌, arith, eqb}
 use Rattle.std.proofs.lemmas.List.{drop_at, length-replicate}
 use Rattle.std.specs.List.{list_all}
 use Rattle.std.specs.Char.{is_ascii_digit}

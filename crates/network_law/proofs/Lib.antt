@@ -1,4 +1,3 @@
-pub mod Rows
 pub mod ReadRuns
 pub mod Ids
 pub mod Whole
@@ -13,7 +12,6 @@ pub mod Codes
 pub mod Approvals
 pub mod Late
 pub mod Reversals
-mod Rows2
 pub mod Books
 pub mod Fails
 pub mod Accounts
@@ -23,5 +21,5 @@ pub mod Covered
 pub mod Marks
 pub mod Written
 pub mod Reading
-mod ARun
-mod Premises
+pub mod Spelled
+pub mod WorkedRun

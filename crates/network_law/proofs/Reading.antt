@@ -34,7 +34,7 @@ use Rattle.network_law.proofs.Written.{InputIs, OutputIs, AreWritten, decide_wri
 
 -- the decision is its outputs on top of the input
 
-newest_more : (os : List ReadOutput) (h : History) → newest_onto os h ≡ newest_onto [] h ++ os
+pub newest_more : (os : List ReadOutput) (h : History) → newest_onto os h ≡ newest_onto [] h ++ os
 newest_more os [] = refl
 newest_more os (In i ∷ h) = refl
 newest_more os (Out i o ∷ h) = newest_more (o ∷ os) h ∙ (sym (append_assoc (newest_onto [] h) (o ∷ []) os) ∙ ap (λ z. z ++ os) (sym (newest_more (o ∷ []) h)))
@@ -49,7 +49,7 @@ decide_is_outputs t n past i keeps = decide_keeps t n past i (λ h. put_out i (n
 
 -- outputs that can be written are read as themselves
 
-abbrev AreOutputs : List ReadOutput → Type 0
+abbrev pub AreOutputs : List ReadOutput → Type 0
 AreOutputs [] = ⊤
 AreOutputs (o ∷ os) = OutputIs o × AreOutputs os
 
@@ -68,7 +68,7 @@ read_spelled (messages.Answer m) g = ap (read_as messages.Answer) (read_spelling
 read_spelled (messages.Ask a m) g = ap (read_as (messages.Ask a)) (read_spelling m g)
 read_spelled (messages.Post m) g = ap (read_as messages.Post) (read_spelling m g)
 
-read_all : (os : List ReadOutput) → AreOutputs os → read_outputs (map spelled os) ≡ os
+pub read_all : (os : List ReadOutput) → AreOutputs os → read_outputs (map spelled os) ≡ os
 read_all [] a = refl
 read_all (o ∷ os) a = ap (λ r. with_read r (read_outputs (map spelled os))) (read_spelled o a.0) ∙ ap (λ z. o ∷ z) (read_all os a.1)
 
@@ -179,17 +179,17 @@ has_reading t n es e s = go (read_input e.input) refl
         no : Some (Decode f) ≡ None → ⊥
         no p = cc
 
-read_trace_more : (e : Entry) (es : List Entry) (i : ReadInput) → read_input e.input ≡ Ok i → read_trace (e ∷ es) ≡ record { input = i; outputs = read_outputs e.outputs } ∷ read_trace es
+pub read_trace_more : (e : Entry) (es : List Entry) (i : ReadInput) → read_input e.input ≡ Ok i → read_trace (e ∷ es) ≡ record { input = i; outputs = read_outputs e.outputs } ∷ read_trace es
 unfolding read_trace
 read_trace_more e es i at = rw at refl
 
 -- a legal trace is read as one
 
-record Legible (t : Network) (n : ℕ) (es : List Entry) : Type 0 where
-  legal : IsLegalRead t n (read_trace es)
-  written : AreWritten (history es)
+pub record Legible (t : Network) (n : ℕ) (es : List Entry) : Type 0 where
+  pub legal : IsLegalRead t n (read_trace es)
+  pub written : AreWritten (history es)
 
-legible : (t : Network) (n : ℕ) → IsChecked t → n < length t.nodes → (es : List Entry) → IsLegal t n es → Legible t n es
+pub legible : (t : Network) (n : ℕ) → IsChecked t → n < length t.nodes → (es : List Entry) → IsLegal t n es → Legible t n es
 unfolding history read_history read_trace
 legible t n sound less [] l = record { legal = omega arith; written = tt }
 legible t n sound less (e ∷ es) l = more (has_reading t n es e l.1) (legible t n sound less es l.0)

@@ -12,7 +12,7 @@ use Rattle.iso_message.specs.Keys.{key_of, key_eq, content, identity_of, identit
 use Rattle.iso_message.specs.Codes.{code_of, code_94, code_00}
 use Rattle.net_rows.specs.Network.{Network, issuer, other_end}
 use Rattle.net_rows.specs.declared.row.Issuer.{Issuer}
-use Rattle.network_law.specs.Cards.{Bytes, card_of}
+use Rattle.network_law.specs.Cards.{card_of}
 use Rattle.network_law.specs.Checked.{sum_below}
 use Rattle.network_law.specs.Traces.{ReadInput, Take, HostAnswer, ReadOutput, Put, Ask, Post, In, Out, Has, IsIn, History, Opening, opening, Approval, approvals, Advice, advices, stored, is_at_home, reverses_key, answer, answers, sent, forwarded, used, ask_key, is_00_of, is_link}
 

@@ -1,5 +1,5 @@
 -- What a node is given and puts out, with the bytes of messages; and the same with the messages that the bytes spell.
-use Rattle.std.specs.Prelude.{ℕ, ◌≡◌, List, [], ◌∷◌, length, Result, Ok, Err}
+use Rattle.std.specs.Prelude.{ℕ, ◌≡◌, List, [], ◌∷◌, length, map, Result, Ok, Err}
 use Rattle.iso_message.specs.declared.fault.DecodeFault.{DecodeFault}
 use Rattle.iso_message.specs.declared.form.Class.TheVariants.{Text}
 use Rattle.iso_message.specs.Grammar.{AreOf}
@@ -108,6 +108,21 @@ spelled (messages.Put l s m) = Put l s (spelling m)
 spelled (messages.Answer m) = Answer (spelling m)
 spelled (messages.Ask a m) = Ask a (spelling m)
 spelled (messages.Post m) = Post (spelling m)
+
+unfoldable pub spelled_input : ReadInput → Input
+unfolding spelling
+spelled_input (messages.Enter m) = Enter (spelling m)
+spelled_input (messages.Take l s m) = Take l s (spelling m)
+spelled_input (messages.LinkUp l) = LinkUp l
+spelled_input (messages.LinkDown l) = LinkDown l
+spelled_input messages.Tick = Tick
+spelled_input (messages.HostAnswer a code) = HostAnswer a code
+spelled_input (messages.NewDate date) = NewDate date
+
+-- the trace with its messages spelled
+unfoldable pub spelled_trace : List ReadEntry → List Entry
+unfolding spelled spelled_input
+spelled_trace es = map (λ e. record { input = spelled_input e.input; outputs = map spelled e.outputs }) es
 
 -- the outputs since the newest input, in order, and then os
 abbrev pub newest_onto : List ReadOutput → History → List ReadOutput

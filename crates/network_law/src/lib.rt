@@ -3,6 +3,7 @@
 #![tactic(auto)]
 
 mod fault;
+mod worked;
 
 ghost use Rattle.std.specs.Prelude.{ℕ, List};
 ghost use Rattle.net_rows.specs.Network.{Network};
@@ -13,6 +14,9 @@ ghost use Rattle.network_law.specs.Claims.{Safe, Covered};
 ghost use Rattle.network_law.specs.Marks.{FailsAreMarked, FailsAreReversed};
 
 pub use fault::StepFault;
+pub use worked::{
+    worked_answers, worked_limits, worked_reversals, worked_run, wrong_traces_are_not_legal,
+};
 
 /// Where the tables are sound, ranks fall along each route and limits stay within ceilings, every run is safe and nothing in it is
 /// lost, however steps interleave, links fail and packets are lost, repeated or late.
