@@ -19,6 +19,7 @@ pub mod Posts
 pub mod Origins
 pub mod Covered
 pub mod Marks
+pub mod Plain
 pub mod Written
 pub mod Reading
 pub mod Spelled

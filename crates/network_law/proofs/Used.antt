@@ -14,7 +14,7 @@ use Rattle.network_law.specs.Refusals.{refusal}
 use Rattle.network_law.specs.Entries.{ReadEntry, read_history}
 use Rattle.network_law.proofs.ReadRuns.{IsFormed, IsLegalRead, IsReadRun}
 use Rattle.network_law.specs.Checked.{IsBounded, sum_below}
-use Rattle.network_law.specs.Claims.{NamedApprovers, WithinCeiling, AtMost, exposure}
+use Rattle.network_law.specs.Claims.{IsWithinLimits, NamedApprovers, WithinCeiling, AtMost, exposure}
 use Rattle.network_law.proofs.Emits.{Allowed, forwarding, asking, standing_in, passing, declining, repeating, refusing, acking, sending, posting, Forwarding, Asking, StandingIn, Passing, Declining, Repeating, Refusing, Acking, Sending, Posting, is_kept_group, Issued, decide_keeps, key_eq_refl, key_eq_is, bytes_eq_refl, bytes_eq_is}
 use Rattle.network_law.proofs.Node.{NodeFacts, EntryFacts, Opened, legal_facts, facts_in, facts_out, facts_decide, keeps_issuers, answers_is, response_is_of_kind}
 use Rattle.network_law.proofs.Elements.{code_response, response_key}
@@ -441,6 +441,20 @@ NamedApprovers_holds t traces run bounded n a m =
       where
         no : x ∷ xs ≡ [] → ⊥
         no p = cc
+
+pub within_limits : (t : Network) (n : ℕ) (es : List ReadEntry) → IsBounded t → n < length t.nodes → IsLegalRead t n es → IsWithinLimits t n (read_history es)
+unfolding cap_of
+within_limits t n es bounded less l = record {
+  named = λ a m. (let f = u.named a m in (f.0, f.1, bounded.named (card_of a.request) f.0 n f.1 less f.2));
+  within = λ card date. go card date (issuer t card) (u.within card date);
+}
+  where
+    u : UsedFacts t n (read_history es)
+    u = legal_used t n es l
+
+    go : (card date : List ℕ) (o : Option Issuer) → used t n (read_history es) card date ≤ cap_of o (day t n card) → used t n (read_history es) card date ≤ day t n card
+    go card date None le = omega (arith, le)
+    go card date (Some s) le = le
 
 total_less : (f g : ℕ → ℕ) (n : ℕ) → ((k : ℕ) → f k ≤ g k) → sum_below f n ≤ sum_below g n
 total_less f g zero le = omega arith

@@ -10,7 +10,7 @@ use Rattle.iso_message.specs.Fields.{Fields}
 use Rattle.iso_message.specs.Groups.{is_request, is_answer}
 use Rattle.iso_message.specs.Keys.{key_of, key_eq, content, identity_of, identity_eq}
 use Rattle.iso_message.specs.Codes.{code_of, code_94, code_00}
-use Rattle.net_rows.specs.Network.{Network, issuer, other_end}
+use Rattle.net_rows.specs.Network.{Network, issuer, day, other_end}
 use Rattle.net_rows.specs.declared.row.Issuer.{Issuer}
 use Rattle.network_law.specs.Cards.{card_of}
 use Rattle.network_law.specs.Checked.{sum_below}
@@ -146,6 +146,11 @@ pub record AdvicesKept (t : Network) (at : ℕ → History) : Type 0 where
   pub somewhere : (n : ℕ) (a : Advice) → IsIn a (advices t n (at n)) → (m : ℕ) × (IsStored t at a.message m ⊎ IsPosted t at a.message m)
   pub once : (id : AdviceId) (n m : ℕ) → 0 < post_count (at n) id → 0 < post_count (at m) id → n ≡ m
   pub one : (id : AdviceId) (n : ℕ) → post_count (at n) id ≤ 1
+
+-- a node approves only what it is named for, and no more of a card and date than its limit for a day
+pub record IsWithinLimits (t : Network) (n : ℕ) (h : History) : Type 0 where
+  pub named : (a : Approval) → IsIn a (approvals t h) → (s : Issuer) × (issuer t (card_of a.request) ≡ Some s) × Contains s.named n
+  pub within : (card date : List ℕ) → used t n h card date ≤ day t n card
 
 -- a network is safe: no node is sent a request by two nodes or a second time, only named nodes approve by themselves, and what they
 -- approve stays within the issuer's ceiling
