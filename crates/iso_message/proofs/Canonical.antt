@@ -118,7 +118,7 @@ two_are n h = (refl, and_from _ _ (digit (n / 10) (omega arith)) (and_from _ _ (
 three_are : (n : ℕ) → n < 1000 → Writes 3 n (three_digits n)
 three_are n h = (refl, and_from _ _ (digit (n / 100) (omega arith)) (and_from _ _ (digit (n / 10 % 10) (omega arith)) (and_from _ _ (digit (n % 10) (omega arith)) refl)), omega arith)
 
-piece_again : (form : Option Form) (v : List ℕ) → IsGood form v → IsPiece form v (piece form v)
+pub piece_again : (form : Option Form) (v : List ℕ) → IsGood form v → IsPiece form v (piece form v)
 piece_again None v g = absurd g
 piece_again (Some (forms.Fixed class size)) v g = (refl, g.0, g.1)
 piece_again (Some (forms.Llvar class most)) v g = (two_digits (length v), refl, two_are (length v) g.1, g.0, g.2)

@@ -51,7 +51,7 @@ three_below n (a ∷ b ∷ []) w = absurd (omega (arith, w.0))
 three_below n (a ∷ b ∷ c ∷ []) w = let p = and_parts _ _ w.1 in let q = and_parts _ _ p.1 in let r = and_parts _ _ q.1 in omega (arith, w.2, digit a p.0, digit b q.0, digit c r.0)
 three_below n (a ∷ b ∷ c ∷ d ∷ ds) w = absurd (omega (arith, w.0))
 
-good : (form : Option Form) (v text : List ℕ) → IsPiece form v text → IsGood form v
+pub good : (form : Option Form) (v text : List ℕ) → IsPiece form v text → IsGood form v
 good None v text p = absurd p
 good (Some (forms.Fixed class size)) v text p = (p.1, p.2)
 good (Some (forms.Llvar class most)) v text p = (p.3, two_below (length v) p.0 p.2, p.4)

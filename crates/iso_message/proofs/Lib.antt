@@ -1,7 +1,7 @@
 pub mod SpansMore
 pub mod Steps
 pub mod Pieces
-pub mod Laws
+pub mod ReadingLaws
 pub mod Finding
 pub mod Canonical
 pub mod HexDigits
@@ -11,3 +11,5 @@ pub mod TableLemmas
 pub mod Equality
 pub mod Changes
 pub mod MessageLemmas
+pub mod KeyLemmas
+pub mod FrameLemmas

@@ -1,19 +1,29 @@
 -- What is set, taken out or kept leaves a message a message.
-use Rattle.std.proofs.Common.{◌+◌, get_or, drop, ◌≡◌, ℕ, ◌<◌, ◌≤◌, Bool, true, false, not, ◌&&◌, ltb, leb, eqb, List, [], ◌∷◌, length, map, filter, Option, Some, None, refl, sym, ap, ◌∙◌, arith, inl, inr, Bor, MatchOption}
+use Rattle.std.specs.Prelude.{unwrap_or, OnOk, OnErr, codes}
+use Rattle.std.proofs.lemmas.List.Folds.{list_all-append}
+use Rattle.std.proofs.lemmas.List.{length-append, length-replicate}
+use Rattle.card_digits.specs.Numbers.{pad11}
+use Rattle.iso_message.specs.Fields.{Fields, get, has, el}
+use Rattle.iso_message.specs.Keys.{has_own_key}
+use Rattle.iso_message.specs.Made.{original_data}
+use Rattle.iso_message.proofs.KeyLemmas.{here, good_found, id_length}
+use Rattle.std.proofs.Common.{◌-◌, ◌++◌, zero, suc, replicate, Result, Ok, Err, ◌+◌, get_or, drop, ◌≡◌, ℕ, ◌<◌, ◌≤◌, Bool, true, false, not, ◌&&◌, ltb, leb, eqb, List, [], ◌∷◌, length, map, filter, Option, Some, None, refl, sym, ap, ◌∙◌, arith, inl, inr, Bor, MatchOption}
 use Rattle.std.specs.List.{list_all}
-use Rattle.std.proofs.lemmas.Bool.{and_parts, and_right, and_left, ltb-true, leb-true, eqb-true, lt-ltb, le-ltb, eq-eqb, ne_eqb, cases_lt, cases_eq, cases_Bool}
+use Rattle.std.proofs.lemmas.Bool.{and_parts, and_from, and_right, and_left, ltb-true, leb-true, eqb-true, lt-ltb, le-ltb, le-leb, eq-eqb, ne_eqb, cases_lt, cases_eq, cases_Bool}
 use Rattle.std.specs.Option.{option_copied}
 use Rattle.hex.specs.Hex.{IsBytes}
 use Rattle.iso_message.specs.declared.fault.DecodeFault.{DecodeFault}
 use Rattle.iso_message.specs.declared.fault.DecodeFault.TheVariants as faults
+use Rattle.iso_message.specs.declared.kind.Kind.{Kind}
 use Rattle.iso_message.specs.declared.form.Class.{Class}
+use Rattle.iso_message.specs.declared.form.Class.TheVariants.{Digits, Text}
 use Rattle.iso_message.specs.declared.form.Form.{Form}
 use Rattle.iso_message.specs.declared.form.Form.TheVariants.{Fixed, Llvar, Lllvar, Binary}
 use Rattle.iso_message.specs.Table.{Row, table, form_in, form_of}
 use Rattle.iso_message.specs.Elements.{fits, value_fault, set_fault}
 use Rattle.iso_message.specs.Finding.{put, without}
 use Rattle.iso_message.specs.Grammar.{AreOf}
-use Rattle.iso_message.specs.Spelling.{Ascends, IsGood, AreGood}
+use Rattle.iso_message.specs.Spelling.{Ascends, IsGood, AreGood, IsMessage}
 use Rattle.iso_message.specs.declared.elements.Span.{Span}
 use Rattle.iso_message.specs.Spans.{shown, seen, AreWithin}
 use Rattle.iso_message.specs.Made.{is_one_of, kept}
@@ -96,6 +106,14 @@ settable n value bytes e = go (form_of n) refl e
     go (Some form) h e =
         let at = listed n form h in
         (at.above, at.up_to, rw h (good_by_form form n value at.bounded bytes e))
+
+-- a good value may be set
+pub fits_again : (form : Option Form) (n : ℕ) (value : List ℕ) → IsGood form value → set_fault form n value ≡ None
+fits_again None n value g = absurd g
+fits_again (Some (Fixed class size)) n value g = rw (eq-eqb (length value) size g.0, g.1) refl
+fits_again (Some (Llvar class most)) n value g = rw (le-leb (length value) most g.0, g.2) refl
+fits_again (Some (Lllvar class most)) n value g = rw (le-leb (length value) most g.0, g.2) refl
+fits_again (Some Binary) n value g = rw (eq-eqb (length value) 8 g.0) refl
 
 -- ---- lists of elements
 
@@ -183,3 +201,66 @@ kept_at numbers values spans i h t = rw (drop_more spans i any h, t) refl
 pub passed_at : (numbers values : List ℕ) (spans : List Span) (i : ℕ) → i < length spans → is_one_of numbers (get_or spans i any).number ≡ false
     → kept numbers (seen values (drop i spans)) ≡ kept numbers (seen values (drop (i + 1) spans))
 passed_at numbers values spans i h f = rw (drop_more spans i any h, f) refl
+
+-- ---- messages
+
+pub put_stays : (kind : Kind) (n : ℕ) (value : List ℕ) (es : List (ℕ × List ℕ)) → IsBytes value → set_fault (form_of n) n value ≡ None
+    → IsMessage (record { kind = kind; elements = es }) → IsMessage (record { kind = kind; elements = put n value es })
+put_stays kind n value es bytes none m =
+    let may = settable n value bytes none in
+    record {
+      order = ascends_put 1 128 n value es may.0 may.1 m.order;
+      values = good_put n value es may.2 m.values;
+    }
+
+pub kept_stays : (kind made : Kind) (numbers : List ℕ) (es : List (ℕ × List ℕ)) → IsMessage (record { kind = kind; elements = es }) → IsMessage (record { kind = made; elements = kept numbers es })
+kept_stays kind made numbers es m = record {
+  order = ascends_kept 1 128 (λ e. is_one_of numbers e.0) es m.order;
+  values = good_kept (λ e. is_one_of numbers e.0) es m.values;
+}
+
+-- one of two outcomes, and what follows from each
+pub either : {A E X Y P : Type 0} (r : Result A E) → OnOk r X → OnErr r Y → (X → P) → (Y → P) → P
+either (Ok a) x y on_ok on_err = on_ok x
+either (Err e) x y on_ok on_err = on_err y
+
+-- ---- the elements that are set in what is made
+
+pub code_fits : (code : List ℕ) → length code ≡ 2 → AreOf Text code → set_fault (form_of 39) 39 code ≡ None
+unfolding form_of table
+code_fits code two text = rw (eq-eqb (length code) 2 two, text) refl
+
+list_digits : (xs ys : List ℕ) → AreOf Digits xs → AreOf Digits ys → AreOf Digits (xs ++ ys)
+list_digits xs ys a b = list_all-append (fits Digits) xs ys ∙ and_from _ _ a b
+
+zeros_are : (n : ℕ) → AreOf Digits (replicate n 48)
+zeros_are zero = refl
+zeros_are (suc n) = zeros_are n
+
+pub id_short : (m : Fields) → IsMessage m → length (el m 32) ≤ 11
+unfolding el
+id_short m g = go (get m 32) refl
+  where
+    go : (o : Option (List ℕ)) → get m 32 ≡ o → length (unwrap_or (get m 32) []) ≤ 11
+    go None e = rw e (omega arith)
+    go (Some v) e = rw e (id_length m g v e)
+
+pub original_fits : (m : Fields) → IsMessage m → has_own_key m ≡ true → set_fault (form_of 90) 90 (original_data m) ≡ None
+unfolding form_of table has_own_key
+original_fits m g h =
+    let parts = and_parts (has m 32 && has m 11) (has m 7) h in
+    let two = and_parts (has m 32) (has m 11) parts.0 in
+    let id = good_found m 32 (el m 32) g (here m 32 two.0) in
+    let trace = good_found m 11 (el m 11) g (here m 11 two.1) in
+    let time = good_found m 7 (el m 7) g (here m 7 parts.1) in
+    let padded : AreOf Digits (pad11 (el m 32)) = list_digits (replicate (11 - length (el m 32)) 48) (el m 32) (zeros_are (11 - length (el m 32))) id.2 in
+    let eleven : length (pad11 (el m 32)) ≡ 11 = omega (arith, length-append (replicate (11 - length (el m 32)) 48) (el m 32), length-replicate {A = ℕ} (11 - length (el m 32)) 48, id.0) in
+    let end = pad11 (el m 32) ++ replicate 11 48 in
+    let ids : AreOf Digits end = list_digits (pad11 (el m 32)) (replicate 11 48) padded refl in
+    let times : AreOf Digits (el m 7 ++ end) = list_digits (el m 7) end time.1 ids in
+    let digits : AreOf Digits (original_data m) = list_digits (el m 11) (el m 7 ++ end) trace.1 times in
+    let last : length (pad11 (el m 32) ++ replicate 11 48) ≡ 22 = omega (arith, length-append (pad11 (el m 32)) (replicate 11 48), eleven) in
+    let later : length (el m 7 ++ (pad11 (el m 32) ++ replicate 11 48)) ≡ 32 = omega (arith, length-append (el m 7) (pad11 (el m 32) ++ replicate 11 48), last, time.0) in
+    let all : length (el m 11 ++ (el m 7 ++ (pad11 (el m 32) ++ replicate 11 48))) ≡ 38 = omega (arith, length-append (el m 11) (el m 7 ++ (pad11 (el m 32) ++ replicate 11 48)), later, trace.0) in
+    let long : length (original_data m) ≡ 42 = ap (λ n. suc (suc (suc (suc n)))) all in
+    rw (eq-eqb (length (original_data m)) 42 long, digits) refl

@@ -1,5 +1,8 @@
 -- Response codes.
-use Rattle.std.specs.Prelude.{ℕ, List, codes}
+use Rattle.std.specs.Prelude.{ℕ, ◌==◌, ◌&&◌, List, length, codes, Option, Some, None, if◌then◌else◌}
+use Rattle.std.specs.List.{list_all}
+use Rattle.iso_message.specs.declared.form.Class.TheVariants.{Text}
+use Rattle.iso_message.specs.Elements.{fits}
 use Rattle.iso_message.specs.Fields.{Fields, el}
 
 -- approved
@@ -45,3 +48,7 @@ code_96 = codes "96"
 unfoldable pub code_of : Fields → List ℕ
 unfolding el
 code_of m = el m 39
+
+-- two bytes of text
+abbrev pub read_code : List ℕ → Option (List ℕ)
+read_code text = if length text == 2 && list_all (fits Text) text then Some text else None

@@ -30,10 +30,19 @@ unfoldable pub key_of : Fields → Key
 unfolding own_key original_key
 key_of m = if is_04xx m.kind then original_key m else own_key m
 
+-- the value, where the test holds
+abbrev pub when : {A : Type 0} → Bool → A → Option A
+when true value = Some value
+when false value = None
+
+unfoldable pub has_own_key : Fields → Bool
+unfolding has
+has_own_key m = has m 32 && has m 11 && has m 7
+
 -- whether the elements of the key are there
 unfoldable pub has_key : Fields → Bool
-unfolding has
-has_key m = if is_04xx m.kind then has m 90 else has m 32 && has m 11 && has m 7
+unfolding has has_own_key
+has_key m = if is_04xx m.kind then has m 90 else has_own_key m
 
 abbrev pub key_eq : Key → Key → Bool
 key_eq a b = bytes_eq a.acquirer b.acquirer && bytes_eq a.trace b.trace && bytes_eq a.time b.time

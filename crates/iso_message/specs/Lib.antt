@@ -11,3 +11,4 @@ pub mod Spelling
 pub mod Keys
 pub mod Codes
 pub mod Made
+pub mod Frames

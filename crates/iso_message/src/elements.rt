@@ -121,10 +121,14 @@ impl Elements {
     pub(crate) fn kept(&self, numbers: &[u8]) -> Result<Elements, AllocError>
         ensures { IfOk result (λ es. es ≡ kept numbers.now self.now) }
     {
-        let alloc = *self.values.allocator();
+        let alloc = self.allocator();
         let mut elements = Elements::with_capacity(alloc, self.spans.len(), self.values.len())?;
         copy_kept(&self.spans, &self.values, numbers, &mut elements)?;
         Ok(elements)
+    }
+
+    pub(crate) fn allocator(&self) -> Global {
+        *self.values.allocator()
     }
 
     /// At least as many bytes as the pieces take.
@@ -136,7 +140,7 @@ impl Elements {
     pub(crate) fn copy(&self) -> Result<Elements, AllocError>
         ensures { IfOk result (λ es. es ≡ self.now) }
     {
-        let alloc = *self.values.allocator();
+        let alloc = self.allocator();
         let spans = Vec::from_slice(alloc, &self.spans)?;
         let values = Vec::from_slice(alloc, &self.values)?;
         Ok(Elements { spans, values })

@@ -155,7 +155,13 @@ pub(crate) static FORMS: [Option<Form>; 129] = [
     Some(Form::Binary),
 ];
 
+ghost use Rattle.std.specs.Prelude.{ℕ, ◌<◌, None, slice_index_or};
 ghost use Rattle.iso_message.specs.Table.{form_of};
+
+/// The table here is that of the specs, number by number.
+pub(crate) fn one_table()
+    ensures { (number : ℕ) → number < 129 → slice_index_or FORMS number None ≡ form_of number }
+{}
 
 /// The form of an element, none where it is not in the table.
 pub(crate) fn form_at(number: u8) -> Option<Form>

@@ -1,6 +1,13 @@
 //! What a message is known by.
+ghost use Rattle.std.specs.Prelude.{◌≡◌, ◌≤◌, ◌+◌, length, bytes_eq};
+ghost use Rattle.iso_message.specs.Groups.{group, is_04xx};
+ghost use Rattle.iso_message.specs.Keys.{part, when, has_key, key_of, has_own_key, own_key, has_identity, identity_of, content, content_eq, original_key, is_identified, advice_kind, padded_or_zeros};
+ghost use Rattle.iso_message.specs.Fields.{get, has, el};
 
-use card_digits::Key;
+use crate::code::Code;
+use crate::kind::Kind;
+use crate::message::Message;
+use card_digits::{Key, pad11};
 
 /// What an advice tells of.
 #[derive(Clone, Copy, Debug, PartialEq, Eq, PartialOrd, Ord, Hash)]
@@ -18,4 +25,132 @@ pub struct AdviceId {
     pub kind: AdviceKind,
     pub key: Key,
     pub forwarder: [u8; 11],
+}
+
+/// The bytes of an element, none where it is absent.
+#[tactic(auto, unfolding(crate::specs::Fields::el))]
+pub(crate) fn bytes_of(message: &Message, number: u8) -> &[u8]
+    ensures { result.now ≡ el message.now number }
+{
+    match message.get(number) {
+        Some(bytes) => bytes,
+        None => &[],
+    }
+}
+
+/// So many bytes from a place on.
+fn array_at<const N: usize>(bytes: &[u8], from: usize) -> [u8; N]
+    requires { from + N ≤ length bytes.now }
+    ensures { result ≡ part from N bytes.now }
+{
+    let mut array = [0; N];
+    array.copy_from_slice(&bytes[from..from + N]);
+    array
+}
+
+/// The padded element 32, element 11 and element 7.
+fn own_key(message: &Message) -> Option<Key>
+    ensures { result ≡ when (has_own_key message.now) (own_key message.now) }
+{
+    let _ = message.kind();
+    let acquirer = message.get(32)?;
+    let trace = message.get(11)?;
+    let time = message.get(7)?;
+    Some(Key {
+        acquirer: pad11(acquirer),
+        trace: array_at(trace, 0),
+        time: array_at(time, 0),
+    })
+}
+
+/// The key of the original that element 90 names, none where that element is absent.
+pub fn original_key(message: &Message) -> Option<Key>
+    ensures { result ≡ when (has message.now 90) (original_key message.now) }
+{
+    let _ = message.kind();
+    let original = message.get(90)?;
+    Some(Key {
+        acquirer: array_at(original, 20),
+        trace: array_at(original, 4),
+        time: array_at(original, 10),
+    })
+}
+
+/// The key of a message: that of its original where the type is 04xx, and else its own. None where one of the elements 32, 11
+/// and 7, or for 04xx element 90, is absent.
+#[tactic(auto, unfolding(crate::specs::Keys::has_key, crate::specs::Keys::key_of))]
+pub fn key_of(message: &Message) -> Option<Key>
+    ensures { result ≡ when (has_key message.now) (key_of message.now) }
+{
+    if message.kind().is_04xx() {
+        original_key(message)
+    } else {
+        own_key(message)
+    }
+}
+
+/// What an advice of the type tells of, or the advice that a message of the type acknowledges.
+fn advice_kind(kind: Kind) -> Option<AdviceKind>
+    ensures { result ≡ when (is_identified (group kind)) (advice_kind (is_04xx kind)) }
+{
+    match kind {
+        Kind::K0100 | Kind::K0101 | Kind::K0110 => None,
+        Kind::K0120 | Kind::K0121 | Kind::K0130 => Some(AdviceKind::StandIn),
+        Kind::K0400 | Kind::K0401 | Kind::K0410 => Some(AdviceKind::Reversal),
+        Kind::K0420 | Kind::K0421 | Kind::K0430 => Some(AdviceKind::Reversal),
+    }
+}
+
+/// The padded element 33, or zeros.
+fn forwarder_of(message: &Message) -> [u8; 11]
+    ensures { result ≡ padded_or_zeros (get message.now 33) }
+{
+    let _ = message.kind();
+    match message.get(33) {
+        Some(id) => pad11(id),
+        None => [b'0'; 11],
+    }
+}
+
+/// The identity of an advice, a reversal, or what acknowledges one. None for requests and their answers, and where the message
+/// has no key.
+pub fn advice_id(message: &Message) -> Option<AdviceId>
+    ensures { result ≡ when (has_identity message.now) (identity_of message.now) }
+{
+    let kind = advice_kind(message.kind())?;
+    let key = key_of(message)?;
+    let forwarder = forwarder_of(message);
+    Some(AdviceId {
+        kind,
+        key,
+        forwarder,
+    })
+}
+
+fn same_element(first: &Message, second: &Message, number: u8) -> bool
+    ensures { result ≡ bytes_eq (el first.now number) (el second.now number) }
+{
+    bytes_of(first, number) == bytes_of(second, number)
+}
+
+/// Whether two messages have equal card numbers, processing codes, amounts and currencies (elements 2, 3, 4 and 49; an absent
+/// one counts as empty).
+#[tactic(auto, unfolding(crate::specs::Keys::content))]
+pub fn same_content(first: &Message, second: &Message) -> bool
+    ensures { result ≡ content_eq (content first.now) (content second.now) }
+{
+    let card = same_element(first, second, 2);
+    let processing = same_element(first, second, 3);
+    let amount = same_element(first, second, 4);
+    let currency = same_element(first, second, 49);
+    card && processing && amount && currency
+}
+
+/// The response code, none where element 39 is absent.
+pub fn code_of(message: &Message) -> Option<Code>
+    ensures { result ≡ get message.now 39 }
+{
+    let _ = message.kind();
+    let code = message.get(39)?;
+    Code::read(code)
 }

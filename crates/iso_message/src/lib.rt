@@ -1,18 +1,24 @@
 //! Messages of the form of ISO 8583:1987: their codec, and what nodes know them by and make of them.
 #![tactic(auto)]
 
+mod code;
 mod elements;
 mod fault;
+mod frame;
 mod form;
 mod keys;
 mod kind;
+pub mod laws;
+mod made;
 mod message;
 mod reading;
 mod writing;
 
+pub use code::Code;
 pub use fault::DecodeFault;
+pub use frame::{FrameFault, read_frame, write_frame};
 pub use form::{Class, Form};
-pub use keys::{AdviceId, AdviceKind};
+pub use keys::{AdviceId, AdviceKind, advice_id, code_of, key_of, original_key, same_content};
 pub use kind::{Group, Kind};
 pub use message::{Message, encode};
 pub use reading::decode;

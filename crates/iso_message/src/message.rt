@@ -87,6 +87,19 @@ impl Message {
         }
     }
 
+    /// Sets an element to a value that it takes.
+    pub(crate) fn put(&mut self, number: u8, value: &[u8]) -> Result<(), AllocError>
+        requires { set_fault (form_of number) number value.now ≡ None }
+        ensures { OnOk result (self.new ≡ set_element self.old number value.now) }
+    {
+        self.elements.put(number, value)
+    }
+
+    /// What the message's bytes are allocated by.
+    pub(crate) fn allocator(&self) -> Global {
+        self.elements.allocator()
+    }
+
     /// Takes an element out, where it is there.
     pub fn remove(&mut self, number: u8)
         ensures { self.new ≡ remove_element self.old number }

@@ -1,5 +1,5 @@
 //! Reading a message.
-ghost use Rattle.std.specs.Prelude.{◌≡◌, ◌<◌, ◌≤◌, ◌⊎◌, ℕ, List, true, length, IfOk, IfErr, Ok};
+ghost use Rattle.std.specs.Prelude.{◌≡◌, ◌<◌, ◌≤◌, ◌⊎◌, true, length, IfOk, IfErr, Ok};
 ghost use Rattle.std.specs.List.{list_all};
 ghost use Rattle.iso_message.specs.Types.{kind_of};
 ghost use Rattle.iso_message.specs.Elements.{fits, decimal, content_at, length_at, counted_at, binary_at, field_at, with_next, with_all};
@@ -7,7 +7,7 @@ ghost use Rattle.iso_message.specs.Table.{form_of};
 ghost use Rattle.iso_message.specs.declared.form.Class.TheVariants.{Digits};
 ghost use Rattle.iso_message.specs.declared.fault.DecodeFault.TheVariants.{Memory};
 ghost use Rattle.iso_message.specs.Grammar.{Spells, IsFault};
-ghost use Rattle.iso_message.specs.Spelling.{spelling, IsMessage};
+ghost use Rattle.iso_message.specs.Spelling.{IsMessage};
 ghost use Rattle.iso_message.specs.Fields.{Fields};
 ghost use Rattle.iso_message.specs.Messages.{marks, kind_at, map_at, second_at, read, Reads, Gives};
 
@@ -245,31 +245,23 @@ fn whole(alloc: Global, bytes: &[u8]) -> Result<Message, DecodeFault>
     Ok(Message { kind, elements })
 }
 
-/// The message that the bytes spell.
+/// The message that the bytes spell. `Short`: they end too early; `BadType`: no type stands at the front; `BitMap`: a byte of a
+/// bit map is no hexadecimal digit; `Element`, `Length` and `Character` name an element that is not in the table, whose length
+/// is no number or above the most, or that has a byte of another class; `Trailing`: bytes stand behind the last element. The
+/// fault is the first one in the order of reading, or `Memory`.
 pub fn decode(alloc: Global, bytes: &[u8]) -> Result<Message, DecodeFault>
-    // What is read is spelled so.
+    // What is read is spelled so, and can be written.
     ensures found { IfOk result (λ m. Spells bytes.now m) }
+    ensures is_message { IfOk result (λ m. IsMessage m) }
+
     // What is spelled so is read, unless memory ran out.
     ensures only { (m : Fields) → Spells bytes.now m → Gives (λ x. x) result (Ok m) }
+
     // A fault stands in the place of the first piece that isn't right.
     ensures fault { IfErr result (λ e. (e ≡ Memory) ⊎ IsFault bytes.now e) }
+
     // Which answer it is.
     ensures exact { Gives (λ x. x) result (read bytes.now) }
 {
     whole(alloc, bytes)
 }
-
-/// Bytes spell at most one message.
-pub fn one_message()
-    ensures { (bytes : List ℕ) (m n : Fields) → Spells bytes m → Spells bytes n → m ≡ n }
-{}
-
-/// Every message of good values in ascending order has the canonical spelling.
-pub fn canonical()
-    ensures { (m : Fields) → IsMessage m → Spells (spelling m) m }
-{}
-
-/// What is spelled is a message of good values in ascending order.
-pub fn spelled_is_message()
-    ensures { (bytes : List ℕ) (m : Fields) → Spells bytes m → IsMessage m }
-{}

@@ -3,7 +3,7 @@ use Rattle.std.proofs.Common.{◌≡◌, ℕ, ◌+◌, ◌≤◌, List, [], ◌�
 use Rattle.std.proofs.lemmas.Bool.{or_cases, cond_both}
 use Rattle.std.specs.List.{list_any}
 use Rattle.net_rows.specs.Network.{Network, issuer}
-use Rattle.network_law.specs.Traces.{Input, Enter, Take, LinkUp, LinkDown, Tick, HostAnswer, NewDate, Advice, has_identity, add_advice, acked_by, home_is, is_at_home, IsIn}
+use Rattle.network_law.specs.Traces.{ReadInput, Enter, Take, LinkUp, LinkDown, Tick, HostAnswer, NewDate, Advice, has_identity, add_advice, acked_by, home_is, is_at_home, IsIn}
 use Rattle.network_law.proofs.Reversals.{in_acked, any_in}
 use Rattle.network_law.proofs.Chain.{same_card}
 use Rattle.iso_message.proofs.Equality.{identity_eq_refl, identity_eq_is}
@@ -84,11 +84,11 @@ posted_some id (x ∷ ps) more = go (identity_eq (identity_of x) id) refl (poste
 
 -- acknowledged advices
 
-pub in_acked_back : (i : Input) (a : Advice) (as' : List Advice) → IsIn a as' → (b : Advice) × IsIn b (map (acked_by i) as') × (b.message ≡ a.message)
+pub in_acked_back : (i : ReadInput) (a : Advice) (as' : List Advice) → IsIn a as' → (b : Advice) × IsIn b (map (acked_by i) as') × (b.message ≡ a.message)
 in_acked_back i a [] m = absurd m
 in_acked_back i a (b ∷ as') m = ⊎_elim (λ e. (acked_by i b, inl refl, acked_message i b ∙ ap Advice.message e)) (λ r. (let x = in_acked_back i a as' r in (x.0, inr x.1, x.2))) m
   where
-    acked_message : (i : Input) (b : Advice) → (acked_by i b).message ≡ b.message
+    acked_message : (i : ReadInput) (b : Advice) → (acked_by i b).message ≡ b.message
     acked_message (Take l s m) b = refl
     acked_message (Enter m) b = refl
     acked_message (LinkUp l) b = refl
@@ -97,7 +97,7 @@ in_acked_back i a (b ∷ as') m = ⊎_elim (λ e. (acked_by i b, inl refl, acked
     acked_message (HostAnswer c d) b = refl
     acked_message (NewDate d) b = refl
 
-pub accounts_acked : (t : Network) (n : ℕ) (i : Input) (as' : List Advice) (ps : List Fields) (us : List (ℕ × Fields)) → Accounts t n as' ps us → Accounts t n (map (acked_by i) as') ps us
+pub accounts_acked : (t : Network) (n : ℕ) (i : ReadInput) (as' : List Advice) (ps : List Fields) (us : List (ℕ × Fields)) → Accounts t n as' ps us → Accounts t n (map (acked_by i) as') ps us
 accounts_acked t n i as' ps us q = record {
   home = λ a m e. (let b = in_acked a i as' m in let r = q.home b.0 b.1 (ap (is_at_home t n) b.2 ∙ e) in (r.0, r.1, alike_more r.0 b.0.message a.message r.2 (alike_is b.0.message a.message b.2)));
   posted = λ x m. (let r = q.posted x m in let b = in_acked_back i r.0 as' r.1 in (b.0, b.1, alike_more b.0.message r.0.message x (alike_is b.0.message r.0.message b.2) r.2, r.3));

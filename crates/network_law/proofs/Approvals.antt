@@ -3,11 +3,12 @@ use Rattle.std.proofs.Common.{◌≡◌, ℕ, zero, suc, ◌<◌, List, [], ◌�
 use Rattle.std.proofs.lemmas.Bool.{and_parts, or_cases, or_right}
 use Rattle.std.proofs.lemmas.Option.{same_Some}
 use Rattle.net_rows.specs.Network.{Network, other_end}
-use Rattle.network_law.specs.Traces.{Input, Enter, Take, LinkUp, LinkDown, Tick, HostAnswer, NewDate, Output, Put, Event, In, Out, History, Handled, handled, Opening, opening, sent, has_00, is_00_of, brings_00, key_of_00, own_approval, Approval, approval_by, approval_of, approvals, ask_key, is_key, forwarded, IsIn, Has}
+use Rattle.network_law.specs.Traces.{ReadInput, Enter, Take, LinkUp, LinkDown, Tick, HostAnswer, NewDate, ReadOutput, Put, Event, In, Out, History, Handled, handled, Opening, opening, sent, has_00, is_00_of, brings_00, key_of_00, own_approval, Approval, approval_by, approval_of, approvals, ask_key, is_key, forwarded, IsIn, Has}
 use Rattle.network_law.specs.Decision.{decide, sent_kind}
 use Rattle.network_law.specs.Refusals.{refusal}
-use Rattle.network_law.specs.Runs.{IsFormed, Entry, history, Legal, IsRun}
-use Rattle.network_law.specs.Checked.{Ranks, IsRanked, IsSound}
+use Rattle.network_law.specs.Entries.{ReadEntry, read_history}
+use Rattle.network_law.proofs.ReadRuns.{IsFormed, IsLegalRead, IsReadRun}
+use Rattle.network_law.specs.Checked.{Ranks, IsRanked, IsChecked}
 use Rattle.network_law.specs.Claims.{LeadsToApproval, ApprovalsLead}
 use Rattle.network_law.proofs.Emits.{Allowed, forwarding, asking, standing_in, passing, declining, repeating, refusing, acking, sending, posting, OpenedFirst, Failed, ViaLink, ViaHost, decide_keeps, key_eq_is, bytes_eq_is, stays_open}
 use Rattle.network_law.proofs.Node.{NodeFacts, OpensNow, opening_in_cases, legal_facts, facts_out, keeps_issuers, answer_no_request, answer_is, response_is_of_kind, forwarded_has}
@@ -27,7 +28,7 @@ use Rattle.iso_message.specs.Made.{response}
 not_both : (b : Bool) → b ≡ true → b ≡ false → ⊥
 not_both b p q = cc
 
-pub forwarded_more : (h : History) (i : Input) (o : Output) (k : Key) (l : ℕ) → forwarded h k ≡ Some l → forwarded (Out i o ∷ h) k ≡ Some l
+pub forwarded_more : (h : History) (i : ReadInput) (o : ReadOutput) (k : Key) (l : ℕ) → forwarded h k ≡ Some l → forwarded (Out i o ∷ h) k ≡ Some l
 unfolding forwarded
 forwarded_more h i o k l e = rw e refl
 
@@ -79,14 +80,14 @@ sent_00 k None e = absurd (not_both false e refl)
 sent_00 k (Some m) e = (m, refl, is_00_parts k m e)
 
 -- within an entry
-record InEntry (t : Network) (n : ℕ) (past : History) (i : Input) (h : History) : Type 0 where
+record InEntry (t : Network) (n : ℕ) (past : History) (i : ReadInput) (h : History) : Type 0 where
   own : OwnFacts t n past i h
   input : Has (In i) h
   forwarded_stays : (k : Key) (l : ℕ) → forwarded past k ≡ Some l → forwarded h k ≡ Some l
   origin : (k : Key) → has_00 h k ≡ true → Origin t h k
 
 -- a 00 in the entry of a 0110 with 00 of the same key goes on by the link on which k was forwarded
-came_case : (t : Network) (n : ℕ) (past : History) (h : History) (o : Output) (k : Key) (l s : ℕ) (m x : Fields) → OwnFacts t n past (Take l s m) h → Allowed t n past (Take l s m) h o → is_answer m.kind ≡ true → sent o ≡ Some x → Is00 k x → has_00 h k ≡ false → forwarded past k ≡ Some l
+came_case : (t : Network) (n : ℕ) (past : History) (h : History) (o : ReadOutput) (k : Key) (l s : ℕ) (m x : Fields) → OwnFacts t n past (Take l s m) h → Allowed t n past (Take l s m) h o → is_answer m.kind ≡ true → sent o ≡ Some x → Is00 k x → has_00 h k ≡ false → forwarded past k ≡ Some l
 unfolding handled
 came_case t n past h o k l s m x facts allowed ans is x00 none = go allowed
   where
@@ -164,7 +165,7 @@ is_key_is k None e = absurd (not_both false e refl)
 is_key_is k (Some j) e = ap Some (key_eq_is j k e)
 
 -- the first 00 for k
-first_00 : (t : Network) (n : ℕ) (past : History) (i : Input) (h : History) (o : Output) (k : Key) → InEntry t n past i h → Allowed t n past i h o → has_00 h k ≡ false → is_00_of k (sent o) ≡ true → Origin t (Out i o ∷ h) k
+first_00 : (t : Network) (n : ℕ) (past : History) (i : ReadInput) (h : History) (o : ReadOutput) (k : Key) → InEntry t n past i h → Allowed t n past i h o → has_00 h k ≡ false → is_00_of k (sent o) ≡ true → Origin t (Out i o ∷ h) k
 unfolding approvals forwarded
 first_00 t n past i h o k q allowed none e = go (brings_00 h k i) refl
   where
@@ -176,7 +177,7 @@ first_00 t n past i h o k q allowed none e = go (brings_00 h k i) refl
         let a : key_of_00 (sent o) ≡ Some k = rw (x.1, x.2.answer_kind, x.2.code, x.2.key) refl in
         rw (a, none, at) refl
 
-    brought : (j : Input) → i ≡ j → brings_00 h k j ≡ true → Origin t (Out i o ∷ h) k
+    brought : (j : ReadInput) → i ≡ j → brings_00 h k j ≡ true → Origin t (Out i o ∷ h) k
     brought (Take l s m) is b =
         let m00 = is_00_parts k m b in
         let f : forwarded past k ≡ Some l = came_case t n past h o k l s m x.0 (subst (λ z. OwnFacts t n past z h) is q.own) (subst (λ z. Allowed t n past z h o) is allowed) m00.answer_kind x.1 x.2 none in
@@ -198,7 +199,7 @@ first_00 t n past i h o k q allowed none e = go (brings_00 h k i) refl
         let one : approval_of t h (own_approval h i o) ≡ record { key = k; request = s.op.message } ∷ [] = ap (approval_of t h) (own at) ∙ ap (approval_by k) s.opens in
         inr (inl (record { key = k; request = s.op.message }, rw one (inl refl), refl))
 
-origin_out : (t : Network) (n : ℕ) (past : History) (i : Input) (h : History) (o : Output) (k : Key) → InEntry t n past i h → Allowed t n past i h o → has_00 (Out i o ∷ h) k ≡ true → Origin t (Out i o ∷ h) k
+origin_out : (t : Network) (n : ℕ) (past : History) (i : ReadInput) (h : History) (o : ReadOutput) (k : Key) → InEntry t n past i h → Allowed t n past i h o → has_00 (Out i o ∷ h) k ≡ true → Origin t (Out i o ∷ h) k
 unfolding has_00
 origin_out t n past i h o k q allowed e = go (has_00 h k) refl (or_cases (has_00 h k) (is_00_of k (sent o)) e)
   where
@@ -210,7 +211,7 @@ origin_out t n past i h o k q allowed e = go (has_00 h k) refl (or_cases (has_00
 abbrev pub HasOrigins : Network → History → Type 0
 HasOrigins t h = (k : Key) → has_00 h k ≡ true → Origin t h k
 
-origin_decide : (t : Network) (n : ℕ) (past : History) (i : Input) → IsFormed i → refusal t n past i ≡ None → NodeFacts t n past → HasOrigins t past → HasOrigins t (decide t n past i)
+origin_decide : (t : Network) (n : ℕ) (past : History) (i : ReadInput) → IsFormed i → refusal t n past i ≡ None → NodeFacts t n past → HasOrigins t past → HasOrigins t (decide t n past i)
 unfolding has_00 forwarded
 origin_decide t n past i form ok f before =
     (decide_keeps t n past i (InEntry t n past i)
@@ -223,13 +224,13 @@ origin_decide t n past i form ok f before =
     (keeps_issuers t n past f)
     (record { own = own_in_entry t n past i form ok f; input = inl refl; forwarded_stays = λ k l e. e; origin = λ k e. more_origin t (In i) past k (before k e) })).origin
 
-pub legal_origins : (t : Network) (n : ℕ) (es : List Entry) → Legal t n es → HasOrigins t (history es)
-unfolding history has_00
+pub legal_origins : (t : Network) (n : ℕ) (es : List ReadEntry) → IsLegalRead t n es → HasOrigins t (read_history es)
+unfolding read_history has_00
 legal_origins t n [] l = λ k e. absurd (not_both false e refl)
-legal_origins t n (e ∷ es) l = subst (HasOrigins t) (sym l.1.outputs) (origin_decide t n (history es) e.input l.1.formed l.1.accepted (legal_facts t n es l.0) (legal_origins t n es l.0))
+legal_origins t n (e ∷ es) l = subst (HasOrigins t) (sym l.1.outputs) (origin_decide t n (read_history es) e.input l.1.formed l.1.accepted (legal_facts t n es l.0) (legal_origins t n es l.0))
 
 -- what was put out with 00
-put_00 : (h : History) (i : Input) (l s : ℕ) (m : Fields) (k : Key) → Has (Out i (Put l s m)) h → is_00_of k (Some m) ≡ true → has_00 h k ≡ true
+put_00 : (h : History) (i : ReadInput) (l s : ℕ) (m : Fields) (k : Key) → Has (Out i (Put l s m)) h → is_00_of k (Some m) ≡ true → has_00 h k ≡ true
 unfolding has_00
 put_00 [] i l s m k has e = absurd has
 put_00 (In j ∷ h) i l s m k has e = ⊎_elim (λ bad. absurd (differ bad)) (λ below. put_00 h i l s m k below e) has
@@ -243,27 +244,27 @@ put_00 (Out j o ∷ h) i l s m k has e = ⊎_elim (λ here. or_right (has_00 h k
 
 -- by induction on the rank
 
-approval_by_rank : (t : Network) (ranks : Ranks) (traces : ℕ → List Entry) → IsRun t traces → IsRanked t ranks → IsSound t → (k : Key) (n0 : ℕ) (op0 : Opening) → opening t (history (traces n0)) k ≡ Some op0 → (fuel n : ℕ) → rank ranks (card_of op0.message) n < fuel → has_00 (history (traces n)) k ≡ true → (ns : List ℕ) × LeadsToApproval t (histories traces) k n ns
+approval_by_rank : (t : Network) (ranks : Ranks) (traces : ℕ → List ReadEntry) → IsReadRun t traces → IsRanked t ranks → IsChecked t → (k : Key) (n0 : ℕ) (op0 : Opening) → opening t (read_history (traces n0)) k ≡ Some op0 → (fuel n : ℕ) → rank ranks (card_of op0.message) n < fuel → has_00 (read_history (traces n)) k ≡ true → (ns : List ℕ) × LeadsToApproval t (histories traces) k n ns
 approval_by_rank t ranks traces run ranked sound k n0 op0 e0 zero n low has = absurd (omega (arith, low))
 approval_by_rank t ranks traces run ranked sound k n0 op0 e0 (suc fuel) n low has = ⊎_elim (λ c. came c (approval_by_rank t ranks traces run ranked sound k n0 op0 e0 fuel (other_end t n c.link))) (λ w. ([], w)) (legal_origins t n (traces n) (legal_at run n) k has)
   where
-    came : (c : Came00 (history (traces n)) k) → (rank ranks (card_of op0.message) (other_end t n c.link) < fuel → has_00 (history (traces (other_end t n c.link))) k ≡ true → (ns : List ℕ) × LeadsToApproval t (histories traces) k (other_end t n c.link) ns) → (ns : List ℕ) × LeadsToApproval t (histories traces) k n ns
+    came : (c : Came00 (read_history (traces n)) k) → (rank ranks (card_of op0.message) (other_end t n c.link) < fuel → has_00 (read_history (traces (other_end t n c.link))) k ≡ true → (ns : List ℕ) × LeadsToApproval t (histories traces) k (other_end t n c.link) ns) → (ns : List ℕ) × LeadsToApproval t (histories traces) k n ns
     came c ih =
         let put = run.linked n c.link c.serial c.message c.has in
         let falls : rank ranks (card_of op0.message) (other_end t n c.link) < rank ranks (card_of op0.message) n = forward_falls t ranks traces run ranked sound k n0 op0 e0 n c.link c.forwarded_on in
-        let rest = ih (omega (arith, falls, low)) (put_00 (history (traces (other_end t n c.link))) put.0 c.link c.serial c.message k put.1 c.is_00) in
-        let b = forwarded_has (history (traces n)) k c.link c.forwarded_on in
+        let rest = ih (omega (arith, falls, low)) (put_00 (read_history (traces (other_end t n c.link))) put.0 c.link c.serial c.message k put.1 c.is_00) in
+        let b = forwarded_has (read_history (traces n)) k c.link c.forwarded_on in
         (other_end t n c.link ∷ rest.0, ((c.link, b.1, b.2, record { input = b.0; put = b.3; request = b.4; key = b.5 }, refl), rest.1))
 
-pub ApprovalsLead_holds : (t : Network) (ranks : Ranks) (traces : ℕ → List Entry) → IsRun t traces → IsRanked t ranks → IsSound t → ApprovalsLead t (histories traces)
+pub ApprovalsLead_holds : (t : Network) (ranks : Ranks) (traces : ℕ → List ReadEntry) → IsReadRun t traces → IsRanked t ranks → IsChecked t → ApprovalsLead t (histories traces)
 ApprovalsLead_holds t ranks traces run ranked sound k n a e code =
     ⊎_elim forwarded_there (λ w. ([], w)) (legal_origins t n (traces n) (legal_at run n) k has)
   where
-    has : has_00 (history (traces n)) k ≡ true
-    has = answer_has_00 (history (traces n)) k a e (ap (λ c. bytes_eq c code_00) code)
+    has : has_00 (read_history (traces n)) k ≡ true
+    has = answer_has_00 (read_history (traces n)) k a e (ap (λ c. bytes_eq c code_00) code)
 
-    forwarded_there : Came00 (history (traces n)) k → (ns : List ℕ) × LeadsToApproval t (histories traces) k n ns
+    forwarded_there : Came00 (read_history (traces n)) k → (ns : List ℕ) × LeadsToApproval t (histories traces) k n ns
     forwarded_there c =
-        let b = forwarded_has (history (traces n)) k c.link c.forwarded_on in
+        let b = forwarded_has (read_history (traces n)) k c.link c.forwarded_on in
         let s = (legal_facts t n (traces n) (legal_at run n)).puts b.0 c.link b.1 b.2 b.3 b.4 in
-        approval_by_rank t ranks traces run ranked sound k n s.op (ap (opening t (history (traces n))) (sym b.5) ∙ s.is) (suc (rank ranks (card_of s.op.message) n)) n (omega arith) has
+        approval_by_rank t ranks traces run ranked sound k n s.op (ap (opening t (read_history (traces n))) (sym b.5) ∙ s.is) (suc (rank ranks (card_of s.op.message) n)) n (omega arith) has

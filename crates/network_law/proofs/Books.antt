@@ -3,7 +3,7 @@ use Rattle.std.proofs.Common.{◌≡◌, List, [], ◌∷◌, filter, reverse, O
 use Rattle.std.proofs.lemmas.Bool.{and_right}
 use Rattle.std.specs.Option.{option_or}
 use Rattle.net_rows.specs.Network.{Network}
-use Rattle.network_law.specs.Traces.{Input, Output, Out, History, opening, opened, answer, answers, sent, pending}
+use Rattle.network_law.specs.Traces.{ReadInput, ReadOutput, Out, History, opening, opened, answer, answers, sent, pending}
 use Rattle.network_law.proofs.Emits.{key_eq_is}
 use Rattle.network_law.proofs.Node.{answers_is}
 use Rattle.iso_message.specs.Fields.{Fields}
@@ -25,7 +25,7 @@ filter_twice p q r e (x ∷ xs) = go (p x) refl (q x) refl (filter_twice p q r e
     go false at b at' ih = rw (e x, at) ih
 
 -- an answer of k takes k off, and nothing else
-pub pending_answered : (t : Network) (h : History) (i : Input) (o : Output) (k : Key) (a : Fields) → answers k (sent o) ≡ Some a → answer h k ≡ None → pending_keys t (Out i o ∷ h) ≡ filter (λ j. not (key_eq k j)) (pending_keys t h)
+pub pending_answered : (t : Network) (h : History) (i : ReadInput) (o : ReadOutput) (k : Key) (a : Fields) → answers k (sent o) ≡ Some a → answer h k ≡ None → pending_keys t (Out i o ∷ h) ≡ filter (λ j. not (key_eq k j)) (pending_keys t h)
 unfolding pending_keys opened opening answer
 pending_answered t h i o k a e none = filter_twice (pending t h) (λ j. not (key_eq k j)) (pending t (Out i o ∷ h)) one (reverse (opened t h))
   where

@@ -5,12 +5,13 @@ use Rattle.std.proofs.lemmas.Option.{same_Some}
 use Rattle.card_digits.specs.Numbers.{decimal}
 use Rattle.net_rows.specs.Network.{Network, other_end, day}
 use Rattle.network_law.specs.Tables.{is_attached, single}
-use Rattle.network_law.specs.Traces.{Source, Gate, ByLink, Input, Enter, Take, Output, Put, Ask, Post, Event, In, Out, History, Opening, opening, answer, answers, sent, Has}
+use Rattle.network_law.specs.Traces.{Source, Gate, ByLink, ReadInput, Enter, Take, ReadOutput, Put, Ask, Post, Event, In, Out, History, Opening, opening, answer, answers, sent, Has}
 use Rattle.network_law.specs.Decision.{decide, reply_output, sent_kind, standin_code, code_by_limits, same_source}
 use Rattle.network_law.specs.Refusals.{refusal}
-use Rattle.network_law.specs.Runs.{IsFormed, Entry, history, Legal, IsRun}
+use Rattle.network_law.specs.Entries.{ReadEntry, read_history}
+use Rattle.network_law.proofs.ReadRuns.{IsFormed, IsLegalRead, IsReadRun}
 use Rattle.network_law.specs.Claims.{is_response, IsForward}
-use Rattle.network_law.specs.Checked.{Ranks, IsRanked, IsSound}
+use Rattle.network_law.specs.Checked.{Ranks, IsRanked, IsChecked}
 use Rattle.network_law.proofs.Emits.{Allowed, forwarding, asking, standing_in, passing, declining, repeating, refusing, acking, sending, posting, handled_as, decide_keeps, from_link, stays_open, bytes_eq_refl}
 use Rattle.network_law.proofs.Node.{NodeFacts, EntryFacts, legal_facts, facts_in, facts_out, keeps_issuers}
 use Rattle.network_law.proofs.Elements.{code_response}
@@ -86,27 +87,27 @@ pub record Refused (t : Network) (n : ℕ) (h : History) (l : ℕ) : Type 0 wher
   pub differs : ((is_request message.kind ≡ true) × ((same_source op.source (ByLink l) && content_eq (content op.message) (content message)) ≡ false)) ⊎ ((is_reversal message.kind ≡ true) × (content_eq (content op.message) (content message) ≡ false))
 
 abbrev RefusesOnly : Network → ℕ → History → Type 0
-RefusesOnly t n h = (i : Input) (l s : ℕ) (m : Fields) → Has (Out i (Put l s m)) h → is_response m.kind ≡ true → code_of m ≡ code_94 → Refused t n h l
+RefusesOnly t n h = (i : ReadInput) (l s : ℕ) (m : Fields) → Has (Out i (Put l s m)) h → is_response m.kind ≡ true → code_of m ≡ code_94 → Refused t n h l
 
 more_refused : (t : Network) (n : ℕ) (e : Event) (h : History) (l : ℕ) → ((k : Key) (op : Opening) → opening t h k ≡ Some op → opening t (e ∷ h) k ≡ Some op) → Refused t n h l → Refused t n (e ∷ h) l
 more_refused t n e h l more r = record { serial = r.serial; message = r.message; op = r.op; has = inr r.has; opens = more _ _ r.opens; differs = r.differs }
 
-record EntryCodes (t : Network) (n : ℕ) (past : History) (i : Input) (h : History) : Type 0 where
+record EntryCodes (t : Network) (n : ℕ) (past : History) (i : ReadInput) (h : History) : Type 0 where
   entry : EntryFacts t n past i h
   input : Has (In i) h
   codes : RefusesOnly t n h
 
-pub same_out : (i j : Input) (o p : Output) → Out i o ≡ Out j p → o ≡ p
+pub same_out : (i j : ReadInput) (o p : ReadOutput) → Out i o ≡ Out j p → o ≡ p
 same_out i j o p e = cc
 
-has_below : (i j : Input) (o : Output) (h : History) → Has (Out j o) (In i ∷ h) → Has (Out j o) h
+has_below : (i j : ReadInput) (o : ReadOutput) (h : History) → Has (Out j o) (In i ∷ h) → Has (Out j o) h
 has_below i j o h (inl e) = absurd (no e)
   where
     no : In i ≡ Out j o → ⊥
     no p = cc
 has_below i j o h (inr m) = m
 
-refused_now : (t : Network) (n : ℕ) (past : History) (i : Input) (h : History) (o : Output) (l s : ℕ) (m : Fields) → EntryFacts t n past i h → Has (In i) h → Allowed t n past i h o → o ≡ Put l s m → is_response m.kind ≡ true → code_of m ≡ code_94 → Refused t n h l
+refused_now : (t : Network) (n : ℕ) (past : History) (i : ReadInput) (h : History) (o : ReadOutput) (l s : ℕ) (m : Fields) → EntryFacts t n past i h → Has (In i) h → Allowed t n past i h o → o ≡ Put l s m → is_response m.kind ≡ true → code_of m ≡ code_94 → Refused t n h l
 refused_now t n past i h o l s m facts input allowed e r c = go allowed
   where
     of_code : (x : Fields) (code : Bytes) → response x code ≡ m → bytes_eq code code_94 ≡ false → ⊥
@@ -139,7 +140,7 @@ refused_now t n past i h o l s m facts input allowed e r c = go allowed
     go (sending f) = absurd (not_both (is_response m.kind) r (ap (λ z. is_response (Fields.kind z)) (sym (put_message (sym f.is ∙ e))) ∙ advice_no_response (is_04xx f.message.kind) f.again))
     go (posting f) = absurd (no_post (sym f.is ∙ e))
 
-codes_decide : (t : Network) (n : ℕ) (past : History) (i : Input) → IsFormed i → refusal t n past i ≡ None → NodeFacts t n past → RefusesOnly t n past → RefusesOnly t n (decide t n past i)
+codes_decide : (t : Network) (n : ℕ) (past : History) (i : ReadInput) → IsFormed i → refusal t n past i ≡ None → NodeFacts t n past → RefusesOnly t n past → RefusesOnly t n (decide t n past i)
 unfolding opening
 codes_decide t n past i form ok f before =
     (decide_keeps t n past i (EntryCodes t n past i)
@@ -155,10 +156,10 @@ codes_decide t n past i form ok f before =
       codes = λ j l s m has r c. more_refused t n (In i) past l (stays_open t past i) (before j l s m (has_below i j (Put l s m) past has) r c);
     })).codes
 
-pub legal_codes : (t : Network) (n : ℕ) (es : List Entry) → Legal t n es → RefusesOnly t n (history es)
-unfolding history
+pub legal_codes : (t : Network) (n : ℕ) (es : List ReadEntry) → IsLegalRead t n es → RefusesOnly t n (read_history es)
+unfolding read_history
 legal_codes t n [] l = λ i k s m has. absurd has
-legal_codes t n (e ∷ es) l = subst (RefusesOnly t n) (sym l.1.outputs) (codes_decide t n (history es) e.input l.1.formed l.1.accepted (legal_facts t n es l.0) (legal_codes t n es l.0))
+legal_codes t n (e ∷ es) l = subst (RefusesOnly t n) (sym l.1.outputs) (codes_decide t n (read_history es) e.input l.1.formed l.1.accepted (legal_facts t n es l.0) (legal_codes t n es l.0))
 
 -- content and source of a key that was opened by a take
 
@@ -166,12 +167,12 @@ pub content_eq_refl : (c : Content) → content_eq c c ≡ true
 content_eq_refl c = rw (bytes_eq_refl c.card, bytes_eq_refl c.processing, bytes_eq_refl c.amount, bytes_eq_refl c.currency) refl
 
 -- no request that was taken is answered 94
-pub no_request_refused : (t : Network) (ranks : Ranks) (traces : ℕ → List Entry) → IsRun t traces → IsRanked t ranks → IsSound t → (n l s : ℕ) (m : Fields) (op : Opening) → Has (In (Take l s m)) (history (traces n)) → is_request m.kind ≡ true → opening t (history (traces n)) (key_of m) ≡ Some op → (same_source op.source (ByLink l) && content_eq (content op.message) (content m)) ≡ true
+pub no_request_refused : (t : Network) (ranks : Ranks) (traces : ℕ → List ReadEntry) → IsReadRun t traces → IsRanked t ranks → IsChecked t → (n l s : ℕ) (m : Fields) (op : Opening) → Has (In (Take l s m)) (read_history (traces n)) → is_request m.kind ≡ true → opening t (read_history (traces n)) (key_of m) ≡ Some op → (same_source op.source (ByLink l) && content_eq (content op.message) (content m)) ≡ true
 no_request_refused t ranks traces run ranked sound n l s m op has r e =
     let put = run.linked n l s m has in
     let back = Rattle.network_law.proofs.Ends.back t l n (Rattle.network_law.proofs.Chain.legal_own t n (traces n) (legal_at run n) l s m has) in
     let f : IsForward (histories traces) (key_of m) (other_end t n l) l s m = record { input = put.0; put = put.1; request = r; key = refl } in
-    let input : op.input ≡ Take l s m = OpenedByThatPut_holds t ranks traces run ranked sound (key_of m) (other_end t n l) l s m op f (ap (λ z. opening t (history (traces z)) (key_of m)) back ∙ e) in
+    let input : op.input ≡ Take l s m = OpenedByThatPut_holds t ranks traces run ranked sound (key_of m) (other_end t n l) l s m op f (ap (λ z. opening t (read_history (traces z)) (key_of m)) back ∙ e) in
     let o = (legal_facts t n (traces n) (legal_at run n)).opens (key_of m) op e in
     go input o.from
   where

@@ -7,12 +7,14 @@ use Rattle.card_digits.specs.Numbers.{pad11}
 use Rattle.net_rows.specs.Network.{Network, issuer, other_end}
 use Rattle.net_rows.specs.declared.row.Issuer.{Issuer}
 use Rattle.network_law.specs.Tables.{node_id, is_attached}
-use Rattle.network_law.specs.Traces.{Input, Put, In, Out, History, Opening, opening, Advice, advices, stored, is_at_home, home_is, is_advice_group, IsIn, Has}
-use Rattle.network_law.specs.Runs.{Entry, history, IsRun}
-use Rattle.network_law.specs.Checked.{Ranks, IsRanked, IsSound}
+use Rattle.network_law.specs.Traces.{ReadInput, Put, In, Out, History, Opening, opening, Advice, advices, stored, is_at_home, home_is, is_advice_group, IsIn, Has}
+use Rattle.network_law.specs.Entries.{ReadEntry, read_history}
+use Rattle.network_law.proofs.ReadRuns.{IsReadRun}
+use Rattle.network_law.specs.Checked.{Ranks, IsRanked, IsChecked}
 use Rattle.network_law.specs.Claims.{IsStored, IsPosted, post_count, AdvicesKept}
 use Rattle.network_law.proofs.Node.{Opened, legal_facts}
 use Rattle.network_law.proofs.Chain.{rank, highest, RankFalls, falls, legal_own}
+use Rattle.network_law.proofs.Ids.{no_zero_id}
 use Rattle.network_law.proofs.Ends.{legal_at, is_node, not_home, back, histories}
 use Rattle.network_law.proofs.Reversals.{legal_sent, advice_04xx}
 use Rattle.network_law.proofs.Accounts.{Alike, alike_refl, alike_more, alike_card, alike_home, any_is, posted_some}
@@ -57,14 +59,14 @@ home_is_home n None e = absurd (not_both false e refl)
 home_is_home n (Some s) e = (s, refl, eqb-true s.home n e)
 
 -- the node at which an identity began
-record Began (t : Network) (traces : ℕ → List Entry) (x : Fields) : Type 0 where
+record Began (t : Network) (traces : ℕ → List ReadEntry) (x : Fields) : Type 0 where
   node : ℕ
   advice : Advice
-  has : IsIn advice (advices t node (history (traces node)))
+  has : IsIn advice (advices t node (read_history (traces node)))
   alike : Alike advice.message x
   how : ((node < length t.nodes) × ((identity_of x).forwarder ≡ pad11 (node_id t node))) ⊎ (((identity_of x).forwarder ≡ replicate 11 48) × (is_attached t node (identity_of x).key.acquirer ≡ true))
 
-began_alike : (t : Network) (traces : ℕ → List Entry) (x y : Fields) → Alike x y → Began t traces x → Began t traces y
+began_alike : (t : Network) (traces : ℕ → List ReadEntry) (x y : Fields) → Alike x y → Began t traces x → Began t traces y
 began_alike t traces x y a b = record {
   node = Began.node b;
   advice = Began.advice b;
@@ -73,18 +75,18 @@ began_alike t traces x y a b = record {
   how = ⊎_elim (λ p. inl (p.0, ap AdviceId.forwarder (sym a.id) ∙ p.1)) (λ p. inr (ap AdviceId.forwarder (sym a.id) ∙ p.0, ap (λ z. is_attached t (Began.node b) (Key.acquirer (AdviceId.key z))) (sym a.id) ∙ p.1)) (Began.how b);
 }
 
-module _ (t : Network) (ranks : Ranks) (traces : ℕ → List Entry) (run : IsRun t traces) (ranked : IsRanked t ranks) (sound : IsSound t) where
+module _ (t : Network) (ranks : Ranks) (traces : ℕ → List ReadEntry) (run : IsReadRun t traces) (ranked : IsRanked t ranks) (sound : IsChecked t) where
   at : ℕ → History
-  at n = history (traces n)
+  at n = read_history (traces n)
 
-  acc : (n : ℕ) → Acc t n (history (traces n))
+  acc : (n : ℕ) → Acc t n (read_history (traces n))
   acc n = legal_acc t n (traces n) (legal_at run n)
 
-  adv : (n : ℕ) → AdviceFacts t n (history (traces n))
+  adv : (n : ℕ) → AdviceFacts t n (read_history (traces n))
   adv n = legal_advices t n (traces n) (legal_at run n)
 
   -- an advice on a link falls
-  sent_falls : (n l s : ℕ) (i : Input) (x : Fields) → Has (Out i (Put l s x)) (history (traces n)) → is_advice_group (group x.kind) ≡ true → RankFalls ranks (card_of x) (other_end t n l) n
+  sent_falls : (n l s : ℕ) (i : ReadInput) (x : Fields) → Has (Out i (Put l s x)) (read_history (traces n)) → is_advice_group (group x.kind) ≡ true → RankFalls ranks (card_of x) (other_end t n l) n
   sent_falls n l s i x has g = go (is_04xx x.kind) refl
     where
       go : (b : Bool) → is_04xx x.kind ≡ b → RankFalls ranks (card_of x) (other_end t n l) n
@@ -96,28 +98,28 @@ module _ (t : Network) (ranks : Ranks) (traces : ℕ → List Entry) (run : IsRu
           falls ranks (card_of x) (other_end t n l) n (ranked (card_of x) q.s n l q.issued (is_node run n (Out i (Put l s x)) has) (not_home q.s n q.away) q.on_route)
 
   -- a node with an open key is one of the tables
-  live : (n : ℕ) (k : Key) (op : Opening) → opening t (history (traces n)) k ≡ Some op → n < length t.nodes
+  live : (n : ℕ) (k : Key) (op : Opening) → opening t (read_history (traces n)) k ≡ Some op → n < length t.nodes
   live n k op e = is_node run n (In op.input) o.has
     where
-      o : Opened t n (history (traces n)) k op
+      o : Opened t n (read_history (traces n)) k op
       o = (legal_facts t n (traces n) (legal_at run n)).opens k op e
 
   -- the advice that was taken, at the node that put it
   record Above (n : ℕ) (x : Fields) : Type 0 where
     node : ℕ
     advice : Advice
-    has : IsIn advice (advices t node (history (traces node)))
+    has : IsIn advice (advices t node (read_history (traces node)))
     alike : Alike advice.message x
     less : rank ranks (card_of x) n < rank ranks (card_of x) node
     bound : rank ranks (card_of x) node ≤ highest
 
-  above : (n : ℕ) (x : Fields) → TakenAs (history (traces n)) x → Above n x
+  above : (n : ℕ) (x : Fields) → TakenAs (read_history (traces n)) x → Above n x
   above n x s =
       let n' : ℕ = other_end t n s.link in
       let put = run.linked n s.link s.serial s.message s.has in
       let back' : other_end t (other_end t n s.link) s.link ≡ n = back t s.link n (legal_own t n (traces n) (legal_at run n) s.link s.serial s.message s.has) in
       let f = sent_falls (other_end t n s.link) s.link s.serial put.0 s.message put.1 s.kind in
-      let a = (acc (other_end t n s.link)).put (s.link, s.message) (put_is_sent (history (traces (other_end t n s.link))) put.0 s.link s.serial s.message put.1 s.kind) in
+      let a = (acc (other_end t n s.link)).put (s.link, s.message) (put_is_sent (read_history (traces (other_end t n s.link))) put.0 s.link s.serial s.message put.1 s.kind) in
       let card : card_of s.message ≡ card_of x = alike_card s.message x s.alike in
       let less : rank ranks (card_of s.message) n < rank ranks (card_of s.message) (other_end t n s.link) = subst (λ z. rank ranks (card_of s.message) z < rank ranks (card_of s.message) (other_end t n s.link)) back' f.less in
       record {
@@ -129,17 +131,17 @@ module _ (t : Network) (ranks : Ranks) (traces : ℕ → List Entry) (run : IsRu
         bound = subst (λ c. rank ranks c (other_end t n s.link) ≤ highest) card f.bound;
       }
 
-  made_here : (n : ℕ) (a : Advice) → IsIn a (advices t n (history (traces n))) → Made t n (history (traces n)) a.message → Began t traces a.message
+  made_here : (n : ℕ) (a : Advice) → IsIn a (advices t n (read_history (traces n))) → Made t n (read_history (traces n)) a.message → Began t traces a.message
   made_here n a m w = record { node = n; advice = a; has = m; alike = alike_refl a.message; how = inl (live n w.key w.op w.opens, w.forwarder) }
 
-  entered_here : (n : ℕ) (a : Advice) → IsIn a (advices t n (history (traces n))) → Entered t n a.message → Began t traces a.message
+  entered_here : (n : ℕ) (a : Advice) → IsIn a (advices t n (read_history (traces n))) → Entered t n a.message → Began t traces a.message
   unfolding identity_of
   entered_here n a m w = record { node = n; advice = a; has = m; alike = alike_refl a.message; how = inr (w.forwarder, w.gate) }
 
-  began : (fuel n : ℕ) (a : Advice) → IsIn a (advices t n (history (traces n))) → highest < rank ranks (card_of a.message) n + fuel → Began t traces a.message
+  began : (fuel n : ℕ) (a : Advice) → IsIn a (advices t n (read_history (traces n))) → highest < rank ranks (card_of a.message) n + fuel → Began t traces a.message
   began zero n a m far = ⊎_elim (λ w. made_here n a m w) (λ r. ⊎_elim too_far (λ w. entered_here n a m w) r) ((adv n).origins.from a m)
     where
-      too_far : TakenAs (history (traces n)) a.message → Began t traces a.message
+      too_far : TakenAs (read_history (traces n)) a.message → Began t traces a.message
       too_far s =
           let b = above n a.message s in
           let less = Above.less b in
@@ -147,7 +149,7 @@ module _ (t : Network) (ranks : Ranks) (traces : ℕ → List Entry) (run : IsRu
           absurd (omega (arith, less, bound, far))
   began (suc fuel) n a m far = ⊎_elim (λ w. made_here n a m w) (λ r. ⊎_elim (λ s. up s (λ n' b m' far'. began fuel n' b m' far')) (λ w. entered_here n a m w) r) ((adv n).origins.from a m)
     where
-      up : TakenAs (history (traces n)) a.message → ((n' : ℕ) (b : Advice) → IsIn b (advices t n' (history (traces n'))) → highest < rank ranks (card_of b.message) n' + fuel → Began t traces b.message) → Began t traces a.message
+      up : TakenAs (read_history (traces n)) a.message → ((n' : ℕ) (b : Advice) → IsIn b (advices t n' (read_history (traces n'))) → highest < rank ranks (card_of b.message) n' + fuel → Began t traces b.message) → Began t traces a.message
       up s ih =
           let b = above n a.message s in
           let less : rank ranks (card_of (Advice.message (Above.advice b))) n < rank ranks (card_of (Advice.message (Above.advice b))) (Above.node b) = subst (λ c. rank ranks c n < rank ranks c (Above.node b)) (sym (alike_card (Above.advice b).message a.message (Above.alike b))) (Above.less b) in
@@ -159,21 +161,21 @@ module _ (t : Network) (ranks : Ranks) (traces : ℕ → List Entry) (run : IsRu
   one_node x y b c e = ⊎_elim
       (λ p. ⊎_elim
       (λ q. sound.single_ids (Began.node b) (Began.node c) p.0 q.0 (sym p.1 ∙ (ap AdviceId.forwarder e ∙ q.1)))
-      (λ q. absurd (sound.no_zero_ids (Began.node b) p.0 (sym p.1 ∙ (ap AdviceId.forwarder e ∙ q.0))))
+      (λ q. absurd (no_zero_id t sound (Began.node b) p.0 (sym p.1 ∙ (ap AdviceId.forwarder e ∙ q.0))))
       (Began.how c))
       (λ p. ⊎_elim
-      (λ q. absurd (sound.no_zero_ids (Began.node c) q.0 (sym q.1 ∙ (ap AdviceId.forwarder (sym e) ∙ p.0))))
+      (λ q. absurd (no_zero_id t sound (Began.node c) q.0 (sym q.1 ∙ (ap AdviceId.forwarder (sym e) ∙ p.0))))
       (λ q. sound.single_gates (identity_of x).key.acquirer (Began.node b) (Began.node c) p.1 (ap (λ z. is_attached t (Began.node c) (Key.acquirer (AdviceId.key z))) e ∙ q.1))
       (Began.how c))
       (Began.how b)
 
   -- so it has one content over the run
-  pub one_content : (n m : ℕ) (a b : Advice) → IsIn a (advices t n (history (traces n))) → IsIn b (advices t m (history (traces m))) → identity_of a.message ≡ identity_of b.message → content a.message ≡ content b.message
+  pub one_content : (n m : ℕ) (a b : Advice) → IsIn a (advices t n (read_history (traces n))) → IsIn b (advices t m (read_history (traces m))) → identity_of a.message ≡ identity_of b.message → content a.message ≡ content b.message
   one_content n m a b has has' e =
       let x = began (suc (highest)) n a has (omega arith) in
       let y = began (suc (highest)) m b has' (omega arith) in
       let same : Began.node x ≡ Began.node y = one_node a.message b.message x y e in
-      let there : IsIn (Began.advice y) (advices t (Began.node x) (history (traces (Began.node x)))) = subst (λ z. IsIn (Began.advice y) (advices t z (history (traces z)))) (sym same) (Began.has y) in
+      let there : IsIn (Began.advice y) (advices t (Began.node x) (read_history (traces (Began.node x)))) = subst (λ z. IsIn (Began.advice y) (advices t z (read_history (traces z)))) (sym same) (Began.has y) in
       sym (Began.alike x).content_is ∙ ((acc (Began.node x)).single (Began.advice x) (Began.advice y) (Began.has x) there ((Began.alike x).id ∙ (e ∙ sym (Began.alike y).id)) ∙ (Began.alike y).content_is)
 
   Somewhere : Fields → Type 0
@@ -187,21 +189,21 @@ module _ (t : Network) (ranks : Ranks) (traces : ℕ → List Entry) (run : IsRu
   record Below (n : ℕ) (a : Advice) : Type 0 where
     node : ℕ
     advice : Advice
-    has : IsIn advice (advices t node (history (traces node)))
+    has : IsIn advice (advices t node (read_history (traces node)))
     alike : Alike advice.message a.message
     less : rank ranks (card_of a.message) node < rank ranks (card_of a.message) n
 
-  below : (n : ℕ) (a : Advice) → IsIn a (advices t n (history (traces n))) → a.acked ≡ true → Below n a
+  below : (n : ℕ) (a : Advice) → IsIn a (advices t n (read_history (traces n))) → a.acked ≡ true → Below n a
   below n a m e =
       let k = (adv n).origins.acked a m e in
       let back' : other_end t (other_end t n k.link) k.link ≡ n = back t k.link n (legal_own t n (traces n) (legal_at run n) k.link k.serial k.message k.has) in
       let put = run.linked n k.link k.serial k.message k.has in
       let s = (adv (other_end t n k.link)).acks put.0 k.link k.serial k.message put.1 k.ack k.code in
-      let b = any_is (identity_of k.message) (advices t (other_end t n k.link) (history (traces (other_end t n k.link)))) s.known_now in
+      let b = any_is (identity_of k.message) (advices t (other_end t n k.link) (read_history (traces (other_end t n k.link)))) s.known_now in
       let put' = run.linked (other_end t n k.link) k.link s.serial s.message s.has in
-      let here : Has (Out put'.0 (Put k.link s.serial s.message)) (history (traces n)) = subst (λ z. Has (Out put'.0 (Put k.link s.serial s.message)) (history (traces z))) back' put'.1 in
+      let here : Has (Out put'.0 (Put k.link s.serial s.message)) (read_history (traces n)) = subst (λ z. Has (Out put'.0 (Put k.link s.serial s.message)) (read_history (traces z))) back' put'.1 in
       let f = sent_falls n k.link s.serial put'.0 s.message here s.kind in
-      let c = (acc n).put (k.link, s.message) (put_is_sent (history (traces n)) put'.0 k.link s.serial s.message here s.kind) in
+      let c = (acc n).put (k.link, s.message) (put_is_sent (read_history (traces n)) put'.0 k.link s.serial s.message here s.kind) in
       let c_id : identity_of c.0.message ≡ identity_of a.message = c.2.id ∙ (s.same ∙ k.same) in
       let c_same : content c.0.message ≡ content a.message = (acc n).single c.0 a c.1 m c_id in
       let card : card_of s.message ≡ card_of a.message = alike_card s.message a.message (record { id = s.same ∙ k.same; content_is = sym c.2.content_is ∙ c_same }) in
@@ -214,31 +216,31 @@ module _ (t : Network) (ranks : Ranks) (traces : ℕ → List Entry) (run : IsRu
         less = subst (λ c. rank ranks c (other_end t n k.link) < rank ranks c n) card f.less;
       }
 
-  somewhere : (fuel n : ℕ) (a : Advice) → IsIn a (advices t n (history (traces n))) → rank ranks (card_of a.message) n < fuel → Somewhere a.message
+  somewhere : (fuel n : ℕ) (a : Advice) → IsIn a (advices t n (read_history (traces n))) → rank ranks (card_of a.message) n < fuel → Somewhere a.message
   unfolding Somewhere
   somewhere zero n a m far = absurd (omega (arith, far))
   somewhere (suc fuel) n a m far = go (is_at_home t n a.message) refl a.acked refl (λ n' b m' far'. somewhere fuel n' b m' far')
     where
-      go : (b : Bool) → is_at_home t n a.message ≡ b → (c : Bool) → a.acked ≡ c → ((n' : ℕ) (b : Advice) → IsIn b (advices t n' (history (traces n'))) → rank ranks (card_of b.message) n' < fuel → Somewhere b.message) → Somewhere a.message
+      go : (b : Bool) → is_at_home t n a.message ≡ b → (c : Bool) → a.acked ≡ c → ((n' : ℕ) (b : Advice) → IsIn b (advices t n' (read_history (traces n'))) → rank ranks (card_of b.message) n' < fuel → Somewhere b.message) → Somewhere a.message
       go true home c e ih =
           let x = (acc n).home a m home in
-          let p = post_has (history (traces n)) x.0 x.1 in
+          let p = post_has (read_history (traces n)) x.0 x.1 in
           (n, inr (p.0, x.0, p.1, x.2.id, x.2.content_is, home))
-      go false away false e ih = (n, inl (a, stored_in t n (history (traces n)) a m e away, refl, refl))
+      go false away false e ih = (n, inl (a, stored_in t n (read_history (traces n)) a m e away, refl, refl))
       go false away true e ih =
           let b = below n a m e in
           let less : rank ranks (card_of (Advice.message (Below.advice b))) (Below.node b) < rank ranks (card_of a.message) n = subst (λ c. rank ranks c (Below.node b) < rank ranks (card_of a.message) n) (sym (alike_card (Below.advice b).message a.message (Below.alike b))) (Below.less b) in
           somewhere_alike (Below.advice b).message a.message (Below.alike b) (ih (Below.node b) (Below.advice b) (Below.has b) (omega (arith, less, far)))
 
   -- the advice of a post
-  posted_advice : (id : AdviceId) (n : ℕ) → 0 < post_count (history (traces n)) id → (a : Advice) × IsIn a (advices t n (history (traces n))) × (identity_of a.message ≡ id) × (is_at_home t n a.message ≡ true)
+  posted_advice : (id : AdviceId) (n : ℕ) → 0 < post_count (read_history (traces n)) id → (a : Advice) × IsIn a (advices t n (read_history (traces n))) × (identity_of a.message ≡ id) × (is_at_home t n a.message ≡ true)
   posted_advice id n more =
-      let e = post_counted (history (traces n)) id in
-      let x = posted_some id (posts (history (traces n))) (subst (λ z. 0 < z) e more) in
+      let e = post_counted (read_history (traces n)) id in
+      let x = posted_some id (posts (read_history (traces n))) (subst (λ z. 0 < z) e more) in
       let a = (acc n).posted x.0 x.1 in
       (a.0, a.1, a.2.id ∙ x.2, alike_home t n a.0.message x.0 a.2 ∙ a.3)
 
-  one_home : (id : AdviceId) (n m : ℕ) → 0 < post_count (history (traces n)) id → 0 < post_count (history (traces m)) id → n ≡ m
+  one_home : (id : AdviceId) (n m : ℕ) → 0 < post_count (read_history (traces n)) id → 0 < post_count (read_history (traces m)) id → n ≡ m
   one_home id n m p q =
       let a = posted_advice id n p in
       let b = posted_advice id m q in
@@ -249,10 +251,10 @@ module _ (t : Network) (ranks : Ranks) (traces : ℕ → List Entry) (run : IsRu
       let s : h.0 ≡ h'.0 = same_Some h.0 h'.0 (sym h.1 ∙ (ap (issuer t) card ∙ h'.1)) in
       sym h.2 ∙ (ap Issuer.home s ∙ h'.2)
 
-pub AdvicesKept_holds : (t : Network) (ranks : Ranks) (traces : ℕ → List Entry) → IsRun t traces → IsRanked t ranks → IsSound t → AdvicesKept t (histories traces)
+pub AdvicesKept_holds : (t : Network) (ranks : Ranks) (traces : ℕ → List ReadEntry) → IsReadRun t traces → IsRanked t ranks → IsChecked t → AdvicesKept t (histories traces)
 unfolding Somewhere
 AdvicesKept_holds t ranks traces run ranked sound = record {
   somewhere = λ n a m. somewhere t ranks traces run ranked sound (suc (rank ranks (card_of a.message) n)) n a m (omega arith);
   once = one_home t ranks traces run ranked sound;
-  one = λ id n. subst (λ z. z ≤ 1) (sym (post_counted (history (traces n)) id)) ((acc t ranks traces run ranked sound n).one id);
+  one = λ id n. subst (λ z. z ≤ 1) (sym (post_counted (read_history (traces n)) id)) ((acc t ranks traces run ranked sound n).one id);
 }

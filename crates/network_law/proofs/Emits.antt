@@ -8,9 +8,10 @@ use mathlib.Core.List.{reverse-cons}
 use Rattle.net_rows.specs.Network.{Network, issuer}
 use Rattle.net_rows.specs.declared.row.Issuer.{Issuer}
 use Rattle.network_law.specs.Tables.{is_home, node_id, route_links}
-use Rattle.network_law.specs.Traces.{Source, Gate, ByLink, Input, Enter, Take, LinkUp, LinkDown, Tick, HostAnswer, NewDate, Output, Put, Answer, Ask, Post, In, Out, History, count_of, ask_count, ask_key, Handled, handled, Opening, opening, opened, answer, pending, forwarded, fails, Advice, advices, known, stored, as_kept, is_at_home, brings_00, is_link, comes_late, ticks_by, is_due_at, asked, asks, key_asked, is_timer, was_put, reversed, load, is_up, IsIn}
+use Rattle.network_law.specs.Traces.{Source, Gate, ByLink, ReadInput, Enter, Take, LinkUp, LinkDown, Tick, HostAnswer, NewDate, ReadOutput, Put, Answer, Ask, Post, In, Out, History, count_of, ask_count, ask_key, Handled, handled, Opening, opening, opened, answer, pending, forwarded, fails, Advice, advices, known, stored, as_kept, is_at_home, brings_00, is_link, comes_late, ticks_by, is_due_at, asked, asks, key_asked, is_timer, was_put, reversed, load, is_up, IsIn}
 use Rattle.network_law.specs.Decision.{decide, advice_due, reply, reply_output, next_put, emit, keep, send, send_by, own_way, sent_kind, standin, standin_code, fail, fail_all, send_all, failing, due_advices, on_request, on_issuer, on_forward, on_repeat, on_reversal, on_advice, on_answer, on_host, on_code, on_group, on_handled, same_source, first_up, as_code, answer_pending, other_content}
 use Rattle.network_law.specs.Cards.{Bytes, is_good_card, card_of}
+use Rattle.network_law.specs.Entries.{IsCode}
 use Rattle.iso_message.specs.Fields.{Fields, el, as_kind}
 use Rattle.iso_message.specs.declared.kind.Kind.{Kind}
 use Rattle.iso_message.specs.declared.kind.Group.{Group}
@@ -22,7 +23,7 @@ use Rattle.iso_message.specs.Codes.{code_of, code_00, code_05, code_14, code_68,
 use Rattle.iso_message.specs.Made.{made_reversal, made_stand_in, response}
 use Rattle.iso_message.specs.declared.kind.Group.TheVariants as groups
 
-abbrev pub handled_as : Network → History → Input → Fields → Source → Type 0
+abbrev pub handled_as : Network → History → ReadInput → Fields → Source → Type 0
 handled_as t past i m src = handled t past i ≡ Some (record { message = m; source = src })
 
 abbrev pub is_kept_group : Group → Bool
@@ -31,7 +32,7 @@ is_kept_group groups.Reversal = true
 is_kept_group _ = false
 
 -- where a message that is sent or posted as an advice comes from
-pub record Accepts (t : Network) (n : ℕ) (past : History) (i : Input) (h : History) (x : Fields) : Type 0 where
+pub record Accepts (t : Network) (n : ℕ) (past : History) (i : ReadInput) (h : History) (x : Fields) : Type 0 where
   pub message : Fields
   pub source : Source
   pub is_handled : handled_as t past i message source
@@ -44,7 +45,7 @@ pub record Accepts (t : Network) (n : ℕ) (past : History) (i : Input) (h : His
   pub at : h ≡ reply i source (response message code_00) before
   pub was : (before ≡ In i ∷ past) ⊎ ((op : Opening) × (before ≡ reply i op.source (response op.message code_68) (In i ∷ past)))
 
-pub data Kept (t : Network) (n : ℕ) (past : History) (i : Input) (h : History) (x : Fields) : Type 0 where
+pub data Kept (t : Network) (n : ℕ) (past : History) (i : ReadInput) (h : History) (x : Fields) : Type 0 where
   -- it is stored
   due : (a : Advice) → IsIn a (advices t n past) → x ≡ a.message → Kept t n past i h x
   -- it is made: k failed, or a 00 came late
@@ -55,7 +56,7 @@ pub data Kept (t : Network) (n : ℕ) (past : History) (i : Input) (h : History)
   accepting : Accepts t n past i h x → Kept t n past i h x
 
 -- the request is put on a link
-pub record Forwarding (t : Network) (n : ℕ) (past : History) (i : Input) (h : History) (o : Output) : Type 0 where
+pub record Forwarding (t : Network) (n : ℕ) (past : History) (i : ReadInput) (h : History) (o : ReadOutput) : Type 0 where
   pub message : Fields
   pub source : Source
   pub link : ℕ
@@ -70,7 +71,7 @@ pub record Forwarding (t : Network) (n : ℕ) (past : History) (i : Input) (h : 
   pub first : h ≡ In i ∷ past
   pub is : o ≡ next_put link (as_kind K0100 message) h
 
-pub record Asking (t : Network) (n : ℕ) (past : History) (i : Input) (h : History) (o : Output) : Type 0 where
+pub record Asking (t : Network) (n : ℕ) (past : History) (i : ReadInput) (h : History) (o : ReadOutput) : Type 0 where
   pub message : Fields
   pub source : Source
   pub s : Issuer
@@ -84,29 +85,29 @@ pub record Asking (t : Network) (n : ℕ) (past : History) (i : Input) (h : Hist
   pub is : o ≡ Ask (suc (ask_count past)) (as_kind K0100 message)
 
 -- a request that is open in this entry
-pub record IsOpenNow (t : Network) (past : History) (i : Input) (op : Opening) : Type 0 where
+pub record IsOpenNow (t : Network) (past : History) (i : ReadInput) (op : Opening) : Type 0 where
   pub key : Key
   pub is : opening t (In i ∷ past) key ≡ Some op
 
 -- the key was opened by this entry's input, and nothing was put out yet
-pub record OpenedFirst (t : Network) (past : History) (i : Input) (h : History) (key : Key) : Type 0 where
+pub record OpenedFirst (t : Network) (past : History) (i : ReadInput) (h : History) (key : Key) : Type 0 where
   pub fresh : opening t past key ≡ None
   pub first : h ≡ In i ∷ past
   pub no_timer : is_timer i ≡ false
 
 -- k fails at this input, and had ticks
-abbrev pub FailsNow : Network → History → Input → Key → Type 0
+abbrev pub FailsNow : Network → History → ReadInput → Key → Type 0
 FailsNow t past i k = (is_some (ticks_by t (forwarded past k) (asked past k)) ≡ true) × (fails t past i k ≡ true)
 
 -- the key was pending, and fails
-pub record Failed (t : Network) (past : History) (i : Input) (key : Key) (op : Opening) : Type 0 where
+pub record Failed (t : Network) (past : History) (i : ReadInput) (key : Key) (op : Opening) : Type 0 where
   pub timer : is_timer i ≡ true
   pub fails_now : fails t past i key ≡ true
   pub was : opening t past key ≡ Some op
   pub ticks : is_some (ticks_by t (forwarded past key) (asked past key)) ≡ true
 
 -- the key was pending, and its reversal is accepted in this entry
-pub record Reversing (t : Network) (n : ℕ) (past : History) (i : Input) (h : History) (key : Key) (op : Opening) : Type 0 where
+pub record Reversing (t : Network) (n : ℕ) (past : History) (i : ReadInput) (h : History) (key : Key) (op : Opening) : Type 0 where
   pub message : Fields
   pub source : Source
   pub is_handled : handled_as t past i message source
@@ -120,7 +121,7 @@ pub record Reversing (t : Network) (n : ℕ) (past : History) (i : Input) (h : H
   pub first : h ≡ In i ∷ past
 
 -- stand-in answers a key
-pub record StandingIn (t : Network) (n : ℕ) (past : History) (i : Input) (h : History) (o : Output) : Type 0 where
+pub record StandingIn (t : Network) (n : ℕ) (past : History) (i : ReadInput) (h : History) (o : ReadOutput) : Type 0 where
   pub op : Opening
   pub s : Issuer
   pub opens : IsOpenNow t past i op
@@ -129,7 +130,7 @@ pub record StandingIn (t : Network) (n : ℕ) (past : History) (i : Input) (h : 
   pub is : o ≡ reply_output op.source (response op.message (standin_code t n h op.message)) h
 
 -- an answer came by the link on which k was forwarded, or from the host that was asked
-pub record ViaLink (past : History) (i : Input) (key : Key) : Type 0 where
+pub record ViaLink (past : History) (i : ReadInput) (key : Key) : Type 0 where
   pub link : ℕ
   pub serial : ℕ
   pub message : Fields
@@ -138,38 +139,45 @@ pub record ViaLink (past : History) (i : Input) (key : Key) : Type 0 where
   pub key_is : key_of message ≡ key
   pub forwarded_on : forwarded past key ≡ Some link
 
-pub record ViaHost (past : History) (i : Input) (key : Key) : Type 0 where
+pub record ViaHost (past : History) (i : ReadInput) (key : Key) : Type 0 where
   pub ask : ℕ
   pub code : Bytes
   pub input : i ≡ HostAnswer ask code
   pub key_asked : ask_key past ask ≡ Some key
 
-abbrev pub Via : Network → History → Input → Key → Type 0
+abbrev pub Via : Network → History → ReadInput → Key → Type 0
 Via t past i key = ViaLink past i key ⊎ ViaHost past i key
 
+-- the code is that of the answer that came
+pub data Brought (i : ReadInput) (code : Bytes) : Type 0 where
+  by_link : (l s : ℕ) (m : Fields) → i ≡ Take l s m → is_answer m.kind ≡ true → code ≡ code_of m → Brought i code
+  by_host : (a : ℕ) → i ≡ HostAnswer a code → Brought i code
+
 -- an answer that came is passed on
-pub record Passing (t : Network) (n : ℕ) (past : History) (i : Input) (h : History) (o : Output) : Type 0 where
+pub record Passing (t : Network) (n : ℕ) (past : History) (i : ReadInput) (h : History) (o : ReadOutput) : Type 0 where
   pub op : Opening
   pub key : Key
   pub code : Bytes
   pub opens : opening t past key ≡ Some op
   pub brought : bytes_eq code code_00 ≡ true → brings_00 past key i ≡ true
   pub via : Via t past i key
+  pub code_from : IsCode code ⊎ Brought i code
   pub not_94 : bytes_eq code code_94 ≡ false
   pub is : o ≡ reply_output op.source (response op.message code) h
 
 -- a request is answered with a code that is neither 00 nor 94
-pub record Declining (t : Network) (n : ℕ) (past : History) (i : Input) (h : History) (o : Output) : Type 0 where
+pub record Declining (t : Network) (n : ℕ) (past : History) (i : ReadInput) (h : History) (o : ReadOutput) : Type 0 where
   pub op : Opening
   pub code : Bytes
   pub opens : IsOpenNow t past i op
+  pub is_code : IsCode code
   pub not_00 : bytes_eq code code_00 ≡ false
   pub not_94 : bytes_eq code code_94 ≡ false
   pub how : OpenedFirst t past i h opens.key ⊎ Reversing t n past i h opens.key op
   pub is : o ≡ reply_output op.source (response op.message code) h
 
 -- the same answer again
-pub record Repeating (t : Network) (n : ℕ) (past : History) (i : Input) (h : History) (o : Output) : Type 0 where
+pub record Repeating (t : Network) (n : ℕ) (past : History) (i : ReadInput) (h : History) (o : ReadOutput) : Type 0 where
   pub key : Key
   pub source : Source
   pub before : Fields
@@ -178,7 +186,7 @@ pub record Repeating (t : Network) (n : ℕ) (past : History) (i : Input) (h : H
   pub is : o ≡ reply_output source before h
 
 -- 94 to a message of a known key from another source or with other content
-pub record Refusing (t : Network) (n : ℕ) (past : History) (i : Input) (h : History) (o : Output) : Type 0 where
+pub record Refusing (t : Network) (n : ℕ) (past : History) (i : ReadInput) (h : History) (o : ReadOutput) : Type 0 where
   pub message : Fields
   pub source : Source
   pub op : Opening
@@ -193,18 +201,19 @@ pub record IsGood (t : Network) (past : History) (m : Fields) : Type 0 where
   pub agrees : is_reversal m.kind ≡ true → other_content (opening t past (key_of m)) m ≡ false
 
 -- an advice or reversal is acknowledged or refused
-pub record Acking (t : Network) (n : ℕ) (past : History) (i : Input) (h : History) (o : Output) : Type 0 where
+pub record Acking (t : Network) (n : ℕ) (past : History) (i : ReadInput) (h : History) (o : ReadOutput) : Type 0 where
   pub message : Fields
   pub source : Source
   pub code : Bytes
   pub is_handled : handled_as t past i message source
   pub kind : is_kept_group (group message.kind) ≡ true
+  pub is_code : IsCode code
   pub not_94 : bytes_eq code code_94 ≡ false
   pub good : bytes_eq code code_00 ≡ true → IsGood t past message
   pub is : o ≡ reply_output source (response message code) h
 
 -- an advice is put on a link or posted
-pub record Sending (t : Network) (n : ℕ) (past : History) (i : Input) (h : History) (o : Output) : Type 0 where
+pub record Sending (t : Network) (n : ℕ) (past : History) (i : ReadInput) (h : History) (o : ReadOutput) : Type 0 where
   pub message : Fields
   pub link : ℕ
   pub again : Bool
@@ -213,14 +222,14 @@ pub record Sending (t : Network) (n : ℕ) (past : History) (i : Input) (h : His
   pub way : own_way t n h message (forwarded h (key_of message)) ≡ Some link
   pub is : o ≡ next_put link (as_kind (sent_kind (is_04xx message.kind) again) message) h
 
-pub record Posting (t : Network) (n : ℕ) (past : History) (i : Input) (h : History) (o : Output) : Type 0 where
+pub record Posting (t : Network) (n : ℕ) (past : History) (i : ReadInput) (h : History) (o : ReadOutput) : Type 0 where
   pub message : Fields
   pub kept : Kept t n past i h message
   pub home : is_at_home t n message ≡ true
   pub unknown : known t n past (identity_of message) ≡ false
   pub is : o ≡ Post message
 
-pub data Allowed (t : Network) (n : ℕ) (past : History) (i : Input) (h : History) (o : Output) : Type 0 where
+pub data Allowed (t : Network) (n : ℕ) (past : History) (i : ReadInput) (h : History) (o : ReadOutput) : Type 0 where
   forwarding : Forwarding t n past i h o → Allowed t n past i h o
   asking : Asking t n past i h o → Allowed t n past i h o
   standing_in : StandingIn t n past i h o → Allowed t n past i h o
@@ -303,18 +312,18 @@ found_is_in p (y ∷ ys) x e = go (p y) refl (found_is_in p ys x)
     go false at rest = inr (rest (rw at at e))
 
 -- an opening in the past is one now
-pub stays_open : (t : Network) (past : History) (i : Input) (k : Key) (op : Opening) → opening t past k ≡ Some op → opening t (In i ∷ past) k ≡ Some op
+pub stays_open : (t : Network) (past : History) (i : ReadInput) (k : Key) (op : Opening) → opening t past k ≡ Some op → opening t (In i ∷ past) k ≡ Some op
 unfolding opening
 stays_open t past i k op e = rw e refl
 
-abbrev pub opening_now : History → Input → Fields → Source → Opening
+abbrev pub opening_now : History → ReadInput → Fields → Source → Opening
 opening_now past i m src = record { message = m; source = src; count = count_of past; input = i }
 
-pub opens_now : (t : Network) (past : History) (i : Input) (m : Fields) (src : Source) → handled_as t past i m src → is_request m.kind ≡ true → opening t past (key_of m) ≡ None → opening t (In i ∷ past) (key_of m) ≡ Some (opening_now past i m src)
+pub opens_now : (t : Network) (past : History) (i : ReadInput) (m : Fields) (src : Source) → handled_as t past i m src → is_request m.kind ≡ true → opening t past (key_of m) ≡ None → opening t (In i ∷ past) (key_of m) ≡ Some (opening_now past i m src)
 unfolding opening
 opens_now t past i m src e r f = rw (f, e, r, key_eq_refl (key_of m)) refl
 
-pub from_link : (t : Network) (past : History) (i : Input) (m : Fields) (l : ℕ) → handled_as t past i m (ByLink l) → (s : ℕ) × (i ≡ Take l s m)
+pub from_link : (t : Network) (past : History) (i : ReadInput) (m : Fields) (l : ℕ) → handled_as t past i m (ByLink l) → (s : ℕ) × (i ≡ Take l s m)
 unfolding handled
 from_link t past (Enter x) m l e = absurd (gate≢link (ap source_of (same_Some _ _ e)))
   where
@@ -341,7 +350,7 @@ Issued t m = (s : Issuer) × (issuer t (card_of m) ≡ Some s)
 abbrev pub KeepsIssuers : Network → History → Type 0
 KeepsIssuers t past = (k : Key) (op : Opening) → opening t past k ≡ Some op → is_some (ticks_by t (forwarded past k) (asked past k)) ≡ true → Issued t op.message
 
-pub handled_no_timer : (t : Network) (past : History) (i : Input) (m : Fields) (src : Source) → handled_as t past i m src → is_timer i ≡ false
+pub handled_no_timer : (t : Network) (past : History) (i : ReadInput) (m : Fields) (src : Source) → handled_as t past i m src → is_timer i ≡ false
 unfolding handled
 handled_no_timer t past (Enter x) m src e = refl
 handled_no_timer t past (Take k s x) m src e = refl
@@ -380,7 +389,7 @@ ask_key_asked [] a k e = cc
 ask_key_asked (In i ∷ h) a k e = ask_key_asked h a k e
 ask_key_asked (Out i o ∷ h) a k e = ⊎_elim (λ was. rw (ask_key_asked h a k was) refl) (λ now. or_right (asked h k) (asks k o) (here o now.1)) (option_or_some (ask_key h a) (key_asked a o) k e)
   where
-    here : (p : Output) → key_asked a p ≡ Some k → asks k p ≡ true
+    here : (p : ReadOutput) → key_asked a p ≡ Some k → asks k p ≡ true
     here (Ask b m) f = test (eqb a b) refl
       where
         test : (c : Bool) → eqb a b ≡ c → key_eq (key_of m) k ≡ true
@@ -393,7 +402,7 @@ ask_key_asked (Out i o ∷ h) a k e = ⊎_elim (λ was. rw (ask_key_asked h a k 
     here (Answer m) f = cc
     here (Post m) f = cc
 
-pub via_ticks : (t : Network) (past : History) (i : Input) (k : Key) → Via t past i k → is_some (ticks_by t (forwarded past k) (asked past k)) ≡ true
+pub via_ticks : (t : Network) (past : History) (i : ReadInput) (k : Key) → Via t past i k → is_some (ticks_by t (forwarded past k) (asked past k)) ≡ true
 via_ticks t past i k (inl v) = rw v.forwarded_on refl
 via_ticks t past i k (inr v) = go (forwarded past k)
   where
@@ -401,7 +410,7 @@ via_ticks t past i k (inr v) = go (forwarded past k)
     go None = rw (ask_key_asked past v.ask k v.key_asked) refl
     go (Some l) = refl
 
-module _ (t : Network) (n : ℕ) (past : History) (i : Input) (Q : History → Type 0) (close : (h : History) (o : Output) → Q h → Allowed t n past i h o → Q (Out i o ∷ h)) where
+module _ (t : Network) (n : ℕ) (past : History) (i : ReadInput) (Q : History → Type 0) (close : (h : History) (o : ReadOutput) → Q h → Allowed t n past i h o → Q (Out i o ∷ h)) where
   pub send_keeps : (x : Fields) (h : History) → Kept t n past i h x → is_at_home t n x ≡ false → Q h → Q (send t n i x h)
   unfolding send
   send_keeps x h kept away q = go (own_way t n h x (forwarded h (key_of x))) refl
@@ -441,18 +450,18 @@ module _ (t : Network) (n : ℕ) (past : History) (i : Input) (Q : History → T
   send_all_keeps [] h from q = q
   send_all_keeps (a ∷ as') h from q = send_all_keeps as' (send t n i a.message h) (λ b m. from b (inr m)) (send_keeps a.message h (due a (from a (inl refl)).0 refl) (from a (inl refl)).1 q)
 
-  declines : (m : Fields) (src : Source) (c : Bytes) → handled_as t past i m src → is_request m.kind ≡ true → opening t past (key_of m) ≡ None → bytes_eq c code_00 ≡ false → bytes_eq c code_94 ≡ false → Q (In i ∷ past) → Q (reply i src (response m c) (In i ∷ past))
-  declines m src c e r f n00 n94 q = close (In i ∷ past) (reply_output src (response m c) (In i ∷ past)) q (declining (record { op = opening_now past i m src; code = c; opens = record { key = key_of m; is = opens_now t past i m src e r f }; not_00 = n00; not_94 = n94; how = inl (record { fresh = f; first = refl; no_timer = handled_no_timer t past i m src e }); is = refl }))
+  declines : (m : Fields) (src : Source) (c : Bytes) → IsCode c → handled_as t past i m src → is_request m.kind ≡ true → opening t past (key_of m) ≡ None → bytes_eq c code_00 ≡ false → bytes_eq c code_94 ≡ false → Q (In i ∷ past) → Q (reply i src (response m c) (In i ∷ past))
+  declines m src c written e r f n00 n94 q = close (In i ∷ past) (reply_output src (response m c) (In i ∷ past)) q (declining (record { op = opening_now past i m src; code = c; opens = record { key = key_of m; is = opens_now t past i m src e r f }; is_code = written; not_00 = n00; not_94 = n94; how = inl (record { fresh = f; first = refl; no_timer = handled_no_timer t past i m src e }); is = refl }))
 
   forward_keeps : (m : Fields) (src : Source) (s : Issuer) (w : Option ℕ) → handled_as t past i m src → is_request m.kind ≡ true → opening t past (key_of m) ≡ None → reversed t n past (key_of m) ≡ false → issuer t (card_of m) ≡ Some s → is_home s n ≡ false → first_up past (route_links t n (card_of m)) ≡ w → Q (In i ∷ past) → Q (on_forward t n past i m src w)
   forward_keeps m src s None e r f nr si away w q = standin_keeps (key_of m) (opening_now past i m src) (In i ∷ past) (opens_now t past i m src e r f) (inl (record { fresh = f; first = refl; no_timer = handled_no_timer t past i m src e })) (s, si) q
   forward_keeps m src s (Some l) e r f nr si away w q = close (In i ∷ past) (next_put l (as_kind K0100 m) (In i ∷ past)) q (forwarding (record { message = m; source = src; link = l; s = s; is_handled = e; request = r; fresh = f; issued = si; away = away; on_route = found_is_in (is_up past) (route_links t n (card_of m)) l w; not_reversed = nr; first = refl; is = refl }))
 
   issuer_keeps : (m : Fields) (src : Source) (o : Option Issuer) → handled_as t past i m src → is_request m.kind ≡ true → opening t past (key_of m) ≡ None → reversed t n past (key_of m) ≡ false → issuer t (card_of m) ≡ o → Q (In i ∷ past) → Q (on_issuer t n past i m src o)
-  issuer_keeps m src None e r f nr si q = declines m src code_92 e r f refl refl q
+  issuer_keeps m src None e r f nr si q = declines m src code_92 (refl, refl) e r f refl refl q
   issuer_keeps m src (Some s) e r f nr si q =
       cond_both (nat_lt 65536 (load t n past + 2)) (reply i src (response m code_96) (In i ∷ past)) (cond (is_home s n) (emit i (Ask (suc (ask_count past)) (as_kind K0100 m)) (In i ∷ past)) (on_forward t n past i m src (first_up past (route_links t n (card_of m))))) Q
-      (λ _. declines m src code_96 e r f refl refl q)
+      (λ _. declines m src code_96 (refl, refl) e r f refl refl q)
       (λ _. cond_both (is_home s n) (emit i (Ask (suc (ask_count past)) (as_kind K0100 m)) (In i ∷ past)) (on_forward t n past i m src (first_up past (route_links t n (card_of m)))) Q
       (λ home. close (In i ∷ past) (Ask (suc (ask_count past)) (as_kind K0100 m)) q (asking (record { message = m; source = src; s = s; is_handled = e; request = r; fresh = f; issued = si; home = home; not_reversed = nr; first = refl; is = refl })))
       (λ away. forward_keeps m src s (first_up past (route_links t n (card_of m))) e r f nr si away refl q))
@@ -469,19 +478,19 @@ module _ (t : Network) (n : ℕ) (past : History) (i : Input) (Q : History → T
       (λ differs. close (In i ∷ past) (reply_output src (response m code_94) (In i ∷ past)) q (refusing (record { message = m; source = src; op = op; is_handled = e; opens = f; differs = inl (r, differs); is = refl })))
   request_keeps m src None e r f q =
       cond_both (reversed t n past (key_of m)) (reply i src (response m code_68) (In i ∷ past)) (cond (not (is_good_card (el m 2))) (reply i src (response m code_14) (In i ∷ past)) (on_issuer t n past i m src (issuer t (card_of m)))) Q
-      (λ _. declines m src code_68 e r f refl refl q)
+      (λ _. declines m src code_68 (refl, refl) e r f refl refl q)
       (λ nr. cond_both (not (is_good_card (el m 2))) (reply i src (response m code_14) (In i ∷ past)) (on_issuer t n past i m src (issuer t (card_of m))) Q
-      (λ _. declines m src code_14 e r f refl refl q)
+      (λ _. declines m src code_14 (refl, refl) e r f refl refl q)
       (λ _. issuer_keeps m src (issuer t (card_of m)) e r f nr refl q))
 
-  acks : (m : Fields) (src : Source) (c : Bytes) (h : History) → handled_as t past i m src → is_kept_group (group m.kind) ≡ true → bytes_eq c code_94 ≡ false → (bytes_eq c code_00 ≡ true → IsGood t past m) → Q h → Q (reply i src (response m c) h)
-  acks m src c h e g n94 good q = close h (reply_output src (response m c) h) q (acking (record { message = m; source = src; code = c; is_handled = e; kind = g; not_94 = n94; good = good; is = refl }))
+  acks : (m : Fields) (src : Source) (c : Bytes) (h : History) → IsCode c → handled_as t past i m src → is_kept_group (group m.kind) ≡ true → bytes_eq c code_94 ≡ false → (bytes_eq c code_00 ≡ true → IsGood t past m) → Q h → Q (reply i src (response m c) h)
+  acks m src c h written e g n94 good q = close h (reply_output src (response m c) h) q (acking (record { message = m; source = src; code = c; is_handled = e; kind = g; is_code = written; not_94 = n94; good = good; is = refl }))
 
   bad_code : {A : Type 0} → false ≡ true → A
   bad_code e = cc
 
   answer_pending_keeps : (m : Fields) (src : Source) (b : Bool) (o : Option Opening) → handled_as t past i m src → group m.kind ≡ groups.Reversal → not (is_good_card (el m 2)) ≡ false → is_none (issuer t (card_of m)) ≡ false → other_content (opening t past (key_of m)) m ≡ false → known t n past (identity_of m) ≡ false → opening t past (key_of m) ≡ o → Q (In i ∷ past) → Q (answer_pending t i b o code_68 (In i ∷ past))
-  answer_pending_keeps m src true (Some op) h g good issued same unknown e q = close (In i ∷ past) (reply_output op.source (response op.message code_68) (In i ∷ past)) q (declining (record { op = op; code = code_68; opens = record { key = key_of m; is = stays_open t past i (key_of m) op e }; not_00 = refl; not_94 = refl; how = inr (record { message = m; source = src; is_handled = h; reversal = g; key_is = refl; was = e; good = good; issued = issued; same = same; unknown = unknown; first = refl }); is = refl }))
+  answer_pending_keeps m src true (Some op) h g good issued same unknown e q = close (In i ∷ past) (reply_output op.source (response op.message code_68) (In i ∷ past)) q (declining (record { op = op; code = code_68; opens = record { key = key_of m; is = stays_open t past i (key_of m) op e }; is_code = (refl, refl); not_00 = refl; not_94 = refl; how = inr (record { message = m; source = src; is_handled = h; reversal = g; key_is = refl; was = e; good = good; issued = issued; same = same; unknown = unknown; first = refl }); is = refl }))
   answer_pending_keeps m src true None h g good issued same unknown e q = q
   answer_pending_keeps m src false o h g good issued same unknown e q = q
 
@@ -495,14 +504,14 @@ module _ (t : Network) (n : ℕ) (past : History) (i : Input) (Q : History → T
   reversal_keeps m src e g q =
       let ok : is_kept_group (group m.kind) ≡ true = rw g refl in
       cond_both (not (is_good_card (el m 2))) (reply i src (response m code_14) (In i ∷ past)) _ Q
-      (λ _. acks m src code_14 (In i ∷ past) e ok refl (λ z. bad_code z) q)
+      (λ _. acks m src code_14 (In i ∷ past) (refl, refl) e ok refl (λ z. bad_code z) q)
       (λ good. cond_both (is_none (issuer t (card_of m))) (reply i src (response m code_92) (In i ∷ past)) _ Q
-      (λ _. acks m src code_92 (In i ∷ past) e ok refl (λ z. bad_code z) q)
+      (λ _. acks m src code_92 (In i ∷ past) (refl, refl) e ok refl (λ z. bad_code z) q)
       (λ issued. cond_both (other_content (opening t past (key_of m)) m) (reply i src (response m code_94) (In i ∷ past)) _ Q
       (λ other. refuses (opening t past (key_of m)) refl other)
       (λ same. cond_both (known t n past (identity_of m)) (reply i src (response m code_00) (In i ∷ past)) _ Q
-      (λ _. acks m src code_00 (In i ∷ past) e ok refl (λ _. record { issued = issued; agrees = λ _. same }) q)
-      (λ unknown. keep_keeps (as_kept m) _ (accepting (record { message = m; source = src; is_handled = e; kept_group = ok; issued = issued; agrees = λ _. same; unknown = unknown; is = refl; before = answer_pending t i (pending t past (key_of m)) (opening t past (key_of m)) code_68 (In i ∷ past); at = refl; was = pending_was (pending t past (key_of m)) (opening t past (key_of m)) })) (acks m src code_00 _ e ok refl (λ _. record { issued = issued; agrees = λ _. same }) (answer_pending_keeps m src (pending t past (key_of m)) (opening t past (key_of m)) e g good issued same unknown refl q))))))
+      (λ _. acks m src code_00 (In i ∷ past) (refl, refl) e ok refl (λ _. record { issued = issued; agrees = λ _. same }) q)
+      (λ unknown. keep_keeps (as_kept m) _ (accepting (record { message = m; source = src; is_handled = e; kept_group = ok; issued = issued; agrees = λ _. same; unknown = unknown; is = refl; before = answer_pending t i (pending t past (key_of m)) (opening t past (key_of m)) code_68 (In i ∷ past); at = refl; was = pending_was (pending t past (key_of m)) (opening t past (key_of m)) })) (acks m src code_00 _ (refl, refl) e ok refl (λ _. record { issued = issued; agrees = λ _. same }) (answer_pending_keeps m src (pending t past (key_of m)) (opening t past (key_of m)) e g good issued same unknown refl q))))))
     where
       refuses : (o : Option Opening) → opening t past (key_of m) ≡ o → other_content o m ≡ true → Q (reply i src (response m code_94) (In i ∷ past))
       refuses None f other = cc
@@ -513,29 +522,29 @@ module _ (t : Network) (n : ℕ) (past : History) (i : Input) (Q : History → T
   advice_keeps m src e g q =
       let ok : is_kept_group (group m.kind) ≡ true = rw g refl in
       cond_both (not (is_good_card (el m 2))) (reply i src (response m code_14) (In i ∷ past)) _ Q
-      (λ _. acks m src code_14 (In i ∷ past) e ok refl (λ z. bad_code z) q)
+      (λ _. acks m src code_14 (In i ∷ past) (refl, refl) e ok refl (λ z. bad_code z) q)
       (λ _. cond_both (is_none (issuer t (card_of m))) (reply i src (response m code_92) (In i ∷ past)) _ Q
-      (λ _. acks m src code_92 (In i ∷ past) e ok refl (λ z. bad_code z) q)
+      (λ _. acks m src code_92 (In i ∷ past) (refl, refl) e ok refl (λ z. bad_code z) q)
       (λ issued. cond_both (known t n past (identity_of m)) (reply i src (response m code_00) (In i ∷ past)) _ Q
-      (λ _. acks m src code_00 (In i ∷ past) e ok refl (λ _. record { issued = issued; agrees = λ r. absurd (advice_no_reversal m.kind g r) }) q)
-      (λ unknown. keep_keeps (as_kept m) _ (accepting (record { message = m; source = src; is_handled = e; kept_group = ok; issued = issued; agrees = λ r. absurd (advice_no_reversal m.kind g r); unknown = unknown; is = refl; before = In i ∷ past; at = refl; was = inl refl })) (acks m src code_00 _ e ok refl (λ _. record { issued = issued; agrees = λ r. absurd (advice_no_reversal m.kind g r) }) q))))
+      (λ _. acks m src code_00 (In i ∷ past) (refl, refl) e ok refl (λ _. record { issued = issued; agrees = λ r. absurd (advice_no_reversal m.kind g r) }) q)
+      (λ unknown. keep_keeps (as_kept m) _ (accepting (record { message = m; source = src; is_handled = e; kept_group = ok; issued = issued; agrees = λ r. absurd (advice_no_reversal m.kind g r); unknown = unknown; is = refl; before = In i ∷ past; at = refl; was = inl refl })) (acks m src code_00 _ (refl, refl) e ok refl (λ _. record { issued = issued; agrees = λ r. absurd (advice_no_reversal m.kind g r) }) q))))
 
   -- an answer's code as it is passed on
-  passes : (op : Opening) (k : Key) (c other : Bytes) → opening t past k ≡ Some op → Via t past i k → (bytes_eq c code_00 ≡ true → brings_00 past k i ≡ true) → bytes_eq other code_00 ≡ false → bytes_eq other code_94 ≡ false → Q (In i ∷ past) → Q (reply i op.source (response op.message (as_code other c)) (In i ∷ past))
-  passes op k c other e via brought n00 n94 q = go (bytes_eq c code_94) refl
+  passes : (op : Opening) (k : Key) (c other : Bytes) → Brought i c → IsCode other → opening t past k ≡ Some op → Via t past i k → (bytes_eq c code_00 ≡ true → brings_00 past k i ≡ true) → bytes_eq other code_00 ≡ false → bytes_eq other code_94 ≡ false → Q (In i ∷ past) → Q (reply i op.source (response op.message (as_code other c)) (In i ∷ past))
+  passes op k c other from written e via brought n00 n94 q = go (bytes_eq c code_94) refl
     where
       as_other : Bool → Bytes
       as_other b = cond b other c
 
       go : (b : Bool) → bytes_eq c code_94 ≡ b → Q (reply i op.source (response op.message (as_code other c)) (In i ∷ past))
-      go true at = rw at (close (In i ∷ past) (reply_output op.source (response op.message other) (In i ∷ past)) q (passing (record { op = op; key = k; code = other; opens = e; via = via; brought = λ p. cc; not_94 = n94; is = refl })))
-      go false at = rw at (close (In i ∷ past) (reply_output op.source (response op.message c) (In i ∷ past)) q (passing (record { op = op; key = k; code = c; opens = e; via = via; brought = brought; not_94 = at; is = refl })))
+      go true at = rw at (close (In i ∷ past) (reply_output op.source (response op.message other) (In i ∷ past)) q (passing (record { op = op; key = k; code = other; opens = e; via = via; code_from = inl written; brought = λ p. cc; not_94 = n94; is = refl })))
+      go false at = rw at (close (In i ∷ past) (reply_output op.source (response op.message c) (In i ∷ past)) q (passing (record { op = op; key = k; code = c; opens = e; via = via; code_from = inr from; brought = brought; not_94 = at; is = refl })))
 
-  code_keeps : (k : Key) (c other : Bytes) (o : Option Opening) → opening t past k ≡ o → Via t past i k → (bytes_eq c code_00 ≡ true → brings_00 past k i ≡ true) → bytes_eq other code_00 ≡ false → bytes_eq other code_94 ≡ false → Q (In i ∷ past) → Q (on_code t n past i k c other o)
-  code_keeps k c other None e via brought n00 n94 q = q
-  code_keeps k c other (Some op) e via brought n00 n94 q =
+  code_keeps : (k : Key) (c other : Bytes) (o : Option Opening) → Brought i c → IsCode other → opening t past k ≡ o → Via t past i k → (bytes_eq c code_00 ≡ true → brings_00 past k i ≡ true) → bytes_eq other code_00 ≡ false → bytes_eq other code_94 ≡ false → Q (In i ∷ past) → Q (on_code t n past i k c other o)
+  code_keeps k c other None from written e via brought n00 n94 q = q
+  code_keeps k c other (Some op) from written e via brought n00 n94 q =
       cond_both (pending t past k) (reply i op.source (response op.message (as_code other c)) (In i ∷ past)) _ Q
-      (λ _. passes op k c other e via brought n00 n94 q)
+      (λ _. passes op k c other from written e via brought n00 n94 q)
       (λ _. cond_both (bytes_eq c code_00 && comes_late past (advices t n past) k) (keep t n past i (made_reversal op.message (node_id t n)) (In i ∷ past)) (In i ∷ past) Q
       (λ _. keep_keeps (made_reversal op.message (node_id t n)) (In i ∷ past) (reversing k op e (via_ticks t past i k via) refl) q)
       (λ _. q))
@@ -545,7 +554,7 @@ module _ (t : Network) (n : ℕ) (past : History) (i : Input) (Q : History → T
   answer_keeps m Gate e g q = q
   answer_keeps m (ByLink l) e g q =
       cond_both (is_link l (forwarded past (key_of m))) (on_code t n past i (key_of m) (code_of m) code_96 (opening t past (key_of m))) (In i ∷ past) Q
-      (λ on. code_keeps (key_of m) (code_of m) code_96 (opening t past (key_of m)) refl (inl (record { link = l; serial = (from_link t past i m l e).0; message = m; input = (from_link t past i m l e).1; answer_kind = answer_from_group m.kind g; key_is = refl; forwarded_on = is_link_is l (forwarded past (key_of m)) on })) (λ z. brought z) refl refl q)
+      (λ on. code_keeps (key_of m) (code_of m) code_96 (opening t past (key_of m)) (by_link l (from_link t past i m l e).0 m (from_link t past i m l e).1 (answer_from_group m.kind g) refl) (refl, refl) refl (inl (record { link = l; serial = (from_link t past i m l e).0; message = m; input = (from_link t past i m l e).1; answer_kind = answer_from_group m.kind g; key_is = refl; forwarded_on = is_link_is l (forwarded past (key_of m)) on })) (λ z. brought z) refl refl q)
       (λ _. q)
     where
       brought : bytes_eq (code_of m) code_00 ≡ true → brings_00 past (key_of m) i ≡ true
@@ -556,7 +565,7 @@ module _ (t : Network) (n : ℕ) (past : History) (i : Input) (Q : History → T
   pub host_keeps : (a : ℕ) (c : Bytes) (o : Option Key) → i ≡ HostAnswer a c → ask_key past a ≡ o → Q (In i ∷ past) → Q (on_host t n past i c o)
   unfolding on_host
   host_keeps a c None is e q = q
-  host_keeps a c (Some k) is e q = code_keeps k c code_05 (opening t past k) refl (inr (record { ask = a; code = c; input = is; key_asked = e })) (λ z. rw (is, e, key_eq_refl k, z) refl) refl refl q
+  host_keeps a c (Some k) is e q = code_keeps k c code_05 (opening t past k) (by_host a is) (refl, refl) refl (inr (record { ask = a; code = c; input = is; key_asked = e })) (λ z. rw (is, e, key_eq_refl k, z) refl) refl refl q
 
   group_keeps : (m : Fields) (src : Source) (g : Group) → handled_as t past i m src → group m.kind ≡ g → Q (In i ∷ past) → Q (on_group t n past i m src g)
   group_keeps m src groups.Request e g q = request_keeps m src (opening t past (key_of m)) e (request_from_group m.kind g) refl q
@@ -591,11 +600,11 @@ link_has_ticks : (t : Network) (l : ℕ) (w : Option ℕ) (b : Bool) → is_link
 link_has_ticks t l None b e = cc
 link_has_ticks t l (Some k) b e = refl
 
-pub failing_ticks : (t : Network) (past : History) (i : Input) (k : Key) → IsIn k (failing t past i) → FailsNow t past i k
+pub failing_ticks : (t : Network) (past : History) (i : ReadInput) (k : Key) → IsIn k (failing t past i) → FailsNow t past i k
 unfolding failing
 failing_ticks t past i k m = (let f = in_filter (fails t past i) (reverse (opened t past)) k m in (ticks i f, f))
   where
-    ticks : (i : Input) → fails t past i k ≡ true → is_some (ticks_by t (forwarded past k) (asked past k)) ≡ true
+    ticks : (i : ReadInput) → fails t past i k ≡ true → is_some (ticks_by t (forwarded past k) (asked past k)) ≡ true
     ticks (LinkDown l) f = link_has_ticks t l (forwarded past k) (asked past k) ((and_parts _ _ f).1)
     ticks Tick f = due_has_ticks (suc (count_of past)) (opening t past k) (ticks_by t (forwarded past k) (asked past k)) ((and_parts _ _ f).1)
     ticks (Enter x) f = cc
@@ -628,7 +637,7 @@ due_from t n past a m =
     (filtered_in _ (advices t n past) a c, not-true _ ((and_parts _ _ (in_filter (λ a. not a.acked && not (is_at_home t n a.message)) (advices t n past) a c)).1))
 
 -- the decision keeps what its input and each allowed output keep
-pub decide_keeps : (t : Network) (n : ℕ) (past : History) (i : Input) (Q : History → Type 0) → ((h : History) (o : Output) → Q h → Allowed t n past i h o → Q (Out i o ∷ h)) → KeepsIssuers t past → Q (In i ∷ past) → Q (decide t n past i)
+pub decide_keeps : (t : Network) (n : ℕ) (past : History) (i : ReadInput) (Q : History → Type 0) → ((h : History) (o : ReadOutput) → Q h → Allowed t n past i h o → Q (Out i o ∷ h)) → KeepsIssuers t past → Q (In i ∷ past) → Q (decide t n past i)
 unfolding decide
 decide_keeps t n past (Enter m) Q close keeps q = handled_keeps t n past (Enter m) Q close (handled t past (Enter m)) refl q
 decide_keeps t n past (Take l s m) Q close keeps q = handled_keeps t n past (Take l s m) Q close (handled t past (Take l s m)) refl q

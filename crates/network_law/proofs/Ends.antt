@@ -7,23 +7,24 @@ use Rattle.net_rows.specs.declared.row.Issuer.{Issuer}
 use Rattle.net_rows.specs.declared.row.Link.{Link}
 use Rattle.network_law.specs.Tables.{is_home, is_link_of}
 use Rattle.network_law.specs.Traces.{History, Event, Has}
-use Rattle.network_law.specs.Runs.{Entry, history, Legal, IsRun}
+use Rattle.network_law.specs.Entries.{ReadEntry, read_history}
+use Rattle.network_law.proofs.ReadRuns.{IsLegalRead, IsReadRun}
 
 -- the histories of a run's nodes
-abbrev pub histories : (ℕ → List Entry) → ℕ → History
-histories traces n = history (traces n)
+abbrev pub histories : (ℕ → List ReadEntry) → ℕ → History
+histories traces n = read_history (traces n)
 
 -- every node has a legal trace: one that isn't of the tables has an empty one
-pub legal_at : {t : Network} {traces : ℕ → List Entry} → IsRun t traces → (n : ℕ) → Legal t n (traces n)
-legal_at {t} {traces} run n = ⊎_elim (λ less. run.legal n less) (λ more. subst (Legal t n) (sym (run.no_others n more)) (omega arith)) (cases_lt n (length t.nodes))
+pub legal_at : {t : Network} {traces : ℕ → List ReadEntry} → IsReadRun t traces → (n : ℕ) → IsLegalRead t n (traces n)
+legal_at {t} {traces} run n = ⊎_elim (λ less. run.legal n less) (λ more. subst (IsLegalRead t n) (sym (run.no_others n more)) (omega arith)) (cases_lt n (length t.nodes))
 
 -- so where something stands in a trace, the node is one of the tables
-pub is_node : {t : Network} {traces : ℕ → List Entry} → IsRun t traces → (n : ℕ) (e : Event) → Has e (history (traces n)) → n < length t.nodes
-unfolding history
+pub is_node : {t : Network} {traces : ℕ → List ReadEntry} → IsReadRun t traces → (n : ℕ) (e : Event) → Has e (read_history (traces n)) → n < length t.nodes
+unfolding read_history
 is_node {t} {traces} run n e has = ⊎_elim (λ less. less) (λ more. absurd (none more)) (cases_lt n (length t.nodes))
   where
     none : length t.nodes ≤ n → ⊥
-    none more = subst (λ es. Has e (history es)) (run.no_others n more) has
+    none more = subst (λ es. Has e (read_history es)) (run.no_others n more) has
 
 pub not_home : (s : Issuer) (n : ℕ) → is_home s n ≡ false → n ≡ s.home → ⊥
 not_home s n e same = no (sym (eq-eqb s.home n (sym same)) ∙ e)

@@ -5,9 +5,9 @@ use Rattle.std.proofs.lemmas.Bool.{cond_both}
 use Rattle.std.specs.Option.{option_or, option_and_then}
 use Rattle.net_rows.specs.Network.{Network}
 use Rattle.network_law.specs.Tables.{node_id}
-use Rattle.network_law.specs.Traces.{Input, Tick, LinkDown, Output, Event, In, Out, History, Opening, opening, answer, answers, sent, forwarded, asked, ticks_by, is_timer, failed_key, pending, advices, is_ok_ack, handled, own_approval, count_of, add_made, reverses_key, IsIn}
+use Rattle.network_law.specs.Traces.{ReadInput, Tick, LinkDown, ReadOutput, Event, In, Out, History, Opening, opening, answer, answers, sent, forwarded, asked, ticks_by, is_timer, failed_key, pending, advices, is_ok_ack, handled, own_approval, count_of, add_made, reverses_key, IsIn}
 use Rattle.network_law.specs.Decision.{decide, fail, fail_all, failing, send_all, due_advices, standin, standin_code, keep, reply, reply_output}
-use Rattle.network_law.specs.Runs.{HasLengths}
+use Rattle.network_law.proofs.ReadRuns.{HasLengths}
 use Rattle.network_law.specs.Claims.{has_reversal}
 use Rattle.network_law.proofs.Emits.{standing, keep_keeps, fail_all_keeps, stays_open, key_eq_refl, decide_keeps, failing_ticks, FailsNow}
 use Rattle.network_law.proofs.Node.{NodeFacts, keeps_issuers, answers_is, response_is_of_kind}
@@ -31,7 +31,7 @@ record Marked (t : Network) (n : ℕ) (k : Key) (op : Opening) (h : History) : T
   opens : opening t h k ≡ Some op
   mark : (answer h k ≡ None) ⊎ (has_reversal t n h k ≡ true)
 
-marked_out : (t : Network) (n : ℕ) (k : Key) (op : Opening) (i : Input) (o : Output) (h : History) → is_timer i ≡ true → HasLengths op.message → is_request op.message.kind ≡ true → key_of op.message ≡ k → Marked t n k op h → Marked t n k op (Out i o ∷ h)
+marked_out : (t : Network) (n : ℕ) (k : Key) (op : Opening) (i : ReadInput) (o : ReadOutput) (h : History) → is_timer i ≡ true → HasLengths op.message → is_request op.message.kind ≡ true → key_of op.message ≡ k → Marked t n k op h → Marked t n k op (Out i o ∷ h)
 unfolding opening answer has_reversal advices
 marked_out t n k op i o h timer len r key q = record { opens = Marked.opens q; mark = ⊎_elim fresh (λ rev. inr (reversal_more t n (Out i o) h k rev)) (Marked.mark q) }
   where
@@ -50,7 +50,7 @@ marked_out t n k op i o h timer len r key q = record { opens = Marked.opens q; m
             (made_added t n (count_of h) k (option_and_then (opening t h) (failed_key t h i (sent o))) op (advices t n h) found len r key)))
 
 -- answered
-pub answered_out : (k : Key) (i : Input) (o : Output) (h : History) → is_some (answer h k) ≡ true → is_some (answer (Out i o ∷ h) k) ≡ true
+pub answered_out : (k : Key) (i : ReadInput) (o : ReadOutput) (h : History) → is_some (answer h k) ≡ true → is_some (answer (Out i o ∷ h) k) ≡ true
 unfolding answer
 answered_out k i o h e = go (answer h k) e
   where
@@ -58,7 +58,7 @@ answered_out k i o h e = go (answer h k) e
     go None e = cc
     go (Some a) e = refl
 
-module _ (t : Network) (n : ℕ) (past : History) (i : Input) (facts : NodeFacts t n past) (timer : is_timer i ≡ true) (k : Key) (op : Opening) (was : opening t past k ≡ Some op) (ticks : is_some (ticks_by t (forwarded past k) (asked past k)) ≡ true) where
+module _ (t : Network) (n : ℕ) (past : History) (i : ReadInput) (facts : NodeFacts t n past) (timer : is_timer i ≡ true) (k : Key) (op : Opening) (was : opening t past k ≡ Some op) (ticks : is_some (ticks_by t (forwarded past k) (asked past k)) ≡ true) where
   answered : History → Type 0
   answered h = is_some (answer h k) ≡ true
 
@@ -105,17 +105,17 @@ marked_reverses t n k op h q e = ⊎_elim (λ none. absurd (no (ap is_some (sym 
         bad z = cc
 
 -- where k fails, its reversal is made
-pub fails_made : (t : Network) (n : ℕ) (past : History) (i : Input) (k : Key) (op : Opening) → NodeFacts t n past → opening t past k ≡ Some op → answer past k ≡ None → IsIn k (failing t past i) → is_timer i ≡ true → has_reversal t n (decide t n past i) k ≡ true
+pub fails_made : (t : Network) (n : ℕ) (past : History) (i : ReadInput) (k : Key) (op : Opening) → NodeFacts t n past → opening t past k ≡ Some op → answer past k ≡ None → IsIn k (failing t past i) → is_timer i ≡ true → has_reversal t n (decide t n past i) k ≡ true
 unfolding decide answer
 fails_made t n past i k op facts was none m timer = go i m timer
   where
     w : Rattle.network_law.proofs.Node.Opened t n past k op
     w = facts.opens k op was
 
-    marked : (j : Input) → is_timer j ≡ true → Marked t n k op (decide t n past j)
+    marked : (j : ReadInput) → is_timer j ≡ true → Marked t n k op (decide t n past j)
     marked j tm = decide_keeps t n past j (Marked t n k op) (λ h o q _. marked_out t n k op j o h tm w.formed w.request w.key q) (keeps_issuers t n past facts) (record { opens = stays_open t past j k op was; mark = inl none })
 
-    go : (j : Input) → IsIn k (failing t past j) → is_timer j ≡ true → has_reversal t n (decide t n past j) k ≡ true
+    go : (j : ReadInput) → IsIn k (failing t past j) → is_timer j ≡ true → has_reversal t n (decide t n past j) k ≡ true
     go (LinkDown l) m tm = marked_reverses t n k op (decide t n past (LinkDown l)) (marked (LinkDown l) tm) (all_answered t n past (LinkDown l) facts tm k op was (failing_ticks t past (LinkDown l) k m).0 (failing t past (LinkDown l)) (In (LinkDown l) ∷ past) m (failing_ticks t past (LinkDown l)))
     go Tick m tm = marked_reverses t n k op (decide t n past Tick) (marked Tick tm) (all_answered t n past Tick facts tm k op was (failing_ticks t past Tick k m).0 (failing t past Tick) (send_all t n Tick (due_advices t n past) (In Tick ∷ past)) m (failing_ticks t past Tick))
     go (Rattle.network_law.specs.Traces.Enter x) m tm = cc

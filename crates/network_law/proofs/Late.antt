@@ -6,10 +6,11 @@ use Rattle.std.specs.Option.{option_or, option_and_then}
 use Rattle.std.specs.List.{list_any}
 use Rattle.net_rows.specs.Network.{Network, issuer}
 use Rattle.network_law.specs.Tables.{is_home, node_id}
-use Rattle.network_law.specs.Traces.{Source, ByLink, Input, Enter, Take, LinkUp, LinkDown, Tick, HostAnswer, NewDate, Output, Event, In, Out, History, Handled, handled, Opening, opening, answer, answers, sent, is_00_of, brings_00, own_approval, Advice, advices, add_advice, add_made, add_accepted, acked_by, has_identity, reverses_key, late_key, code_is_not_00, failed_key, is_ok_ack, is_ack_kind, as_kept, is_timer, is_link, forwarded, forwards, pending, count_of, known, date_of}
+use Rattle.network_law.specs.Traces.{Source, ByLink, ReadInput, Enter, Take, LinkUp, LinkDown, Tick, HostAnswer, NewDate, ReadOutput, Event, In, Out, History, Handled, handled, Opening, opening, answer, answers, sent, is_00_of, brings_00, own_approval, Advice, advices, add_advice, add_made, add_accepted, acked_by, has_identity, reverses_key, late_key, code_is_not_00, failed_key, is_ok_ack, is_ack_kind, as_kept, is_timer, is_link, forwarded, forwards, pending, count_of, known, date_of}
 use Rattle.network_law.specs.Decision.{decide, reply, reply_output, sent_kind, standin_code, on_answer, on_code, on_reversal, on_handled, answer_pending, other_content}
 use Rattle.network_law.specs.Refusals.{refusal}
-use Rattle.network_law.specs.Runs.{IsRun, IsFormed, Entry, history, Legal, HasLengths}
+use Rattle.network_law.specs.Entries.{ReadEntry, read_history}
+use Rattle.network_law.proofs.ReadRuns.{IsReadRun, IsFormed, IsLegalRead, HasLengths}
 use Rattle.network_law.specs.Claims.{answered_by, takes_00, took_00, takes_answer, has_reversal, LateApprovalsUndone}
 use Rattle.network_law.proofs.Emits.{Allowed, forwarding, asking, standing_in, passing, declining, repeating, refusing, acking, sending, posting, OpenedFirst, Failed, Reversing, ViaLink, ViaHost, Kept, accepting, handled_as, decide_keeps, keep_keeps, key_eq_refl, key_eq_is, bytes_eq_refl, bytes_eq_is, stays_open, ask_key_asked, is_kept_group}
 use Rattle.network_law.proofs.Node.{NodeFacts, EntryFacts, Opened, legal_facts, facts_in, facts_out, keeps_issuers, answer_no_request, answer_is, answers_is, response_is_of_kind, forwarded_has, asked_has, Sent}
@@ -37,7 +38,7 @@ none_some x p = cc
 
 -- reversals stay
 
-acked_reverses : (k : Key) (i : Input) (a : Advice) → reverses_key k (acked_by i a) ≡ reverses_key k a
+acked_reverses : (k : Key) (i : ReadInput) (a : Advice) → reverses_key k (acked_by i a) ≡ reverses_key k a
 acked_reverses k (Take l s m) a = refl
 acked_reverses k (Enter m) a = refl
 acked_reverses k (LinkUp l) a = refl
@@ -46,7 +47,7 @@ acked_reverses k Tick a = refl
 acked_reverses k (HostAnswer b c) a = refl
 acked_reverses k (NewDate d) a = refl
 
-any_acked : (k : Key) (i : Input) (as' : List Advice) → list_any (reverses_key k) (map (acked_by i) as') ≡ list_any (reverses_key k) as'
+any_acked : (k : Key) (i : ReadInput) (as' : List Advice) → list_any (reverses_key k) (map (acked_by i) as') ≡ list_any (reverses_key k) as'
 any_acked k i [] = refl
 any_acked k i (a ∷ as') = ap (λ b. b || list_any (reverses_key k) (map (acked_by i) as')) (acked_reverses k i a) ∙ ap (λ b. reverses_key k a || b) (any_acked k i as')
 
@@ -84,7 +85,7 @@ made_added t n count k o op as' e len r key = rw e (added_reverses k (record { m
 
 -- answers
 
-pub answered_more : (h : History) (i : Input) (o : Output) (k : Key) (j : Input) → answered_by h k ≡ Some j → answered_by (Out i o ∷ h) k ≡ Some j
+pub answered_more : (h : History) (i : ReadInput) (o : ReadOutput) (k : Key) (j : ReadInput) → answered_by h k ≡ Some j → answered_by (Out i o ∷ h) k ≡ Some j
 unfolding answered_by
 answered_more h i o k j e = rw e refl
 
@@ -95,7 +96,7 @@ answer_when [] k e = refl
 answer_when (In i ∷ h) k e = answer_when h k e
 answer_when (Out i o ∷ h) k e = go (answered_by h k) refl (answer_when h k) e
   where
-    go : (w : Option Input) → answered_by h k ≡ w → (answered_by h k ≡ None → answer h k ≡ None) → option_or (answered_by h k) (cond (is_some (answers k (sent o))) (Some i) None) ≡ None → option_or (answer h k) (answers k (sent o)) ≡ None
+    go : (w : Option ReadInput) → answered_by h k ≡ w → (answered_by h k ≡ None → answer h k ≡ None) → option_or (answered_by h k) (cond (is_some (answers k (sent o))) (Some i) None) ≡ None → option_or (answer h k) (answers k (sent o)) ≡ None
     go (Some j) at rest e = absurd (none_some j (sym (rw at at e)))
     go None at rest e = rw (rest at) (none (answers k (sent o)) (rw at at e))
       where
@@ -103,13 +104,13 @@ answer_when (Out i o ∷ h) k e = go (answered_by h k) refl (answer_when h k) e
         none None e = refl
         none (Some a) e = absurd (none_some i (sym e))
 
-pub when_answer : (h : History) (k : Key) (j : Input) → answered_by h k ≡ Some j → (a : Fields) × (answer h k ≡ Some a)
+pub when_answer : (h : History) (k : Key) (j : ReadInput) → answered_by h k ≡ Some j → (a : Fields) × (answer h k ≡ Some a)
 unfolding answered_by answer
 when_answer [] k j e = absurd (none_some j e)
 when_answer (In i ∷ h) k j e = when_answer h k j e
 when_answer (Out i o ∷ h) k j e = go (answer h k) refl (answered_by h k) refl (when_answer h k)
   where
-    go : (w : Option Fields) → answer h k ≡ w → (v : Option Input) → answered_by h k ≡ v → ((j' : Input) → answered_by h k ≡ Some j' → (a : Fields) × (answer h k ≡ Some a)) → (a : Fields) × (option_or (answer h k) (answers k (sent o)) ≡ Some a)
+    go : (w : Option Fields) → answer h k ≡ w → (v : Option ReadInput) → answered_by h k ≡ v → ((j' : ReadInput) → answered_by h k ≡ Some j' → (a : Fields) × (answer h k ≡ Some a)) → (a : Fields) × (option_or (answer h k) (answers k (sent o)) ≡ Some a)
     go (Some a) at v at' rest = (a, rw at refl)
     go None at (Some j') at' rest = let r = rest j' at' in absurd (none_some r.0 (sym at ∙ r.1))
     go None at None at' rest = rw at (some (answers k (sent o)) (rw at' at e))
@@ -121,18 +122,18 @@ when_answer (Out i o ∷ h) k j e = go (answer h k) refl (answered_by h k) refl 
 -- the state of an answered key that was forwarded
 
 -- answered by a 0110 whose code isn't 00
-pub record Other (h : History) (k : Key) (j : Input) : Type 0 where
+pub record Other (h : History) (k : Key) (j : ReadInput) : Type 0 where
   pub takes : takes_answer k j ≡ true
   pub code : code_is_not_00 (answer h k) ≡ true
 
-abbrev pub Settled : Network → ℕ → History → Key → Input → Type 0
+abbrev pub Settled : Network → ℕ → History → Key → ReadInput → Type 0
 Settled t n h k j = (takes_00 h k j ≡ true) ⊎ (Other h k j ⊎ (has_reversal t n h k ≡ true))
 
 abbrev pub AllSettled : Network → ℕ → History → Type 0
-AllSettled t n h = (k : Key) (l : ℕ) (j : Input) → forwarded h k ≡ Some l → answered_by h k ≡ Some j → Settled t n h k j
+AllSettled t n h = (k : Key) (l : ℕ) (j : ReadInput) → forwarded h k ≡ Some l → answered_by h k ≡ Some j → Settled t n h k j
 
 -- what is accepted in this entry
-pub record Accepting (t : Network) (n : ℕ) (past : History) (i : Input) (k : Key) : Type 0 where
+pub record Accepting (t : Network) (n : ℕ) (past : History) (i : ReadInput) (k : Key) : Type 0 where
   pub message : Fields
   pub source : Source
   pub is_handled : handled_as t past i message source
@@ -144,16 +145,16 @@ pub record Accepting (t : Network) (n : ℕ) (past : History) (i : Input) (k : K
   pub unknown : known t n past (identity_of message) ≡ false
 
 abbrev OpenAnswers : Network → History → Type 0
-OpenAnswers t h = (k : Key) (j : Input) → answered_by h k ≡ Some j → (op : Opening) × (opening t h k ≡ Some op)
+OpenAnswers t h = (k : Key) (j : ReadInput) → answered_by h k ≡ Some j → (op : Opening) × (opening t h k ≡ Some op)
 
-record EntryLate (t : Network) (n : ℕ) (past : History) (i : Input) (h : History) : Type 0 where
+record EntryLate (t : Network) (n : ℕ) (past : History) (i : ReadInput) (h : History) : Type 0 where
   entry : EntryFacts t n past i h
   forwarded_stays : (k : Key) (l : ℕ) → forwarded past k ≡ Some l → forwarded h k ≡ Some l
   answer_stays : (k : Key) (a : Fields) → answer past k ≡ Some a → answer h k ≡ Some a
   open_answers : OpenAnswers t h
-  settled : (k : Key) (l : ℕ) (j : Input) → forwarded h k ≡ Some l → answered_by h k ≡ Some j → Settled t n h k j ⊎ Accepting t n past i k
+  settled : (k : Key) (l : ℕ) (j : ReadInput) → forwarded h k ≡ Some l → answered_by h k ≡ Some j → Settled t n h k j ⊎ Accepting t n past i k
 
-record NewAnswer (i : Input) (o : Output) (k : Key) : Type 0 where
+record NewAnswer (i : ReadInput) (o : ReadOutput) (k : Key) : Type 0 where
   message : Fields
   is : sent o ≡ Some message
   answer_kind : is_answer message.kind ≡ true
@@ -161,12 +162,12 @@ record NewAnswer (i : Input) (o : Output) (k : Key) : Type 0 where
   not_94 : bytes_eq (code_of message) code_94 ≡ false
   again : answers k (sent o) ≡ Some message
 
-new_answer_is : (i : Input) (o : Output) (k : Key) (a : Fields) → answers k (sent o) ≡ Some a → NewAnswer i o k
+new_answer_is : (i : ReadInput) (o : ReadOutput) (k : Key) (a : Fields) → answers k (sent o) ≡ Some a → NewAnswer i o k
 new_answer_is i o k a e =
     let p = answers_is k (sent o) a e in
     record { message = a; is = p.0; answer_kind = p.1; key = p.2; not_94 = Rattle.network_law.proofs.Codes.answers_not_94 k (sent o) a e; again = e }
 
-module _ (t : Network) (n : ℕ) (past : History) (i : Input) (facts : NodeFacts t n past) (h : History) (o : Output) (q : EntryLate t n past i h) (allowed : Allowed t n past i h o) where
+module _ (t : Network) (n : ℕ) (past : History) (i : ReadInput) (facts : NodeFacts t n past) (h : History) (o : ReadOutput) (q : EntryLate t n past i h) (allowed : Allowed t n past i h o) where
   -- the key of an opening's response
   key_through : (op : Opening) (key k : Key) (c : Bytes) (w : NewAnswer i o k) → opening t (In i ∷ past) key ≡ Some op → response op.message c ≡ w.message → (key ≡ k) × (opening t h key ≡ Some op) × (is_request op.message.kind ≡ true) × HasLengths op.message
   key_through op key k c w is same =
@@ -323,7 +324,7 @@ module _ (t : Network) (n : ℕ) (past : History) (i : Input) (facts : NodeFacts
       go (posting f) = absurd (none_some w.message (ap sent (sym f.is) ∙ w.is))
 
   -- a new forward is of a key that isn't answered
-  new_forward : (k : Key) (l : ℕ) → OpenAnswers t past → forwards k o ≡ Some l → (j : Input) → answered_by h k ≡ Some j → ⊥
+  new_forward : (k : Key) (l : ℕ) → OpenAnswers t past → forwards k o ≡ Some l → (j : ReadInput) → answered_by h k ≡ Some j → ⊥
   unfolding answered_by
   new_forward k l before e j a =
       let r = Rattle.network_law.proofs.Node.forwards_is k o l e in
@@ -333,11 +334,11 @@ module _ (t : Network) (n : ℕ) (past : History) (i : Input) (facts : NodeFacts
       let was = before k j (subst (λ z. answered_by z k ≡ Some j) f.first a) in
       none_some was.0 (sym f.fresh ∙ (ap (opening t past) key ∙ was.1))
 
-  settled_more : (k : Key) (l : ℕ) (j : Input) → forwarded h k ≡ Some l → answered_by h k ≡ Some j → Settled t n h k j → Settled t n (Out i o ∷ h) k j
+  settled_more : (k : Key) (l : ℕ) (j : ReadInput) → forwarded h k ≡ Some l → answered_by h k ≡ Some j → Settled t n h k j → Settled t n (Out i o ∷ h) k j
   unfolding answer
   settled_more k l j fw an (inl takes) = inl (more j takes)
     where
-      more : (j : Input) → takes_00 h k j ≡ true → takes_00 (Out i o ∷ h) k j ≡ true
+      more : (j : ReadInput) → takes_00 h k j ≡ true → takes_00 (Out i o ∷ h) k j ≡ true
       more (Take l' s m) e = rw (forwarded_more h i o k l fw) (rw fw at e)
       more (Enter m) e = e
       more (LinkUp k) e = e
@@ -367,18 +368,18 @@ module _ (t : Network) (n : ℕ) (past : History) (i : Input) (facts : NodeFacts
       answer_kept : (k : Key) (a : Fields) → answer h k ≡ Some a → option_or (answer h k) (answers k (sent o)) ≡ Some a
       answer_kept k a e = rw e refl
 
-      is_new : (k : Key) (j : Input) → cond (is_some (answers k (sent o))) (Some i) None ≡ Some j → (a : Fields) × (answers k (sent o) ≡ Some a) × (i ≡ j)
+      is_new : (k : Key) (j : ReadInput) → cond (is_some (answers k (sent o))) (Some i) None ≡ Some j → (a : Fields) × (answers k (sent o) ≡ Some a) × (i ≡ j)
       is_new k j e = go (answers k (sent o)) refl e
         where
           go : (w : Option Fields) → answers k (sent o) ≡ w → cond (is_some (answers k (sent o))) (Some i) None ≡ Some j → (a : Fields) × (answers k (sent o) ≡ Some a) × (i ≡ j)
           go None at e = absurd (none_some j (rw at at e))
           go (Some a) at e = (a, at, same_Some i j (rw at at e))
 
-      opened_then : (k : Key) (j : Input) (w : Option Input) → answered_by h k ≡ w → option_or (answered_by h k) (cond (is_some (answers k (sent o))) (Some i) None) ≡ Some j → (op : Opening) × (opening t h k ≡ Some op)
+      opened_then : (k : Key) (j : ReadInput) (w : Option ReadInput) → answered_by h k ≡ w → option_or (answered_by h k) (cond (is_some (answers k (sent o))) (Some i) None) ≡ Some j → (op : Opening) × (opening t h k ≡ Some op)
       opened_then k j (Some j') at e = q.open_answers k j' at
       opened_then k j None at e = let x = is_new k j (rw at at e) in new_open k (new_answer_is i o k x.0 x.1) at
 
-      settled_then : (k : Key) (l : ℕ) (j : Input) (f : Option ℕ) → forwarded h k ≡ f → (w : Option Input) → answered_by h k ≡ w → option_or (forwarded h k) (forwards k o) ≡ Some l → option_or (answered_by h k) (cond (is_some (answers k (sent o))) (Some i) None) ≡ Some j → Settled t n (Out i o ∷ h) k j ⊎ Accepting t n past i k
+      settled_then : (k : Key) (l : ℕ) (j : ReadInput) (f : Option ℕ) → forwarded h k ≡ f → (w : Option ReadInput) → answered_by h k ≡ w → option_or (forwarded h k) (forwards k o) ≡ Some l → option_or (answered_by h k) (cond (is_some (answers k (sent o))) (Some i) None) ≡ Some j → Settled t n (Out i o ∷ h) k j ⊎ Accepting t n past i k
       settled_then k l j (Some l') at (Some j') at' fw an =
           let same : j' ≡ j = same_Some _ _ (rw at' at an) in
           ⊎_elim (λ s. inl (settled_more k l' j at (at' ∙ ap Some same) s)) inr (q.settled k l' j at (at' ∙ ap Some same))
@@ -427,7 +428,7 @@ pub kept_reversal : (m : Fields) → group m.kind ≡ groups.Reversal → (is_04
 unfolding key_of
 kept_reversal m g = let r = reversal_04xx m.kind g in (rw r refl, rw r refl)
 
-pub handled_in : (t : Network) (past : History) (i : Input) → handled t (In i ∷ past) i ≡ handled t past i
+pub handled_in : (t : Network) (past : History) (i : ReadInput) → handled t (In i ∷ past) i ≡ handled t past i
 unfolding handled date_of
 handled_in t past (Enter m) = refl
 handled_in t past (Take l s m) = refl
@@ -437,7 +438,7 @@ handled_in t past Tick = refl
 handled_in t past (HostAnswer a c) = refl
 handled_in t past (NewDate d) = refl
 
-pub handled_out : (t : Network) (h : History) (i j : Input) (o : Output) → handled t (Out j o ∷ h) i ≡ handled t h i
+pub handled_out : (t : Network) (h : History) (i j : ReadInput) (o : ReadOutput) → handled t (Out j o ∷ h) i ≡ handled t h i
 unfolding handled date_of
 handled_out t h (Enter m) j o = refl
 handled_out t h (Take l s m) j o = refl
@@ -450,7 +451,7 @@ handled_out t h (NewDate d) j o = refl
 accept_adds : (count : ℕ) (b : Bool) (o : Option Handled) (m : Fields) (src : Source) (as' : List Advice) → b ≡ true → o ≡ Some (record { message = m; source = src }) → group m.kind ≡ groups.Reversal → list_any (reverses_key (key_of m)) (add_accepted count b o as') ≡ true
 accept_adds count b o m src as' yes' e g = rw (yes', e, g) (added_reverses (key_of m) (record { message = as_kept m; count = count; own = false; acked = false }) as' (kept_reversal m g).0 (kept_reversal m g).1)
 
-accepted_now : (t : Network) (n : ℕ) (past : History) (i : Input) (h : History) (m : Fields) (src : Source) → handled t h i ≡ Some (record { message = m; source = src }) → group m.kind ≡ groups.Reversal → has_reversal t n (reply i src (response m code_00) h) (key_of m) ≡ true
+accepted_now : (t : Network) (n : ℕ) (past : History) (i : ReadInput) (h : History) (m : Fields) (src : Source) → handled t h i ≡ Some (record { message = m; source = src }) → group m.kind ≡ groups.Reversal → has_reversal t n (reply i src (response m code_00) h) (key_of m) ≡ true
 unfolding has_reversal advices
 accepted_now t n past i h m src e g =
     let kind : is_ack_kind (group (response m code_00).kind) ≡ true = ap (λ z. is_ack_kind (group z)) (response_is_of_kind m code_00) ∙ ack_kind_of m.kind g in
@@ -458,7 +459,7 @@ accepted_now t n past i h m src e g =
     let ack : is_ok_ack (sent (reply_output src (response m code_00) h)) ≡ true = ap is_ok_ack (sent_reply src (response m code_00) h) ∙ (rw (kind, code) refl) in
     accept_adds (count_of h) (is_ok_ack (sent (reply_output src (response m code_00) h))) (handled t h i) m src _ ack e g
 
-accepted_by_reversal : (t : Network) (n : ℕ) (past : History) (i : Input) (k : Key) (a : Accepting t n past i k) → has_reversal t n (on_reversal t n past i a.message a.source) k ≡ true
+accepted_by_reversal : (t : Network) (n : ℕ) (past : History) (i : ReadInput) (k : Key) (a : Accepting t n past i k) → has_reversal t n (on_reversal t n past i a.message a.source) k ≡ true
 unfolding on_reversal
 accepted_by_reversal t n past i k a =
     rw (a.good, a.issued, a.same, a.unknown)
@@ -474,10 +475,10 @@ accepted_by_reversal t n past i k a =
     handled_before true None = handled_in t past i ∙ a.is_handled
     handled_before false o = handled_in t past i ∙ a.is_handled
 
-on_handled_reversal : (t : Network) (n : ℕ) (past : History) (i : Input) (o : Option Handled) (m : Fields) (src : Source) → o ≡ Some (record { message = m; source = src }) → group m.kind ≡ groups.Reversal → on_handled t n past i o ≡ on_reversal t n past i m src
+on_handled_reversal : (t : Network) (n : ℕ) (past : History) (i : ReadInput) (o : Option Handled) (m : Fields) (src : Source) → o ≡ Some (record { message = m; source = src }) → group m.kind ≡ groups.Reversal → on_handled t n past i o ≡ on_reversal t n past i m src
 on_handled_reversal t n past i o m src e g = rw (e, g) refl
 
-accepted_then : (t : Network) (n : ℕ) (past : History) (i : Input) (k : Key) → Accepting t n past i k → has_reversal t n (decide t n past i) k ≡ true
+accepted_then : (t : Network) (n : ℕ) (past : History) (i : ReadInput) (k : Key) → Accepting t n past i k → has_reversal t n (decide t n past i) k ≡ true
 unfolding decide handled
 accepted_then t n past (Enter m) k a = subst (λ h. has_reversal t n h k ≡ true) (sym (on_handled_reversal t n past (Enter m) (handled t past (Enter m)) a.message a.source a.is_handled a.reversal)) (accepted_by_reversal t n past (Enter m) k a)
 accepted_then t n past (Take l s m) k a = subst (λ h. has_reversal t n h k ≡ true) (sym (on_handled_reversal t n past (Take l s m) (handled t past (Take l s m)) a.message a.source a.is_handled a.reversal)) (accepted_by_reversal t n past (Take l s m) k a)
@@ -490,14 +491,14 @@ accepted_then t n past (NewDate d) k a = absurd (none_some _ a.is_handled)
 -- the invariant through an entry
 
 pub record LateFacts (t : Network) (n : ℕ) (h : History) : Type 0 where
-  pub open_answers : (k : Key) (j : Input) → answered_by h k ≡ Some j → (op : Opening) × (opening t h k ≡ Some op)
-  pub settled : (k : Key) (l : ℕ) (j : Input) → forwarded h k ≡ Some l → answered_by h k ≡ Some j → Settled t n h k j
-  pub took : (k : Key) → took_00 h k ≡ true → ((j : Input) × (answered_by h k ≡ Some j) × (takes_00 h k j ≡ true)) ⊎ (has_reversal t n h k ≡ true)
+  pub open_answers : (k : Key) (j : ReadInput) → answered_by h k ≡ Some j → (op : Opening) × (opening t h k ≡ Some op)
+  pub settled : (k : Key) (l : ℕ) (j : ReadInput) → forwarded h k ≡ Some l → answered_by h k ≡ Some j → Settled t n h k j
+  pub took : (k : Key) → took_00 h k ≡ true → ((j : ReadInput) × (answered_by h k ≡ Some j) × (takes_00 h k j ≡ true)) ⊎ (has_reversal t n h k ≡ true)
 
 abbrev Good : Network → ℕ → History → Key → Type 0
-Good t n h k = ((j : Input) × (answered_by h k ≡ Some j) × (takes_00 h k j ≡ true)) ⊎ (has_reversal t n h k ≡ true)
+Good t n h k = ((j : ReadInput) × (answered_by h k ≡ Some j) × (takes_00 h k j ≡ true)) ⊎ (has_reversal t n h k ≡ true)
 
-takes_forwarded : (h h' : History) (k : Key) (j : Input) → ((l : ℕ) → forwarded h k ≡ Some l → forwarded h' k ≡ Some l) → takes_00 h k j ≡ true → takes_00 h' k j ≡ true
+takes_forwarded : (h h' : History) (k : Key) (j : ReadInput) → ((l : ℕ) → forwarded h k ≡ Some l → forwarded h' k ≡ Some l) → takes_00 h k j ≡ true → takes_00 h' k j ≡ true
 takes_forwarded h h' k (Take l s m) stays e =
     let p = and_parts (is_00_of k (Some m)) (is_link l (forwarded h k)) e in
     let f : forwarded h k ≡ Some l = Rattle.network_law.proofs.Emits.is_link_is l (forwarded h k) p.1 in
@@ -509,21 +510,21 @@ takes_forwarded h h' k Tick stays e = e
 takes_forwarded h h' k (HostAnswer a c) stays e = e
 takes_forwarded h h' k (NewDate d) stays e = e
 
-good_out : (t : Network) (n : ℕ) (i : Input) (o : Output) (h : History) (k : Key) → Good t n h k → Good t n (Out i o ∷ h) k
+good_out : (t : Network) (n : ℕ) (i : ReadInput) (o : ReadOutput) (h : History) (k : Key) → Good t n h k → Good t n (Out i o ∷ h) k
 good_out t n i o h k (inl g) = inl (g.0, answered_more h i o k g.0 g.1, takes_forwarded h (Out i o ∷ h) k g.0 (λ l e. forwarded_more h i o k l e) g.2)
 good_out t n i o h k (inr r) = inr (reversal_more t n (Out i o) h k r)
 
-good_in : (t : Network) (n : ℕ) (i : Input) (h : History) (k : Key) → Good t n h k → Good t n (In i ∷ h) k
+good_in : (t : Network) (n : ℕ) (i : ReadInput) (h : History) (k : Key) → Good t n h k → Good t n (In i ∷ h) k
 unfolding answered_by forwarded
 good_in t n i h k (inl g) = inl (g.0, g.1, takes_forwarded h (In i ∷ h) k g.0 (λ l e. e) g.2)
 good_in t n i h k (inr r) = inr (reversal_more t n (In i) h k r)
 
-record Late (t : Network) (n : ℕ) (past : History) (i : Input) (h : History) : Type 0 where
+record Late (t : Network) (n : ℕ) (past : History) (i : ReadInput) (h : History) : Type 0 where
   late : EntryLate t n past i h
   good : (k : Key) → Good t n (In i ∷ past) k → Good t n h k
   took_same : (k : Key) → took_00 h k ≡ took_00 (In i ∷ past) k
 
-late_in : (t : Network) (n : ℕ) (past : History) (i : Input) → IsFormed i → refusal t n past i ≡ None → NodeFacts t n past → LateFacts t n past → EntryLate t n past i (In i ∷ past)
+late_in : (t : Network) (n : ℕ) (past : History) (i : ReadInput) → IsFormed i → refusal t n past i ≡ None → NodeFacts t n past → LateFacts t n past → EntryLate t n past i (In i ∷ past)
 unfolding forwarded answer answered_by
 late_in t n past i form ok f before = record {
   entry = record { node = facts_in t n past i form ok f; opening_is = λ k. refl };
@@ -533,7 +534,7 @@ late_in t n past i form ok f before = record {
   settled = λ k l j fw an. inl (settled_in k l j fw (before.settled k l j fw an));
 }
   where
-    settled_in : (k : Key) (l : ℕ) (j : Input) → forwarded past k ≡ Some l → Settled t n past k j → Settled t n (In i ∷ past) k j
+    settled_in : (k : Key) (l : ℕ) (j : ReadInput) → forwarded past k ≡ Some l → Settled t n past k j → Settled t n (In i ∷ past) k j
     settled_in k l j fw (inl takes) = inl (takes_forwarded past (In i ∷ past) k j (λ l e. e) takes)
     settled_in k l j fw (inr (inl other)) = inr (inl (record { takes = other.takes; code = other.code }))
     settled_in k l j fw (inr (inr r)) = inr (inr (reversal_more t n (In i) past k r))
@@ -586,7 +587,7 @@ response_answers K0420 e = cc
 response_answers K0421 e = cc
 response_answers K0430 e = cc
 
-on_answer_is : (t : Network) (n : ℕ) (past : History) (i : Input) (l : ℕ) (m : Fields) (op : Opening) → forwarded past (key_of m) ≡ Some l → opening t past (key_of m) ≡ Some op → answer past (key_of m) ≡ None → bytes_eq (code_of m) code_00 ≡ true → on_answer t n past i m (ByLink l) ≡ reply i op.source (response op.message code_00) (In i ∷ past)
+on_answer_is : (t : Network) (n : ℕ) (past : History) (i : ReadInput) (l : ℕ) (m : Fields) (op : Opening) → forwarded past (key_of m) ≡ Some l → opening t past (key_of m) ≡ Some op → answer past (key_of m) ≡ None → bytes_eq (code_of m) code_00 ≡ true → on_answer t n past i m (ByLink l) ≡ reply i op.source (response op.message code_00) (In i ∷ past)
 unfolding on_answer
 on_answer_is t n past i l m op fw opened' none c =
     on_link (is_link l (forwarded past (key_of m))) link (on_code t n past i (key_of m) (code_of m) code_96 (opening t past (key_of m)))
@@ -625,7 +626,7 @@ taken_pending t n past k l s m f m00 fw none =
 
 -- through an entry
 
-late_decide : (t : Network) (n : ℕ) (past : History) (i : Input) → IsFormed i → refusal t n past i ≡ None → NodeFacts t n past → LateFacts t n past → LateFacts t n (decide t n past i)
+late_decide : (t : Network) (n : ℕ) (past : History) (i : ReadInput) → IsFormed i → refusal t n past i ≡ None → NodeFacts t n past → LateFacts t n past → LateFacts t n (decide t n past i)
 unfolding took_00
 late_decide t n past i form ok f before = record {
   open_answers = λ k j e. EntryLate.open_answers (Late.late done) k j e;
@@ -639,7 +640,7 @@ late_decide t n past i form ok f before = record {
         (keeps_issuers t n past f)
         (record { late = late_in t n past i form ok f before; good = λ k g. g; took_same = λ k. refl })
 
-    now : (j : Input) → i ≡ j → (k : Key) → takes_00 past k j ≡ true → Good t n (decide t n past i) k
+    now : (j : ReadInput) → i ≡ j → (k : Key) → takes_00 past k j ≡ true → Good t n (decide t n past i) k
     now (Take l s m) is k e = by_answer (answered_by past k) refl
       where
         p : (is_00_of k (Some m) ≡ true) × (is_link l (forwarded past k) ≡ true)
@@ -648,7 +649,7 @@ late_decide t n past i form ok f before = record {
         fw : forwarded past k ≡ Some l
         fw = Rattle.network_law.proofs.Emits.is_link_is l (forwarded past k) p.1
 
-        by_answer : (w : Option Input) → answered_by past k ≡ w → Good t n (decide t n past i) k
+        by_answer : (w : Option ReadInput) → answered_by past k ≡ w → Good t n (decide t n past i) k
         by_answer None at =
             let a : answered_by (decide t n past i) k ≡ Some (Take l s m) = ap (λ z. answered_by (decide t n past z) k) is ∙ taken_pending t n past k l s m f p.0 fw at in
             inl (Take l s m, a, takes_forwarded past (decide t n past i) k (Take l s m) (λ l' e'. EntryLate.forwarded_stays (Late.late done) k l' e') e)
@@ -663,20 +664,20 @@ late_decide t n past i form ok f before = record {
     took_then : (k : Key) → (took_00 past k || takes_00 past k i) ≡ true → Good t n (decide t n past i) k
     took_then k e = ⊎_elim (λ was. Late.good done k (good_in t n i past k (before.took k was))) (now i refl k) (or_cases (took_00 past k) (takes_00 past k i) e)
 
-pub legal_late : (t : Network) (n : ℕ) (es : List Entry) → Legal t n es → LateFacts t n (history es)
-unfolding history answered_by took_00
+pub legal_late : (t : Network) (n : ℕ) (es : List ReadEntry) → IsLegalRead t n es → LateFacts t n (read_history es)
+unfolding read_history answered_by took_00
 legal_late t n [] l = record { open_answers = λ k j e. absurd (none_some j e); settled = λ k l j fw e. absurd (none_some j e); took = λ k e. absurd (not_both false e refl) }
-legal_late t n (e ∷ es) l = subst (LateFacts t n) (sym l.1.outputs) (late_decide t n (history es) e.input l.1.formed l.1.accepted (legal_facts t n es l.0) (legal_late t n es l.0))
+legal_late t n (e ∷ es) l = subst (LateFacts t n) (sym l.1.outputs) (late_decide t n (read_history es) e.input l.1.formed l.1.accepted (legal_facts t n es l.0) (legal_late t n es l.0))
 
-pub LateApprovalsUndone_holds : (t : Network) (traces : ℕ → List Entry) → IsRun t traces → LateApprovalsUndone t (histories traces)
+pub LateApprovalsUndone_holds : (t : Network) (traces : ℕ → List ReadEntry) → IsReadRun t traces → LateApprovalsUndone t (histories traces)
 LateApprovalsUndone_holds t traces run = record {
   taken = λ n k e. (legal_late t n (traces n) (legal_at run n)).took k e;
   answered = λ n l k i fw an no_answer. ⊎_elim (λ takes. absurd (other n k i takes no_answer)) (λ rest. ⊎_elim (λ o. absurd (not_both (takes_answer k i) o.takes no_answer)) (λ r. r) rest) ((legal_late t n (traces n) (legal_at run n)).settled k l i fw an);
 }
   where
-    other : (n : ℕ) (k : Key) (i : Input) → takes_00 (history (traces n)) k i ≡ true → takes_answer k i ≡ false → ⊥
+    other : (n : ℕ) (k : Key) (i : ReadInput) → takes_00 (read_history (traces n)) k i ≡ true → takes_answer k i ≡ false → ⊥
     other n k (Take l s m) e f =
-        let p = and_parts (is_00_of k (Some m)) (is_link l (forwarded (history (traces n)) k)) e in
+        let p = and_parts (is_00_of k (Some m)) (is_link l (forwarded (read_history (traces n)) k)) e in
         let q = and_parts (is_answer m.kind && key_eq (key_of m) k) (bytes_eq (code_of m) code_00) p.0 in
         not_both (is_answer m.kind && key_eq (key_of m) k) q.0 f
     other n k (Enter m) e f = not_both false e refl

@@ -1,4 +1,6 @@
-pub mod Rows
+pub mod ReadRuns
+pub mod Ids
+pub mod Whole
 pub mod Ends
 pub mod Refused
 pub mod Emits
@@ -10,7 +12,6 @@ pub mod Codes
 pub mod Approvals
 pub mod Late
 pub mod Reversals
-mod Rows2
 pub mod Books
 pub mod Fails
 pub mod Accounts
@@ -18,5 +19,8 @@ pub mod Posts
 pub mod Origins
 pub mod Covered
 pub mod Marks
-mod ARun
-mod Premises
+pub mod Plain
+pub mod Written
+pub mod Reading
+pub mod Spelled
+pub mod WorkedRun

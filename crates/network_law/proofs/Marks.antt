@@ -6,11 +6,12 @@ use Rattle.std.specs.Option.{option_or, option_and_then}
 use Rattle.std.specs.List.{list_any}
 use Rattle.net_rows.specs.Network.{Network}
 use Rattle.network_law.specs.Tables.{node_id}
-use Rattle.network_law.specs.Traces.{Input, Enter, Take, LinkUp, LinkDown, Tick, HostAnswer, NewDate, Output, In, Out, History, handled, Opening, opening, opened, with_new, key_handled, answer, answers, sent, own_approval, Advice, advices, add_made, has_identity, failed_key, is_key, is_ok_ack, is_timer, pending, fails, count_of, known, IsIn}
+use Rattle.network_law.specs.Traces.{ReadInput, Enter, Take, LinkUp, LinkDown, Tick, HostAnswer, NewDate, ReadOutput, In, Out, History, handled, Opening, opening, opened, with_new, key_handled, answer, answers, sent, own_approval, Advice, advices, add_made, has_identity, failed_key, is_key, is_ok_ack, is_timer, pending, fails, count_of, known, IsIn}
 use Rattle.network_law.specs.Decision.{decide, failing, send_all, due_advices, sent_kind, standin_code}
 use Rattle.network_law.specs.Refusals.{refusal}
-use Rattle.network_law.specs.Runs.{IsFormed, history}
-use Rattle.network_law.specs.Marks.{marked_failed, FailsAreMarked, FailsAreReversed}
+use Rattle.network_law.specs.Entries.{ReadEntry, read_history}
+use Rattle.network_law.proofs.ReadRuns.{IsLegalRead, IsFormed}
+use Rattle.network_law.specs.Marks.{marked_failed}
 use Rattle.network_law.proofs.Emits.{Allowed, forwarding, asking, standing_in, passing, declining, repeating, refusing, acking, sending, posting, decide_keeps, stays_open, handled_no_timer, key_eq_refl, key_eq_is, failing_ticks}
 use Rattle.network_law.proofs.Node.{NodeFacts, EntryFacts, OpensNow, opening_in_cases, legal_facts, facts_in, facts_out, keeps_issuers, answers_is}
 use Rattle.network_law.proofs.Elements.{response_key}
@@ -57,19 +58,19 @@ opened_in t (In i ∷ h) k op e = by (opening t h k) refl (opened_in t h k)
 
 -- no mark where k doesn't fail
 
-record Unmarked (t : Network) (n : ℕ) (past : History) (i : Input) (k : Key) (h : History) : Type 0 where
+record Unmarked (t : Network) (n : ℕ) (past : History) (i : ReadInput) (k : Key) (h : History) : Type 0 where
   entry : EntryFacts t n past i h
   only : marked_failed t h k ≡ true → fails t past i k ≡ true
 
 -- what the mark of a key says
-record MarkNow (t : Network) (h : History) (i : Input) (o : Output) (k : Key) : Type 0 where
+record MarkNow (t : Network) (h : History) (i : ReadInput) (o : ReadOutput) (k : Key) : Type 0 where
   message : Fields
   is : sent o ≡ Some message
   timer : is_timer i ≡ true
   answer_kind : is_answer message.kind ≡ true
   key : key_of message ≡ k
 
-mark_now : (t : Network) (h : History) (i : Input) (o : Output) (k : Key) → is_key k (failed_key t h i (sent o)) ≡ true → MarkNow t h i o k
+mark_now : (t : Network) (h : History) (i : ReadInput) (o : ReadOutput) (k : Key) → is_key k (failed_key t h i (sent o)) ≡ true → MarkNow t h i o k
 mark_now t h i o k e = by_message (sent o) refl e
   where
     by_test : (y : Fields) → sent o ≡ Some y → (b : Bool) → (is_timer i && is_answer y.kind && pending t h (key_of y)) ≡ b → is_key k (cond (is_timer i && is_answer y.kind && pending t h (key_of y)) (Some (key_of y)) None) ≡ true → MarkNow t h i o k
@@ -83,7 +84,7 @@ mark_now t h i o k e = by_message (sent o) refl e
     by_message None is e = absurd (not_both false (rw is at e) refl)
     by_message (Some y) is e = by_test y is (is_timer i && is_answer y.kind && pending t h (key_of y)) refl (rw is at e)
 
-unmarked_out : (t : Network) (n : ℕ) (past : History) (i : Input) (facts : NodeFacts t n past) (k : Key) (h : History) (o : Output) → Unmarked t n past i k h → Allowed t n past i h o → Unmarked t n past i k (Out i o ∷ h)
+unmarked_out : (t : Network) (n : ℕ) (past : History) (i : ReadInput) (facts : NodeFacts t n past) (k : Key) (h : History) (o : ReadOutput) → Unmarked t n past i k h → Allowed t n past i h o → Unmarked t n past i k (Out i o ∷ h)
 unfolding marked_failed
 unmarked_out t n past i facts k h o q allowed = record {
   entry = facts_out t n past i h o facts (Unmarked.entry q) allowed;
@@ -110,7 +111,7 @@ unmarked_out t n past i facts k h o q allowed = record {
     by_case w (sending f) = ends (is_answer (MarkNow.message w).kind) (MarkNow.answer_kind w) (ap (λ z. is_answer (Fields.kind z)) (sym (same_Some (as_kind (sent_kind (is_04xx f.message.kind) f.again) f.message) (MarkNow.message w) (ap sent (sym f.is) ∙ MarkNow.is w))) ∙ advice_no_answer (is_04xx f.message.kind) f.again)
     by_case w (posting f) = absurd (none_some (MarkNow.message w) (ap sent (sym f.is) ∙ MarkNow.is w))
 
-unmarked_decide : (t : Network) (n : ℕ) (past : History) (i : Input) (k : Key) → IsFormed i → refusal t n past i ≡ None → NodeFacts t n past → marked_failed t (decide t n past i) k ≡ true → fails t past i k ≡ true
+unmarked_decide : (t : Network) (n : ℕ) (past : History) (i : ReadInput) (k : Key) → IsFormed i → refusal t n past i ≡ None → NodeFacts t n past → marked_failed t (decide t n past i) k ≡ true → fails t past i k ≡ true
 unfolding marked_failed
 unmarked_decide t n past i k form ok f e = Unmarked.only q e
   where
@@ -126,7 +127,7 @@ record Marked (t : Network) (n : ℕ) (k : Key) (op : Opening) (h : History) : T
 made_known : (t : Network) (n : ℕ) (count : ℕ) (o : Option Opening) (op : Opening) (as' : List Advice) → o ≡ Some op → list_any (has_identity (identity_of (made_reversal op.message (node_id t n)))) (add_made (λ m. made_reversal m (node_id t n)) count o as') ≡ true
 made_known t n count o op as' e = rw e (added_known (record { message = made_reversal op.message (node_id t n); count = count; own = true; acked = false }) as')
 
-marked_out : (t : Network) (n : ℕ) (k : Key) (op : Opening) (i : Input) (o : Output) (h : History) → is_timer i ≡ true → Marked t n k op h → Marked t n k op (Out i o ∷ h)
+marked_out : (t : Network) (n : ℕ) (k : Key) (op : Opening) (i : ReadInput) (o : ReadOutput) (h : History) → is_timer i ≡ true → Marked t n k op h → Marked t n k op (Out i o ∷ h)
 unfolding opening answer marked_failed advices
 marked_out t n k op i o h timer q = record { opens = Marked.opens q; mark = ⊎_elim fresh (λ m. inr (rw (m.0) refl, known_more t n (Out i o) h (identity_of (made_reversal op.message (node_id t n))) m.1)) (Marked.mark q) }
   where
@@ -148,18 +149,18 @@ marked_out t n k op i o h timer q = record { opens = Marked.opens q; mark = ⊎_
             )
 
 -- a key that fails
-record FailsAt (t : Network) (past : History) (i : Input) (k : Key) : Type 0 where
+record FailsAt (t : Network) (past : History) (i : ReadInput) (k : Key) : Type 0 where
   op : Opening
   opens : opening t past k ≡ Some op
   unanswered : answer past k ≡ None
   timer : is_timer i ≡ true
   member : IsIn k (failing t past i)
 
-fails_at : (t : Network) (past : History) (i : Input) (k : Key) → fails t past i k ≡ true → FailsAt t past i k
+fails_at : (t : Network) (past : History) (i : ReadInput) (k : Key) → fails t past i k ≡ true → FailsAt t past i k
 unfolding failing
 fails_at t past i k e = go (opening t past k) refl (answer past k) refl (parts i e).0
   where
-    parts : (j : Input) → fails t past j k ≡ true → (pending t past k ≡ true) × (is_timer j ≡ true)
+    parts : (j : ReadInput) → fails t past j k ≡ true → (pending t past k ≡ true) × (is_timer j ≡ true)
     parts (LinkDown l) f = ((and_parts (pending t past k) _ f).0, refl)
     parts Tick f = ((and_parts (pending t past k) _ f).0, refl)
     parts (Enter x) f = cc
@@ -176,14 +177,14 @@ fails_at t past i k e = go (opening t past k) refl (answer past k) refl (parts i
 marks_end : (t : Network) (n : ℕ) (k : Key) (op : Opening) (h : History) → Marked t n k op h → is_some (answer h k) ≡ true → (marked_failed t h k ≡ true) × (list_any (has_identity (identity_of (made_reversal op.message (node_id t n)))) (advices t n h) ≡ true)
 marks_end t n k op h q e = ⊎_elim (λ none. absurd (not_both (is_some (answer h k)) e (ap is_some none))) (λ m. m) (Marked.mark q)
 
-fails_decide : (t : Network) (n : ℕ) (past : History) (i : Input) (k : Key) (w : FailsAt t past i k) → NodeFacts t n past → (marked_failed t (decide t n past i) k ≡ true) × (list_any (has_identity (identity_of (made_reversal (Opening.message (FailsAt.op w)) (node_id t n)))) (advices t n (decide t n past i)) ≡ true)
+fails_decide : (t : Network) (n : ℕ) (past : History) (i : ReadInput) (k : Key) (w : FailsAt t past i k) → NodeFacts t n past → (marked_failed t (decide t n past i) k ≡ true) × (list_any (has_identity (identity_of (made_reversal (Opening.message (FailsAt.op w)) (node_id t n)))) (advices t n (decide t n past i)) ≡ true)
 unfolding decide answer
 fails_decide t n past i k w facts = marks_end t n k (FailsAt.op w) (decide t n past i) marked (ends i (FailsAt.timer w) (FailsAt.member w))
   where
     marked : Marked t n k (FailsAt.op w) (decide t n past i)
     marked = decide_keeps t n past i (Marked t n k (FailsAt.op w)) (λ h o q _. marked_out t n k (FailsAt.op w) i o h (FailsAt.timer w) q) (keeps_issuers t n past facts) (record { opens = stays_open t past i k (FailsAt.op w) (FailsAt.opens w); mark = inl (FailsAt.unanswered w) })
 
-    ends : (j : Input) → is_timer j ≡ true → IsIn k (failing t past j) → is_some (answer (decide t n past j) k) ≡ true
+    ends : (j : ReadInput) → is_timer j ≡ true → IsIn k (failing t past j) → is_some (answer (decide t n past j) k) ≡ true
     ends (LinkDown l) tm m = all_answered t n past (LinkDown l) facts tm k (FailsAt.op w) (FailsAt.opens w) (failing_ticks t past (LinkDown l) k m).0 (failing t past (LinkDown l)) (In (LinkDown l) ∷ past) m (failing_ticks t past (LinkDown l))
     ends Tick tm m = all_answered t n past Tick facts tm k (FailsAt.op w) (FailsAt.opens w) (failing_ticks t past Tick k m).0 (failing t past Tick) (send_all t n Tick (due_advices t n past) (In Tick ∷ past)) m (failing_ticks t past Tick)
     ends (Enter x) tm m = cc
@@ -194,17 +195,17 @@ fails_decide t n past i k w facts = marks_end t n k (FailsAt.op w) (decide t n p
 
 -- the laws
 
-pub fails_are_marked : (t : Network) → FailsAreMarked t
-unfolding history
-fails_are_marked t n e es k l = ap (λ h. marked_failed t h k) l.1.outputs ∙ both (marked_failed t (decide t n (history es) e.input) k) (fails t (history es) e.input k) (λ m. unmarked_decide t n (history es) e.input k l.1.formed l.1.accepted (legal_facts t n es l.0) m) (λ f. (fails_decide t n (history es) e.input k (fails_at t (history es) e.input k f) (legal_facts t n es l.0)).0)
+pub fails_are_marked : (t : Network) (n : ℕ) (e : ReadEntry) (es : List ReadEntry) (k : Key) → IsLegalRead t n (e ∷ es) → marked_failed t (read_history (e ∷ es)) k ≡ fails t (read_history es) e.input k
+unfolding read_history
+fails_are_marked t n e es k l = ap (λ h. marked_failed t h k) l.1.outputs ∙ both (marked_failed t (decide t n (read_history es) e.input) k) (fails t (read_history es) e.input k) (λ m. unmarked_decide t n (read_history es) e.input k l.1.formed l.1.accepted (legal_facts t n es l.0) m) (λ f. (fails_decide t n (read_history es) e.input k (fails_at t (read_history es) e.input k f) (legal_facts t n es l.0)).0)
   where
     both : (a b : Bool) → (a ≡ true → b ≡ true) → (b ≡ true → a ≡ true) → a ≡ b
     both true b f g = sym (f refl)
     both false true f g = g refl
     both false false f g = refl
 
-pub fails_are_reversed : (t : Network) → FailsAreReversed t
-unfolding history known
+pub fails_are_reversed : (t : Network) (n : ℕ) (e : ReadEntry) (es : List ReadEntry) (k : Key) → IsLegalRead t n (e ∷ es) → fails t (read_history es) e.input k ≡ true → (op : Opening) × (opening t (read_history es) k ≡ Some op) × (known t n (read_history (e ∷ es)) (identity_of (made_reversal op.message (node_id t n))) ≡ true)
+unfolding read_history known
 fails_are_reversed t n e es k l f =
-    let w = fails_at t (history es) e.input k f in
-    (FailsAt.op w, FailsAt.opens w, ap (λ h. list_any (has_identity (identity_of (made_reversal (Opening.message (FailsAt.op w)) (node_id t n)))) (advices t n h)) l.1.outputs ∙ (fails_decide t n (history es) e.input k w (legal_facts t n es l.0)).1)
+    let w = fails_at t (read_history es) e.input k f in
+    (FailsAt.op w, FailsAt.opens w, ap (λ h. list_any (has_identity (identity_of (made_reversal (Opening.message (FailsAt.op w)) (node_id t n)))) (advices t n h)) l.1.outputs ∙ (fails_decide t n (read_history es) e.input k w (legal_facts t n es l.0)).1)

@@ -2,17 +2,17 @@
 use Rattle.std.proofs.Common.{◌≡◌, ℕ, ◌≤◌, List, [], ◌∷◌, Option, Some, None, is_some, Bool, true, false, not, ◌&&◌, refl, sym, ap, ◌∙◌, subst, inl, inr, ⊎_elim, eqb, unwrap_or, length, ◌⊎◌, bytes_eq}
 use Rattle.std.proofs.lemmas.Bool.{and_parts, ne_eqb, eqb-false}
 use Rattle.std.proofs.lemmas.Option.{same_Some}
-use Rattle.std.specs.Option.{option_or}
 use Rattle.net_rows.specs.Network.{Network, issuer}
 use Rattle.net_rows.specs.declared.row.Issuer.{Issuer}
 use Rattle.network_law.specs.Tables.{is_home, route_links, is_attached}
-use Rattle.network_law.specs.Traces.{Source, Gate, ByLink, Input, Enter, Take, LinkUp, LinkDown, Tick, HostAnswer, NewDate, Output, Put, Answer, Ask, Post, In, Out, History, Handled, handled, Opening, opening, opened_by, answer, answers, sent, forwarded, forwards, asked, asks, ticks_by, count_of, dated, date_of, IsIn, Has}
-use Rattle.network_law.specs.Decision.{decide, reply_output, next_put, sent_kind}
+use Rattle.network_law.specs.Traces.{Source, Gate, ByLink, ReadInput, Enter, Take, LinkUp, LinkDown, Tick, HostAnswer, NewDate, ReadOutput, Put, Answer, Ask, Post, In, Out, History, Handled, handled, Opening, opening, opened_by, answer, answers, sent, forwarded, forwards, asked, asks, ticks_by, count_of, dated, date_of, IsIn, Has}
+use Rattle.network_law.specs.Decision.{decide, reply_output, sent_kind}
 use Rattle.network_law.proofs.Refused.{EnteredFacts, entered_facts}
 use Rattle.network_law.specs.Refusals.{refusal}
-use Rattle.network_law.specs.Runs.{Entry, history, Legal, HasLengths, IsFormed}
+use Rattle.network_law.specs.Entries.{ReadEntry, read_history}
+use Rattle.network_law.proofs.ReadRuns.{IsLegalRead, HasLengths, IsFormed}
 use Rattle.network_law.proofs.Emits.{Allowed, forwarding, asking, standing_in, passing, declining, repeating, refusing, acking, sending, posting, Forwarding, Asking, handled_as, Issued, KeepsIssuers, decide_keeps, stays_open, opening_now, opens_now, key_eq_is}
-use Rattle.network_law.specs.Cards.{Bytes, card_of}
+use Rattle.network_law.specs.Cards.{text_of, Bytes, card_of}
 use Rattle.iso_message.proofs.Changes.{get_set, get_remove}
 use Rattle.iso_message.specs.Fields.{Fields, el, set_element, remove_element, as_kind}
 use Rattle.iso_message.specs.declared.kind.Kind.{Kind}
@@ -121,13 +121,13 @@ reply_asks_nothing (ByLink k) m h a x e = cc
 not_both : (b : Bool) → b ≡ true → b ≡ false → ⊥
 not_both b p q = cc
 
-reply_no_request : (src : Source) (m : Fields) (c : Bytes) (h : History) (o : Output) (l s : ℕ) (x : Fields) → o ≡ reply_output src (response m c) h → o ≡ Put l s x → is_request x.kind ≡ true → ⊥
+reply_no_request : (src : Source) (m : Fields) (c : Bytes) (h : History) (o : ReadOutput) (l s : ℕ) (x : Fields) → o ≡ reply_output src (response m c) h → o ≡ Put l s x → is_request x.kind ≡ true → ⊥
 reply_no_request src m c h o l s x is e r =
     let same : response m c ≡ x = reply_puts src (response m c) h l s x (sym is ∙ e) in
     not_both (is_request x.kind) r (ap (λ z. is_request (Fields.kind z)) (sym same) ∙ (ap is_request (response_is_of_kind m c) ∙ response_no_request m.kind))
 
 -- a request on a link is a forwarding
-pub put_case : (t : Network) (n : ℕ) (past : History) (i : Input) (h : History) (o : Output) (l s : ℕ) (x : Fields) → Allowed t n past i h o → o ≡ Put l s x → is_request x.kind ≡ true → Forwarding t n past i h o
+pub put_case : (t : Network) (n : ℕ) (past : History) (i : ReadInput) (h : History) (o : ReadOutput) (l s : ℕ) (x : Fields) → Allowed t n past i h o → o ≡ Put l s x → is_request x.kind ≡ true → Forwarding t n past i h o
 put_case t n past i h o l s x (forwarding f) e r = f
 put_case t n past i h o l s x (asking f) e r = absurd (no (sym f.is ∙ e))
   where
@@ -151,7 +151,7 @@ put_case t n past i h o l s x (posting f) e r = absurd (no (sym f.is ∙ e))
     no : {b c : ℕ} {m w : Fields} → Post m ≡ Put b c w → ⊥
     no q = cc
 
-pub ask_case : (t : Network) (n : ℕ) (past : History) (i : Input) (h : History) (o : Output) (a : ℕ) (x : Fields) → Allowed t n past i h o → o ≡ Ask a x → Asking t n past i h o
+pub ask_case : (t : Network) (n : ℕ) (past : History) (i : ReadInput) (h : History) (o : ReadOutput) (a : ℕ) (x : Fields) → Allowed t n past i h o → o ≡ Ask a x → Asking t n past i h o
 ask_case t n past i h o a x (forwarding f) e = absurd (no (sym f.is ∙ e))
   where
     no : {a b c : ℕ} {m w : Fields} → Put b c w ≡ Ask a m → ⊥
@@ -198,10 +198,10 @@ pub record Opened (t : Network) (n : ℕ) (h : History) (k : Key) (op : Opening)
   pub from : ((l : ℕ) × (s : ℕ) × (op.input ≡ Take l s op.message) × (op.source ≡ ByLink l)) ⊎ ((m : Fields) × (op.input ≡ Enter m) × (is_attached t n k.acquirer ≡ true))
 
 pub record NodeFacts (t : Network) (n : ℕ) (h : History) : Type 0 where
-  pub puts : (i : Input) (l s : ℕ) (x : Fields) → Has (Out i (Put l s x)) h → is_request x.kind ≡ true → Sent t n h l x
-  pub asks : (i : Input) (a : ℕ) (x : Fields) → Has (Out i (Ask a x)) h → Asked t n h x
-  pub one_put : (i i' : Input) (l s l' s' : ℕ) (x x' : Fields) → Has (Out i (Put l s x)) h → Has (Out i' (Put l' s' x')) h → is_request x.kind ≡ true → is_request x'.kind ≡ true → key_of x ≡ key_of x' → (l ≡ l') × (s ≡ s') × (x ≡ x')
-  pub one_ask : (i i' : Input) (a a' : ℕ) (x x' : Fields) → Has (Out i (Ask a x)) h → Has (Out i' (Ask a' x')) h → key_of x ≡ key_of x' → a ≡ a'
+  pub puts : (i : ReadInput) (l s : ℕ) (x : Fields) → Has (Out i (Put l s x)) h → is_request x.kind ≡ true → Sent t n h l x
+  pub asks : (i : ReadInput) (a : ℕ) (x : Fields) → Has (Out i (Ask a x)) h → Asked t n h x
+  pub one_put : (i i' : ReadInput) (l s l' s' : ℕ) (x x' : Fields) → Has (Out i (Put l s x)) h → Has (Out i' (Put l' s' x')) h → is_request x.kind ≡ true → is_request x'.kind ≡ true → key_of x ≡ key_of x' → (l ≡ l') × (s ≡ s') × (x ≡ x')
+  pub one_ask : (i i' : ReadInput) (a a' : ℕ) (x x' : Fields) → Has (Out i (Ask a x)) h → Has (Out i' (Ask a' x')) h → key_of x ≡ key_of x' → a ≡ a'
   pub opens : (k : Key) (op : Opening) → opening t h k ≡ Some op → Opened t n h k op
 
 no_facts : (t : Network) (n : ℕ) → NodeFacts t n []
@@ -217,24 +217,24 @@ no_facts t n = record {
     no : (k : Key) (op : Opening) → None ≡ Some op → ⊥
     no k op e = cc
 
-in-out : (i j : Input) (o : Output) → In i ≡ Out j o → ⊥
+in-out : (i j : ReadInput) (o : ReadOutput) → In i ≡ Out j o → ⊥
 in-out i j o e = cc
 
-out-in : (i j : Input) (o : Output) → Out j o ≡ In i → ⊥
+out-in : (i j : ReadInput) (o : ReadOutput) → Out j o ≡ In i → ⊥
 out-in i j o e = cc
 
-has_out_below : (i j : Input) (o : Output) (h : History) → Has (Out j o) (In i ∷ h) → Has (Out j o) h
+has_out_below : (i j : ReadInput) (o : ReadOutput) (h : History) → Has (Out j o) (In i ∷ h) → Has (Out j o) h
 has_out_below i j o h (inl e) = absurd (in-out i j o e)
 has_out_below i j o h (inr m) = m
 
 -- what opens a key now
-pub record OpensNow (t : Network) (h : History) (i : Input) (k : Key) (op : Opening) : Type 0 where
+pub record OpensNow (t : Network) (h : History) (i : ReadInput) (k : Key) (op : Opening) : Type 0 where
   pub input : op.input ≡ i
   pub is_handled : handled_as t h i op.message op.source
   pub request : is_request op.message.kind ≡ true
   pub key : key_of op.message ≡ k
 
-opened_by_is : (t : Network) (h : History) (i : Input) (k : Key) (o : Option Handled) (op : Opening) → handled t h i ≡ o → opened_by k (count_of h) i o ≡ Some op → OpensNow t h i k op
+opened_by_is : (t : Network) (h : History) (i : ReadInput) (k : Key) (o : Option Handled) (op : Opening) → handled t h i ≡ o → opened_by k (count_of h) i o ≡ Some op → OpensNow t h i k op
 opened_by_is t h i k None op e f = absurd (no f)
   where
     no : None ≡ Some op → ⊥
@@ -251,7 +251,7 @@ opened_by_is t h i k (Some x) op e f = go (is_request x.message.kind && key_eq (
         no : None ≡ Some op → ⊥
         no p = cc
 
-pub opening_in_cases : (t : Network) (h : History) (i : Input) (k : Key) (op : Opening) → opening t (In i ∷ h) k ≡ Some op → (opening t h k ≡ Some op) ⊎ OpensNow t h i k op
+pub opening_in_cases : (t : Network) (h : History) (i : ReadInput) (k : Key) (op : Opening) → opening t (In i ∷ h) k ≡ Some op → (opening t h k ≡ Some op) ⊎ OpensNow t h i k op
 unfolding opening
 opening_in_cases t h i k op e = go (opening t h k) refl
   where
@@ -279,14 +279,14 @@ pub el_remove : (m : Fields) (k n : ℕ) → eqb n k ≡ false → el (remove_el
 unfolding el
 el_remove m k n d = ap (λ o. unwrap_or o []) (get_remove m k n (other_number n k d))
 
-pub el_dated : (date : Bytes) (m : Fields) (n : ℕ) → eqb n 15 ≡ false → el (dated date m) n ≡ el m n
+pub el_dated : (date : List ℕ) (m : Fields) (n : ℕ) → eqb n 15 ≡ false → el (dated date m) n ≡ el m n
 el_dated date m n d = go (is_request m.kind) refl
   where
     go : (b : Bool) → is_request m.kind ≡ b → el (dated date m) n ≡ el m n
-    go true at = rw at (el_set m 15 n date d)
+    go true at = rw at (el_set m 15 n (text_of date) d)
     go false at = rw at refl
 
-dated_kind : (date : Bytes) (m : Fields) → is_request (dated date m).kind ≡ is_request m.kind
+pub dated_kind : (date : List ℕ) (m : Fields) → is_request (dated date m).kind ≡ is_request m.kind
 unfolding set_element
 dated_kind date m = go (is_request m.kind) refl
   where
@@ -307,11 +307,11 @@ entered_acquirer t h m x src e r =
     let b : el x 32 ≡ el m 32 = ap (λ z. el z 32) (sym a) ∙ (el_dated (date_of t h) (remove_element m 33) 32 refl ∙ el_remove m 33 32 refl) in
     rw (request_no_04xx x.kind r, b) refl
 
-opened_now : (t : Network) (n : ℕ) (h : History) (i : Input) (k : Key) (op : Opening) → IsFormed i → refusal t n h i ≡ None → OpensNow t h i k op → Opened t n (In i ∷ h) k op
+opened_now : (t : Network) (n : ℕ) (h : History) (i : ReadInput) (k : Key) (op : Opening) → IsFormed i → refusal t n h i ≡ None → OpensNow t h i k op → Opened t n (In i ∷ h) k op
 unfolding handled remove_element
 opened_now t n h i k op form ok o = record { has = inl (ap In (sym o.input)); key = o.key; request = o.request; formed = lengths i form o.is_handled; from = from i ok o.is_handled o.input }
   where
-    lengths : (j : Input) → IsFormed j → handled_as t h j op.message op.source → HasLengths op.message
+    lengths : (j : ReadInput) → IsFormed j → handled_as t h j op.message op.source → HasLengths op.message
     lengths (Enter m) form e =
         let a : dated (date_of t h) (remove_element m 33) ≡ op.message = ap (λ (z : Handled). z.message) (same_Some _ _ e) in
         let kind : is_request m.kind ≡ true = sym (ap (λ z. is_request (Fields.kind z)) (sym a) ∙ dated_kind (date_of t h) (remove_element m 33)) ∙ o.request in
@@ -327,7 +327,7 @@ opened_now t n h i k op form ok o = record { has = inl (ap In (sym o.input)); ke
     lengths (HostAnswer a c) form e = cc
     lengths (NewDate d) form e = cc
 
-    from : (j : Input) → refusal t n h j ≡ None → handled_as t h j op.message op.source → op.input ≡ j → ((l : ℕ) × (s : ℕ) × (op.input ≡ Take l s op.message) × (op.source ≡ ByLink l)) ⊎ ((m : Fields) × (op.input ≡ Enter m) × (is_attached t n k.acquirer ≡ true))
+    from : (j : ReadInput) → refusal t n h j ≡ None → handled_as t h j op.message op.source → op.input ≡ j → ((l : ℕ) × (s : ℕ) × (op.input ≡ Take l s op.message) × (op.source ≡ ByLink l)) ⊎ ((m : Fields) × (op.input ≡ Enter m) × (is_attached t n k.acquirer ≡ true))
     from (Enter m) ok e p = inr (m, p, subst (λ z. is_attached t n z ≡ true) (sym (entered_acquirer t h m op.message op.source e o.request) ∙ ap Key.acquirer o.key) (attached t n h m ok))
     from (Take l s m) ok e p =
         let q = same_Some _ _ e in
@@ -341,7 +341,7 @@ opened_now t n h i k op form ok o = record { has = inl (ap In (sym o.input)); ke
     from (NewDate d) ok e p = cc
 
 -- the facts stay through an input
-pub facts_in : (t : Network) (n : ℕ) (h : History) (i : Input) → IsFormed i → refusal t n h i ≡ None → NodeFacts t n h → NodeFacts t n (In i ∷ h)
+pub facts_in : (t : Network) (n : ℕ) (h : History) (i : ReadInput) → IsFormed i → refusal t n h i ≡ None → NodeFacts t n h → NodeFacts t n (In i ∷ h)
 facts_in t n h i form ok f = record {
   puts = λ j l s x has r. more_sent t n h (In i ∷ h) l x (stays_open t h i) (f.puts j l s x (has_out_below i j (Put l s x) h has) r);
   asks = λ j a x has. more_asked t n h (In i ∷ h) x (stays_open t h i) (f.asks j a x (has_out_below i j (Ask a x) h has));
@@ -351,12 +351,12 @@ facts_in t n h i form ok f = record {
 }
 
 -- within an entry
-pub record EntryFacts (t : Network) (n : ℕ) (past : History) (i : Input) (h : History) : Type 0 where
+pub record EntryFacts (t : Network) (n : ℕ) (past : History) (i : ReadInput) (h : History) : Type 0 where
   pub node : NodeFacts t n h
   pub opening_is : (k : Key) → opening t h k ≡ opening t (In i ∷ past) k
 
 -- what is handled in this entry is open in it
-fresh_opening : (t : Network) (n : ℕ) (past : History) (i : Input) (h : History) (o : Output) (e : EntryFacts t n past i h) (f : Forwarding t n past i h o) → opening t h (key_of (as_kind K0100 f.message)) ≡ Some (opening_now past i f.message f.source)
+fresh_opening : (t : Network) (n : ℕ) (past : History) (i : ReadInput) (h : History) (o : ReadOutput) (e : EntryFacts t n past i h) (f : Forwarding t n past i h o) → opening t h (key_of (as_kind K0100 f.message)) ≡ Some (opening_now past i f.message f.source)
 fresh_opening t n past i h o e f = rw (forwarded_key f.message f.request) (e.opening_is (key_of f.message) ∙ opens_now t past i f.message f.source f.is_handled f.request f.fresh)
 
 none_some : {A : Type 0} {a : Option A} {x : A} → a ≡ None → a ≡ Some x → ⊥
@@ -366,19 +366,19 @@ none_some {x = x} p q = go (sym p ∙ q)
     go e = cc
 
 -- a request of a key that wasn't open before this entry's input stands nowhere in the past
-fresh_put : (t : Network) (n : ℕ) (past : History) (i : Input) (h : History) → NodeFacts t n past → h ≡ In i ∷ past → (k : Key) → opening t past k ≡ None → (j : Input) (l s : ℕ) (x : Fields) → Has (Out j (Put l s x)) h → is_request x.kind ≡ true → key_of x ≡ k → ⊥
+fresh_put : (t : Network) (n : ℕ) (past : History) (i : ReadInput) (h : History) → NodeFacts t n past → h ≡ In i ∷ past → (k : Key) → opening t past k ≡ None → (j : ReadInput) (l s : ℕ) (x : Fields) → Has (Out j (Put l s x)) h → is_request x.kind ≡ true → key_of x ≡ k → ⊥
 fresh_put t n past i h facts first k none j l s x has r e =
     let below = has_out_below i j (Put l s x) past (subst (λ z. Has (Out j (Put l s x)) z) first has) in
     let sent' = facts.puts j l s x below r in
     none_some (ap (opening t past) e ∙ none) sent'.is
 
-fresh_ask : (t : Network) (n : ℕ) (past : History) (i : Input) (h : History) → NodeFacts t n past → h ≡ In i ∷ past → (k : Key) → opening t past k ≡ None → (j : Input) (a : ℕ) (x : Fields) → Has (Out j (Ask a x)) h → key_of x ≡ k → ⊥
+fresh_ask : (t : Network) (n : ℕ) (past : History) (i : ReadInput) (h : History) → NodeFacts t n past → h ≡ In i ∷ past → (k : Key) → opening t past k ≡ None → (j : ReadInput) (a : ℕ) (x : Fields) → Has (Out j (Ask a x)) h → key_of x ≡ k → ⊥
 fresh_ask t n past i h facts first k none j a x has e =
     let below = has_out_below i j (Ask a x) past (subst (λ z. Has (Out j (Ask a x)) z) first has) in
     let asked' = facts.asks j a x below in
     none_some (ap (opening t past) e ∙ none) asked'.is
 
-same_out : (i j : Input) (o p : Output) → Out i o ≡ Out j p → o ≡ p
+same_out : (i j : ReadInput) (o p : ReadOutput) → Out i o ≡ Out j p → o ≡ p
 same_out i j o p e = cc
 
 pub put_parts : {a b c d : ℕ} {m w : Fields} → Put a b m ≡ Put c d w → (a ≡ c) × (b ≡ d) × (m ≡ w)
@@ -387,7 +387,7 @@ put_parts e = (cc, cc, cc)
 pub ask_parts : {a b : ℕ} {m w : Fields} → Ask a m ≡ Ask b w → (a ≡ b) × (m ≡ w)
 ask_parts e = (cc, cc)
 
-pub facts_out : (t : Network) (n : ℕ) (past : History) (i : Input) (h : History) (o : Output) → NodeFacts t n past → EntryFacts t n past i h → Allowed t n past i h o → EntryFacts t n past i (Out i o ∷ h)
+pub facts_out : (t : Network) (n : ℕ) (past : History) (i : ReadInput) (h : History) (o : ReadOutput) → NodeFacts t n past → EntryFacts t n past i h → Allowed t n past i h o → EntryFacts t n past i (Out i o ∷ h)
 unfolding opening
 facts_out t n past i h o before e allowed = record {
   opening_is = λ k. e.opening_is k;
@@ -406,14 +406,14 @@ facts_out t n past i h o before e allowed = record {
   };
 }
   where
-    sent_now : (j : Input) (l s : ℕ) (x : Fields) → o ≡ Put l s x → is_request x.kind ≡ true → Sent t n (Out i o ∷ h) l x
+    sent_now : (j : ReadInput) (l s : ℕ) (x : Fields) → o ≡ Put l s x → is_request x.kind ≡ true → Sent t n (Out i o ∷ h) l x
     sent_now j l s x is r =
         let f = put_case t n past i h o l s x allowed is r in
         let p = put_parts (sym f.is ∙ is) in
         let now : opening t h (key_of (as_kind K0100 f.message)) ≡ Some (opening_now past i f.message f.source) = fresh_opening t n past i h o e f in
         record { op = opening_now past i f.message f.source; s = f.s; is = ap (λ z. opening t h (key_of z)) (sym p.2) ∙ now; same = sym p.2; issued = f.issued; away = f.away; on_route = subst (λ z. IsIn z (route_links t n (card_of f.message))) p.0 f.on_route }
 
-    fresh_now : (l s : ℕ) (x : Fields) → o ≡ Put l s x → is_request x.kind ≡ true → (j : Input) (l' s' : ℕ) (x' : Fields) → Has (Out j (Put l' s' x')) h → is_request x'.kind ≡ true → key_of x' ≡ key_of x → ⊥
+    fresh_now : (l s : ℕ) (x : Fields) → o ≡ Put l s x → is_request x.kind ≡ true → (j : ReadInput) (l' s' : ℕ) (x' : Fields) → Has (Out j (Put l' s' x')) h → is_request x'.kind ≡ true → key_of x' ≡ key_of x → ⊥
     fresh_now l s x is r j l' s' x' has r' k =
         let f = put_case t n past i h o l s x allowed is r in
         let p = put_parts (sym f.is ∙ is) in
@@ -426,27 +426,27 @@ facts_out t n past i h o before e allowed = record {
         let now : opening t h (key_of f.message) ≡ Some (opening_now past i f.message f.source) = e.opening_is (key_of f.message) ∙ opens_now t past i f.message f.source f.is_handled f.request f.fresh in
         record { op = opening_now past i f.message f.source; s = f.s; is = ap (λ z. opening t h z) (ap key_of (sym p.1) ∙ forwarded_key f.message f.request) ∙ now; issued = f.issued; home = f.home }
 
-    fresh_asked : (a : ℕ) (x : Fields) → o ≡ Ask a x → (j : Input) (a' : ℕ) (x' : Fields) → Has (Out j (Ask a' x')) h → key_of x' ≡ key_of x → ⊥
+    fresh_asked : (a : ℕ) (x : Fields) → o ≡ Ask a x → (j : ReadInput) (a' : ℕ) (x' : Fields) → Has (Out j (Ask a' x')) h → key_of x' ≡ key_of x → ⊥
     fresh_asked a x is j a' x' has k =
         let f = ask_case t n past i h o a x allowed is in
         let p = ask_parts (sym f.is ∙ is) in
         fresh_ask t n past i h before f.first (key_of f.message) f.fresh j a' x' has (k ∙ (ap key_of (sym p.1) ∙ forwarded_key f.message f.request))
 
--- forwarded and asked, as what stands in the history
+-- forwarded and asked, as what stands in the read_history
 
-pub forwarded_has : (h : History) (k : Key) (l : ℕ) → forwarded h k ≡ Some l → (i : Input) × (s : ℕ) × (x : Fields) × Has (Out i (Put l s x)) h × (is_request x.kind ≡ true) × (key_of x ≡ k)
+pub forwarded_has : (h : History) (k : Key) (l : ℕ) → forwarded h k ≡ Some l → (i : ReadInput) × (s : ℕ) × (x : Fields) × Has (Out i (Put l s x)) h × (is_request x.kind ≡ true) × (key_of x ≡ k)
 unfolding forwarded
 forwarded_has [] k l e = absurd (none_some refl e)
 forwarded_has (In i ∷ h) k l e = let r = forwarded_has h k l e in (r.0, r.1, r.2, inr r.3, r.4, r.5)
 forwarded_has (Out i o ∷ h) k l e = go (forwarded h k) refl (forwarded_has h k)
   where
     Found : History → ℕ → Type 0
-    Found g l' = (j : Input) × (s : ℕ) × (x : Fields) × Has (Out j (Put l' s x)) g × (is_request x.kind ≡ true) × (key_of x ≡ k)
+    Found g l' = (j : ReadInput) × (s : ℕ) × (x : Fields) × Has (Out j (Put l' s x)) g × (is_request x.kind ≡ true) × (key_of x ≡ k)
 
-    here : (p : Output) → o ≡ p → forwards k p ≡ Some l → (j : Input) × (s : ℕ) × (x : Fields) × Has (Out j (Put l s x)) (Out i o ∷ h) × (is_request x.kind ≡ true) × (key_of x ≡ k)
+    here : (p : ReadOutput) → o ≡ p → forwards k p ≡ Some l → (j : ReadInput) × (s : ℕ) × (x : Fields) × Has (Out j (Put l s x)) (Out i o ∷ h) × (is_request x.kind ≡ true) × (key_of x ≡ k)
     here (Put b s x) is f = test (is_request x.kind && key_eq (key_of x) k) refl
       where
-        test : (b' : Bool) → (is_request x.kind && key_eq (key_of x) k) ≡ b' → (j : Input) × (s' : ℕ) × (x' : Fields) × Has (Out j (Put l s' x')) (Out i o ∷ h) × (is_request x'.kind ≡ true) × (key_of x' ≡ k)
+        test : (b' : Bool) → (is_request x.kind && key_eq (key_of x) k) ≡ b' → (j : ReadInput) × (s' : ℕ) × (x' : Fields) × Has (Out j (Put l s' x')) (Out i o ∷ h) × (is_request x'.kind ≡ true) × (key_of x' ≡ k)
         test true at =
             let same : b ≡ l = same_Some b l (rw at at f) in
             let p = and_parts (is_request x.kind) (key_eq (key_of x) k) at in
@@ -456,23 +456,23 @@ forwarded_has (Out i o ∷ h) k l e = go (forwarded h k) refl (forwarded_has h k
     here (Ask a x) is f = absurd (none_some refl f)
     here (Post x) is f = absurd (none_some refl f)
 
-    go : (w : Option ℕ) → forwarded h k ≡ w → ((l' : ℕ) → forwarded h k ≡ Some l' → (j : Input) × (s : ℕ) × (x : Fields) × Has (Out j (Put l' s x)) h × (is_request x.kind ≡ true) × (key_of x ≡ k)) → (j : Input) × (s : ℕ) × (x : Fields) × Has (Out j (Put l s x)) (Out i o ∷ h) × (is_request x.kind ≡ true) × (key_of x ≡ k)
+    go : (w : Option ℕ) → forwarded h k ≡ w → ((l' : ℕ) → forwarded h k ≡ Some l' → (j : ReadInput) × (s : ℕ) × (x : Fields) × Has (Out j (Put l' s x)) h × (is_request x.kind ≡ true) × (key_of x ≡ k)) → (j : ReadInput) × (s : ℕ) × (x : Fields) × Has (Out j (Put l s x)) (Out i o ∷ h) × (is_request x.kind ≡ true) × (key_of x ≡ k)
     go None at rest = here o refl (rw at at e)
     go (Some l') at rest = let r = rest l (at ∙ (rw at at e)) in (r.0, r.1, r.2, inr r.3, r.4, r.5)
 
-pub asked_has : (h : History) (k : Key) → asked h k ≡ true → (i : Input) × (a : ℕ) × (x : Fields) × Has (Out i (Ask a x)) h × (key_of x ≡ k)
+pub asked_has : (h : History) (k : Key) → asked h k ≡ true → (i : ReadInput) × (a : ℕ) × (x : Fields) × Has (Out i (Ask a x)) h × (key_of x ≡ k)
 unfolding asked
 asked_has [] k e = absurd (not_both false e refl)
 asked_has (In i ∷ h) k e = let r = asked_has h k e in (r.0, r.1, r.2, inr r.3, r.4)
 asked_has (Out i o ∷ h) k e = go (asked h k) refl (asked_has h k)
   where
-    here : (p : Output) → o ≡ p → asks k p ≡ true → (j : Input) × (a : ℕ) × (x : Fields) × Has (Out j (Ask a x)) (Out i o ∷ h) × (key_of x ≡ k)
+    here : (p : ReadOutput) → o ≡ p → asks k p ≡ true → (j : ReadInput) × (a : ℕ) × (x : Fields) × Has (Out j (Ask a x)) (Out i o ∷ h) × (key_of x ≡ k)
     here (Ask a x) is f = (i, a, x, inl (ap (Out i) is), key_eq_is (key_of x) k f)
     here (Put b s x) is f = absurd (not_both false f refl)
     here (Answer x) is f = absurd (not_both false f refl)
     here (Post x) is f = absurd (not_both false f refl)
 
-    go : (b : Bool) → asked h k ≡ b → (asked h k ≡ true → (j : Input) × (a : ℕ) × (x : Fields) × Has (Out j (Ask a x)) h × (key_of x ≡ k)) → (j : Input) × (a : ℕ) × (x : Fields) × Has (Out j (Ask a x)) (Out i o ∷ h) × (key_of x ≡ k)
+    go : (b : Bool) → asked h k ≡ b → (asked h k ≡ true → (j : ReadInput) × (a : ℕ) × (x : Fields) × Has (Out j (Ask a x)) h × (key_of x ≡ k)) → (j : ReadInput) × (a : ℕ) × (x : Fields) × Has (Out j (Ask a x)) (Out i o ∷ h) × (key_of x ≡ k)
     go true at rest = let r = rest at in (r.0, r.1, r.2, inr r.3, r.4)
     go false at rest = here o refl (rw at at e)
 
@@ -493,20 +493,20 @@ keeps_issuers t n h f k op e some = go (forwarded h k) refl (asked h k) refl som
         (z.s, subst (λ y. issuer t (card_of (Opening.message y)) ≡ Some z.s) same z.issued)
     go None at false at' s = absurd (not_both false s refl)
 
-pub facts_decide : (t : Network) (n : ℕ) (past : History) (i : Input) → IsFormed i → refusal t n past i ≡ None → NodeFacts t n past → NodeFacts t n (decide t n past i)
+pub facts_decide : (t : Network) (n : ℕ) (past : History) (i : ReadInput) → IsFormed i → refusal t n past i ≡ None → NodeFacts t n past → NodeFacts t n (decide t n past i)
 facts_decide t n past i form ok f =
     (decide_keeps t n past i (EntryFacts t n past i) (λ h o e allowed. facts_out t n past i h o f e allowed) (keeps_issuers t n past f)
     (record { node = facts_in t n past i form ok f; opening_is = λ k. refl })).node
 
 -- of a legal trace
 
-pub legal_facts : (t : Network) (n : ℕ) (es : List Entry) → Legal t n es → NodeFacts t n (history es)
-unfolding history
+pub legal_facts : (t : Network) (n : ℕ) (es : List ReadEntry) → IsLegalRead t n es → NodeFacts t n (read_history es)
+unfolding read_history
 legal_facts t n [] l = no_facts t n
-legal_facts t n (e ∷ es) l = subst (NodeFacts t n) (sym l.1.outputs) (facts_decide t n (history es) e.input l.1.formed l.1.accepted (legal_facts t n es l.0))
+legal_facts t n (e ∷ es) l = subst (NodeFacts t n) (sym l.1.outputs) (facts_decide t n (read_history es) e.input l.1.formed l.1.accepted (legal_facts t n es l.0))
 
 -- a forward is a put of a request
-pub forwards_is : (k : Key) (o : Output) (l : ℕ) → forwards k o ≡ Some l → (s : ℕ) × (x : Fields) × (o ≡ Put l s x) × (is_request x.kind ≡ true) × (key_of x ≡ k)
+pub forwards_is : (k : Key) (o : ReadOutput) (l : ℕ) → forwards k o ≡ Some l → (s : ℕ) × (x : Fields) × (o ≡ Put l s x) × (is_request x.kind ≡ true) × (key_of x ≡ k)
 forwards_is k (Put b s x) l f = test (is_request x.kind && key_eq (key_of x) k) refl
   where
     test : (b' : Bool) → (is_request x.kind && key_eq (key_of x) k) ≡ b' → (s' : ℕ) × (x' : Fields) × (Put b s x ≡ Put l s' x') × (is_request x'.kind ≡ true) × (key_of x' ≡ k)

@@ -1,5 +1,5 @@
 -- Where each advice of a node comes from, what acknowledges it, and the links by which it was sent.
-use Rattle.std.proofs.Common.{◌≡◌, ℕ, List, [], ◌∷◌, map, replicate, Option, Some, None, is_none, Bool, true, false, cond, not, ◌&&◌, refl, sym, ap, ◌∙◌, subst, inl, inr, ⊎_elim, ◌⊎◌, bytes_eq}
+use Rattle.std.proofs.Common.{◌≡◌, ℕ, List, [], ◌∷◌, map, replicate, Option, Some, None, is_none, Bool, true, false, cond, ◌&&◌, refl, sym, ap, ◌∙◌, subst, inl, inr, ⊎_elim, ◌⊎◌, bytes_eq}
 use Rattle.std.proofs.lemmas.Bool.{and_parts, or_cases, cond_both, not-false}
 use Rattle.std.proofs.lemmas.Option.{same_Some}
 use Rattle.std.specs.Option.{option_and_then}
@@ -8,11 +8,12 @@ use Rattle.card_digits.specs.Numbers.{pad11}
 use Rattle.net_rows.specs.Network.{Network, issuer}
 use Rattle.net_rows.specs.declared.row.Issuer.{Issuer}
 use Rattle.network_law.specs.Tables.{is_home, node_id, route_links, is_attached}
-use Rattle.network_law.specs.Traces.{Source, Input, Enter, Take, LinkUp, LinkDown, Tick, HostAnswer, NewDate, Output, Put, In, Out, Event, History, Handled, handled, Opening, opening, sent, own_approval, Advice, advices, add_advice, add_made, add_accepted, acked_by, is_ack, is_ack_of, has_identity, late_key, failed_key, is_ok_ack, is_advice_group, is_ack_kind, as_kept, dated, date_of, count_of, forwarded, is_up, IsIn, Has}
+use Rattle.network_law.specs.Traces.{Source, ReadInput, Enter, Take, LinkUp, LinkDown, Tick, HostAnswer, NewDate, ReadOutput, Put, In, Out, Event, History, Handled, handled, Opening, opening, sent, own_approval, Advice, advices, add_advice, add_made, add_accepted, acked_by, is_ack, is_ack_of, has_identity, late_key, failed_key, is_ok_ack, is_advice_group, is_ack_kind, as_kept, dated, date_of, count_of, forwarded, is_up, IsIn, Has}
 use Rattle.network_law.specs.Decision.{decide, reply_output, sent_kind, own_way, standin_code}
 use Rattle.network_law.proofs.Refused.{EnteredFacts, entered_facts}
 use Rattle.network_law.specs.Refusals.{refusal, entered_kind}
-use Rattle.network_law.specs.Runs.{IsFormed, Entry, history, Legal}
+use Rattle.network_law.specs.Entries.{ReadEntry, read_history}
+use Rattle.network_law.proofs.ReadRuns.{IsFormed, IsLegalRead}
 use Rattle.network_law.proofs.Emits.{Allowed, forwarding, asking, standing_in, passing, declining, repeating, refusing, acking, sending, posting, Acking, Sending, Kept, due, reversing, standing, accepting, handled_as, Issued, decide_keeps, stays_open, is_kept_group, found_is_in, from_link}
 use Rattle.network_law.proofs.Node.{NodeFacts, EntryFacts, legal_facts, facts_out, keeps_issuers, response_is_of_kind, put_parts}
 use Rattle.network_law.proofs.Elements.{own_key_response, el_response, carried, made_base}
@@ -153,11 +154,11 @@ in_accepted_new a count true (Some x) as' m = cond_both (is_advice_group (group 
 in_accepted_new a count true None as' m = inr m
 in_accepted_new a count false o as' m = inr m
 
-in_acked_new : (a : Advice) (i : Input) (as' : List Advice) → IsIn a (map (acked_by i) as') → (b : Advice) × IsIn b as' × (acked_by i b ≡ a)
+in_acked_new : (a : Advice) (i : ReadInput) (as' : List Advice) → IsIn a (map (acked_by i) as') → (b : Advice) × IsIn b as' × (acked_by i b ≡ a)
 in_acked_new a i [] m = absurd m
 in_acked_new a i (b ∷ as') m = ⊎_elim (λ e. (b, inl refl, e)) (λ r. (let x = in_acked_new a i as' r in (x.0, inr x.1, x.2))) m
 
-acked_message : (i : Input) (b : Advice) → (acked_by i b).message ≡ b.message
+acked_message : (i : ReadInput) (b : Advice) → (acked_by i b).message ≡ b.message
 acked_message (Take l s m) b = refl
 acked_message (Enter m) b = refl
 acked_message (LinkUp l) b = refl
@@ -167,7 +168,7 @@ acked_message (HostAnswer c d) b = refl
 acked_message (NewDate d) b = refl
 
 -- what a newly acknowledged advice was acknowledged by
-newly_acked : (i : Input) (h : History) (b : Advice) → (acked_by i b).acked ≡ true → (b.acked ≡ true) ⊎ AckTaken (In i ∷ h) (identity_of b.message)
+newly_acked : (i : ReadInput) (h : History) (b : Advice) → (acked_by i b).acked ≡ true → (b.acked ≡ true) ⊎ AckTaken (In i ∷ h) (identity_of b.message)
 newly_acked (Take l s m) h b e = ⊎_elim inl (λ now. inr (taken now)) (or_cases b.acked (is_ack_of m b) e)
   where
     taken : is_ack_of m b ≡ true → AckTaken (In (Take l s m) ∷ h) (identity_of b.message)
@@ -235,14 +236,14 @@ entered_source t n past m x src ok e g = go (is_request m.kind) refl
           gate = entered_reversal t n past m x src ok e r;
         }
       where
-        not_dated : (date : Bytes) → dated date (remove_element m 33) ≡ remove_element m 33
+        not_dated : (date : List ℕ) → dated date (remove_element m 33) ≡ remove_element m 33
         not_dated date = rw at refl
 
 kept_entered : (t : Network) (n : ℕ) (m : Fields) → Entered t n m → Entered t n (as_kept m)
 unfolding identity_of
 kept_entered t n m e = record { forwarder = ap AdviceId.forwarder (kept_alike m).id ∙ e.forwarder; gate = ap (λ z. is_attached t n (Key.acquirer (AdviceId.key z))) (kept_alike m).id ∙ e.gate }
 
-accepted_from : (t : Network) (n : ℕ) (past : History) (i : Input) (h : History) (m : Fields) (src : Source) → refusal t n past i ≡ None → handled_as t past i m src → is_advice_group (group m.kind) ≡ true → Has (In i) h → From t n h (as_kept m)
+accepted_from : (t : Network) (n : ℕ) (past : History) (i : ReadInput) (h : History) (m : Fields) (src : Source) → refusal t n past i ≡ None → handled_as t past i m src → is_advice_group (group m.kind) ≡ true → Has (In i) h → From t n h (as_kept m)
 unfolding handled
 accepted_from t n past (Enter x) h m src ok e g has = inr (inr (kept_entered t n m (entered_source t n past x m src ok e g)))
 accepted_from t n past (Take l s x) h m src ok e g has =
@@ -271,7 +272,7 @@ pub record AckSent (t : Network) (n : ℕ) (h : History) (l : ℕ) (x : Fields) 
   pub known_now : list_any (has_identity (identity_of x)) (advices t n h) ≡ true
 
 abbrev pub AcksKnown : Network → ℕ → History → Type 0
-AcksKnown t n h = (i : Input) (l s : ℕ) (x : Fields) → Has (Out i (Put l s x)) h → is_ack (group x.kind) ≡ true → bytes_eq (code_of x) code_00 ≡ true → AckSent t n h l x
+AcksKnown t n h = (i : ReadInput) (l s : ℕ) (x : Fields) → Has (Out i (Put l s x)) h → is_ack (group x.kind) ≡ true → bytes_eq (code_of x) code_00 ≡ true → AckSent t n h l x
 
 -- the way of a stand-in advice
 pub record StandSent (t : Network) (n l : ℕ) (x : Fields) : Type 0 where
@@ -281,7 +282,7 @@ pub record StandSent (t : Network) (n l : ℕ) (x : Fields) : Type 0 where
   pub on_route : IsIn l (route_links t n (card_of x))
 
 abbrev pub StandsKnown : Network → ℕ → History → Type 0
-StandsKnown t n h = (i : Input) (l s : ℕ) (x : Fields) → Has (Out i (Put l s x)) h → is_advice_group (group x.kind) ≡ true → is_04xx x.kind ≡ false → StandSent t n l x
+StandsKnown t n h = (i : ReadInput) (l s : ℕ) (x : Fields) → Has (Out i (Put l s x)) h → is_advice_group (group x.kind) ≡ true → is_04xx x.kind ≡ false → StandSent t n l x
 
 pub known_more : (t : Network) (n : ℕ) (e : Event) (h : History) (id : AdviceId) → list_any (has_identity id) (advices t n h) ≡ true → list_any (has_identity id) (advices t n (e ∷ h)) ≡ true
 unfolding advices
@@ -295,7 +296,7 @@ pub added_known : (a : Advice) (as' : List Advice) → list_any (has_identity (i
 added_known a as' = cond_both (list_any (has_identity (identity_of a.message)) as') as' (a ∷ as') (λ z. list_any (has_identity (identity_of a.message)) z ≡ true) (λ e. e) (λ _. rw (identity_eq_refl (identity_of a.message)) refl)
 
 -- an acknowledged message is known then
-ack_known : (t : Network) (n : ℕ) (i : Input) (o : Output) (h : History) (m : Fields) (src : Source) → handled t h i ≡ Some (record { message = m; source = src }) → is_advice_group (group m.kind) ≡ true → is_ok_ack (sent o) ≡ true → list_any (has_identity (identity_of (as_kept m))) (advices t n (Out i o ∷ h)) ≡ true
+ack_known : (t : Network) (n : ℕ) (i : ReadInput) (o : ReadOutput) (h : History) (m : Fields) (src : Source) → handled t h i ≡ Some (record { message = m; source = src }) → is_advice_group (group m.kind) ≡ true → is_ok_ack (sent o) ≡ true → list_any (has_identity (identity_of (as_kept m))) (advices t n (Out i o ∷ h)) ≡ true
 unfolding advices
 ack_known t n i o h m src e g ack = go (is_ok_ack (sent o)) (handled t h i) (add_made (λ m. made_stand_in m (node_id t n)) (count_of h) (option_and_then (opening t h) (own_approval h i o)) (add_made (λ m. made_reversal m (node_id t n)) (count_of h) (option_and_then (opening t h) (failed_key t h i (sent o))) (advices t n h))) ack e
   where
@@ -303,7 +304,7 @@ ack_known t n i o h m src e g ack = go (is_ok_ack (sent o)) (handled t h i) (add
     go b w as' e f = rw (e, f, g) (added_known (record { message = as_kept m; count = count_of h; own = false; acked = false }) as')
 
 -- the output that acknowledges
-acking_case : (t : Network) (n : ℕ) (past : History) (i : Input) (h : History) (o : Output) → EntryFacts t n past i h → Allowed t n past i h o → is_ok_ack (sent o) ≡ true → Acking t n past i h o
+acking_case : (t : Network) (n : ℕ) (past : History) (i : ReadInput) (h : History) (o : ReadOutput) → EntryFacts t n past i h → Allowed t n past i h o → is_ok_ack (sent o) ≡ true → Acking t n past i h o
 acking_case t n past i h o facts allowed e = go allowed
   where
     y : (y : Fields) × (sent o ≡ Some y) × (is_ack_kind (group y.kind) ≡ true) × (bytes_eq (code_of y) code_00 ≡ true)
@@ -364,7 +365,7 @@ answer_no_advice K0420 e = cc
 answer_no_advice K0421 e = cc
 answer_no_advice K0430 e = refl
 
-sending_case : (t : Network) (n : ℕ) (past : History) (i : Input) (h : History) (o : Output) (l s : ℕ) (x : Fields) → Allowed t n past i h o → o ≡ Put l s x → is_advice_group (group x.kind) ≡ true → Sending t n past i h o
+sending_case : (t : Network) (n : ℕ) (past : History) (i : ReadInput) (h : History) (o : ReadOutput) (l s : ℕ) (x : Fields) → Allowed t n past i h o → o ≡ Put l s x → is_advice_group (group x.kind) ≡ true → Sending t n past i h o
 sending_case t n past i h o l s x allowed e g = go allowed
   where
     is_sent : sent o ≡ Some x
@@ -389,7 +390,7 @@ sending_case t n past i h o l s x allowed e g = go allowed
     go (posting f) = absurd (none_some x (ap sent (sym f.is) ∙ is_sent))
 
 -- within an entry
-record Through (t : Network) (n : ℕ) (past : History) (i : Input) (h : History) : Type 0 where
+record Through (t : Network) (n : ℕ) (past : History) (i : ReadInput) (h : History) : Type 0 where
   own : OwnFacts t n past i h
   input : Has (In i) h
   handled_same : handled t h i ≡ handled t past i
@@ -407,7 +408,7 @@ issued_of t c e = go (issuer t c) refl
 not_04xx : {A : Type 0} (m : Fields) (id : Bytes) (x : Fields) → x ≡ made_reversal m id → is_04xx x.kind ≡ false → A
 not_04xx m id x e f = absurd (not_both (is_04xx x.kind) (ap (λ z. is_04xx (Fields.kind z)) e ∙ ap is_04xx (Rattle.network_law.proofs.Elements.reversal_kind m id)) f)
 
-origins_in : (t : Network) (n : ℕ) (h : History) (i : Input) → Origins t n h → Origins t n (In i ∷ h)
+origins_in : (t : Network) (n : ℕ) (h : History) (i : ReadInput) → Origins t n h → Origins t n (In i ∷ h)
 unfolding advices
 origins_in t n h i q = record { from = from'; acked = acked'; issued = issued' }
   where
@@ -435,7 +436,7 @@ origins_in t n h i q = record { from = from'; acked = acked'; issued = issued' }
         (λ p. subst (Issued t) (message_of a p.0 p.2) (q.issued p.0 p.1 (ap (λ z. is_04xx (Fields.kind z)) (message_of a p.0 p.2) ∙ e)))
         (parts a m)
 
-module _ (t : Network) (n : ℕ) (past : History) (i : Input) (ok : refusal t n past i ≡ None) (facts : NodeFacts t n past) (before : Origins t n past) (h : History) (o : Output) (q : Through t n past i h) (allowed : Allowed t n past i h o) where
+module _ (t : Network) (n : ℕ) (past : History) (i : ReadInput) (ok : refusal t n past i ≡ None) (facts : NodeFacts t n past) (before : Origins t n past) (h : History) (o : ReadOutput) (q : Through t n past i h) (allowed : Allowed t n past i h o) where
   PartOf : Advice → Type 0
   PartOf a =
       ((x : Handled) × (is_ok_ack (sent o) ≡ true) × (handled t h i ≡ Some x) × (is_advice_group (group x.message.kind) ≡ true) × (a.message ≡ as_kept x.message) × (a.acked ≡ false))
@@ -563,10 +564,10 @@ pub record AdviceFacts (t : Network) (n : ℕ) (h : History) : Type 0 where
   pub acks : AcksKnown t n h
   pub stands : StandsKnown t n h
 
-no_out : (i j : Input) (o : Output) → In i ≡ Out j o → ⊥
+no_out : (i j : ReadInput) (o : ReadOutput) → In i ≡ Out j o → ⊥
 no_out i j o e = cc
 
-advice_decide : (t : Network) (n : ℕ) (past : History) (i : Input) → IsFormed i → refusal t n past i ≡ None → NodeFacts t n past → AdviceFacts t n past → AdviceFacts t n (decide t n past i)
+advice_decide : (t : Network) (n : ℕ) (past : History) (i : ReadInput) → IsFormed i → refusal t n past i ≡ None → NodeFacts t n past → AdviceFacts t n past → AdviceFacts t n (decide t n past i)
 advice_decide t n past i form ok f before =
     let q : Through t n past i (decide t n past i) = (decide_keeps t n past i (Through t n past i)
     (λ h o q allowed. through_out t n past i ok f before.origins h o q allowed)
@@ -581,7 +582,7 @@ advice_decide t n past i form ok f before =
     })) in
     record { origins = Through.origins q; acks = Through.acks q; stands = Through.stands q }
 
-pub legal_advices : (t : Network) (n : ℕ) (es : List Entry) → Legal t n es → AdviceFacts t n (history es)
-unfolding history advices
+pub legal_advices : (t : Network) (n : ℕ) (es : List ReadEntry) → IsLegalRead t n es → AdviceFacts t n (read_history es)
+unfolding read_history advices
 legal_advices t n [] l = record { origins = record { from = λ a m. absurd m; acked = λ a m. absurd m; issued = λ a m. absurd m }; acks = λ i k s x m. absurd m; stands = λ i k s x m. absurd m }
-legal_advices t n (e ∷ es) l = subst (AdviceFacts t n) (sym l.1.outputs) (advice_decide t n (history es) e.input l.1.formed l.1.accepted (legal_facts t n es l.0) (legal_advices t n es l.0))
+legal_advices t n (e ∷ es) l = subst (AdviceFacts t n) (sym l.1.outputs) (advice_decide t n (read_history es) e.input l.1.formed l.1.accepted (legal_facts t n es l.0) (legal_advices t n es l.0))

@@ -8,9 +8,10 @@ use mathlib.Core.List.{reverse-cons}
 use Rattle.net_rows.specs.Network.{Network, issuer}
 use Rattle.net_rows.specs.declared.row.Issuer.{Issuer}
 use Rattle.network_law.specs.Tables.{is_home, node_id, route_links, single}
-use Rattle.network_law.specs.Traces.{Source, Gate, ByLink, Input, Enter, Take, LinkUp, LinkDown, Tick, HostAnswer, NewDate, Output, Put, Answer, Ask, Post, In, Out, History, Handled, handled, Opening, opening, opened, with_new, key_handled, answer, answers, sent, has_00, is_00_of, brings_00, own_approval, Advice, advices, add_advice, add_made, add_accepted, acked_by, has_identity, late_key, comes_late, code_is_not_00, failed_key, is_ok_ack, is_advice_group, is_ack_kind, as_kept, is_timer, is_link, forwarded, forwards, pending, fails, count_of, known, reversed, is_at_home, ask_key, ask_count, load, was_put, is_up, IsIn, Has}
+use Rattle.network_law.specs.Traces.{Source, Gate, ByLink, ReadInput, Enter, Take, LinkUp, LinkDown, Tick, HostAnswer, NewDate, ReadOutput, Put, Answer, Ask, Post, In, Out, History, Handled, handled, Opening, opening, opened, with_new, key_handled, answer, answers, sent, has_00, is_00_of, brings_00, own_approval, Advice, advices, add_advice, add_made, add_accepted, acked_by, has_identity, late_key, comes_late, code_is_not_00, failed_key, is_ok_ack, is_advice_group, is_ack_kind, as_kept, is_timer, is_link, forwarded, forwards, pending, fails, count_of, known, reversed, is_at_home, ask_key, ask_count, load, was_put, is_up, IsIn, Has}
 use Rattle.network_law.specs.Decision.{decide, reply, reply_output, next_put, emit, sent_kind, keep, send, send_by, own_way, standin, standin_code, fail, fail_all, failing, send_all, due_advices, on_request, on_issuer, on_forward, on_repeat, on_reversal, on_advice, on_answer, on_host, on_code, as_code, on_group, answer_pending, other_content, first_up, same_source}
-use Rattle.network_law.specs.Runs.{IsFormed, HasLengths, Entry, history, Legal}
+use Rattle.network_law.specs.Entries.{ReadEntry, read_history}
+use Rattle.network_law.proofs.ReadRuns.{IsFormed, HasLengths, IsLegalRead}
 use Rattle.network_law.proofs.Emits.{handled_as, is_kept_group, key_eq_refl, key_eq_is, bytes_eq_is, stays_open, opening_now, opens_now, handled_no_timer, in_filter, filtered_in, in_append, in_reverse, due_from, from_link, request_from_group, answer_from_group}
 use Rattle.network_law.proofs.Node.{NodeFacts, answer_is, answers_is, response_is_of_kind, answer_no_request, OpensNow, opening_in_cases}
 use Rattle.network_law.proofs.Elements.{code_response, response_key, made_reversal_key, reversal_kind, el_made}
@@ -43,11 +44,11 @@ none_some x p = cc
 
 -- posts and puts of advices
 
-abbrev pub post_in : Output → List Fields
+abbrev pub post_in : ReadOutput → List Fields
 post_in (Post x) = x ∷ []
 post_in _ = []
 
-abbrev pub sends_in : Output → List (ℕ × Fields)
+abbrev pub sends_in : ReadOutput → List (ℕ × Fields)
 sends_in (Put l s x) = if is_advice_group (group x.kind) then (l, x) ∷ [] else []
 sends_in _ = []
 
@@ -214,16 +215,16 @@ unfolding identity_of
 identity_key x = refl
 
 -- what an answer marks
-marks_out : (t : Network) (n : ℕ) (i : Input) (o : Output) (h : History) (own : Option Key) (adv : List Advice) → own_approval h i o ≡ own → is_ok_ack (sent o) ≡ false → add_made (λ m. made_reversal m (node_id t n)) (count_of h) (option_and_then (opening t h) (failed_key t h i (sent o))) (advices t n h) ≡ adv → advices t n (Out i o ∷ h) ≡ add_made (λ m. made_stand_in m (node_id t n)) (count_of h) (option_and_then (opening t h) own) adv
+marks_out : (t : Network) (n : ℕ) (i : ReadInput) (o : ReadOutput) (h : History) (own : Option Key) (adv : List Advice) → own_approval h i o ≡ own → is_ok_ack (sent o) ≡ false → add_made (λ m. made_reversal m (node_id t n)) (count_of h) (option_and_then (opening t h) (failed_key t h i (sent o))) (advices t n h) ≡ adv → advices t n (Out i o ∷ h) ≡ add_made (λ m. made_stand_in m (node_id t n)) (count_of h) (option_and_then (opening t h) own) adv
 unfolding advices
 marks_out t n i o h own adv e ack mark = rw (ack, e, mark) refl
 
-opening_out : (t : Network) (i : Input) (o : Output) (h : History) (k : Key) → opening t (Out i o ∷ h) k ≡ opening t h k
+opening_out : (t : Network) (i : ReadInput) (o : ReadOutput) (h : History) (k : Key) → opening t (Out i o ∷ h) k ≡ opening t h k
 unfolding opening
 opening_out t i o h k = refl
 
 -- an answer of another key
-other_answers : (h : History) (i : Input) (j : Key) (o : Output) (m : Fields) → sent o ≡ Some m → (key_of m ≡ j → ⊥) → answer (Out i o ∷ h) j ≡ answer h j
+other_answers : (h : History) (i : ReadInput) (j : Key) (o : ReadOutput) (m : Fields) → sent o ≡ Some m → (key_of m ≡ j → ⊥) → answer (Out i o ∷ h) j ≡ answer h j
 unfolding answer
 other_answers h i j o m e other = rw e (go (answer h j) (is_answer m.kind) (key_eq (key_of m) j) refl)
   where
@@ -234,19 +235,19 @@ other_answers h i j o m e other = rw e (go (answer h j) (is_answer m.kind) (key_
     go None false b at = refl
 
 -- what a late 00 marks
-marks_in : (t : Network) (n : ℕ) (i : Input) (h : History) (k : Key) (op : Opening) → late_key h (advices t n h) i ≡ Some k → opening t h k ≡ Some op → advices t n (In i ∷ h) ≡ add_advice (record { message = made_reversal op.message (node_id t n); count = count_of h; own = true; acked = false }) (map (acked_by i) (advices t n h))
+marks_in : (t : Network) (n : ℕ) (i : ReadInput) (h : History) (k : Key) (op : Opening) → late_key h (advices t n h) i ≡ Some k → opening t h k ≡ Some op → advices t n (In i ∷ h) ≡ add_advice (record { message = made_reversal op.message (node_id t n); count = count_of h; own = true; acked = false }) (map (acked_by i) (advices t n h))
 unfolding advices
 marks_in t n i h k op e o = rw (e, o) refl
 
-marks_none : (t : Network) (n : ℕ) (i : Input) (o : Output) (h : History) → own_approval h i o ≡ None → failed_key t h i (sent o) ≡ None → is_ok_ack (sent o) ≡ false → advices t n (Out i o ∷ h) ≡ advices t n h
+marks_none : (t : Network) (n : ℕ) (i : ReadInput) (o : ReadOutput) (h : History) → own_approval h i o ≡ None → failed_key t h i (sent o) ≡ None → is_ok_ack (sent o) ≡ false → advices t n (Out i o ∷ h) ≡ advices t n h
 unfolding advices
 marks_none t n i o h a b c = rw (a, b, c) refl
 
-has_in : (h : History) (i : Input) (k : Key) → has_00 h k ≡ true → has_00 (In i ∷ h) k ≡ true
+has_in : (h : History) (i : ReadInput) (k : Key) → has_00 h k ≡ true → has_00 (In i ∷ h) k ≡ true
 unfolding has_00
 has_in h i k e = e
 
-answer_in : (h : History) (i : Input) (k : Key) → answer (In i ∷ h) k ≡ answer h k
+answer_in : (h : History) (i : ReadInput) (k : Key) → answer (In i ∷ h) k ≡ answer h k
 unfolding answer
 answer_in h i k = refl
 
@@ -265,7 +266,7 @@ request_no_answer K0421 e = cc
 request_no_answer K0430 e = cc
 
 -- a request brings no 00
-request_brings_none : (t : Network) (past h : History) (j : Input) (m : Fields) (src : Source) → handled_as t past j m src → is_request m.kind ≡ true → brings_00 h (key_of m) j ≡ false
+request_brings_none : (t : Network) (past h : History) (j : ReadInput) (m : Fields) (src : Source) → handled_as t past j m src → is_request m.kind ≡ true → brings_00 h (key_of m) j ≡ false
 unfolding handled
 request_brings_none t past h (Enter x) m src e r = refl
 request_brings_none t past h (Take l s x) m src e r =
@@ -282,7 +283,7 @@ request_brings_none t past h (NewDate d) m src e r = refl
 unopened : {t : Network} {n : ℕ} {past : History} → LateFacts t n past → (k : Key) → opening t past k ≡ None → answer past k ≡ None
 unopened {t = t} {past = past} late k e = go (Rattle.network_law.specs.Claims.answered_by past k) refl
   where
-    go : (w : Option Input) → Rattle.network_law.specs.Claims.answered_by past k ≡ w → answer past k ≡ None
+    go : (w : Option ReadInput) → Rattle.network_law.specs.Claims.answered_by past k ≡ w → answer past k ≡ None
     go None at = answer_when past k at
     go (Some j) at = let r = late.open_answers k j at in absurd (none_some r.0 (sym e ∙ r.1))
 
@@ -290,10 +291,10 @@ in_later : {X : Type 0} (xs ys : List X) (x : X) → IsIn x ys → IsIn x (xs ++
 in_later [] ys x m = m
 in_later (z ∷ zs) ys x m = inr (in_later zs ys x m)
 
-no_in : (i j : Input) (o : Output) → In i ≡ Out j o → ⊥
+no_in : (i j : ReadInput) (o : ReadOutput) → In i ≡ Out j o → ⊥
 no_in i j o e = cc
 
-out_is : (i j : Input) (o p : Output) → Out i o ≡ Out j p → o ≡ p
+out_is : (i j : ReadInput) (o p : ReadOutput) → Out i o ≡ Out j p → o ≡ p
 out_is i j o p e = cc
 
 ack_no_answer : (k : Kind) → group k ≡ groups.Acknowledgement → is_answer k ≡ false
@@ -325,7 +326,7 @@ reply_no_answer K0421 e = refl
 reply_no_answer K0430 e = refl
 
 -- what is entered brings no late 00
-gate_brings_none : (t : Network) (past : History) (i : Input) (as' : List Advice) (m : Fields) → handled_as t past i m Gate → late_key past as' i ≡ None
+gate_brings_none : (t : Network) (past : History) (i : ReadInput) (as' : List Advice) (m : Fields) → handled_as t past i m Gate → late_key past as' i ≡ None
 unfolding handled
 gate_brings_none t past (Take l s x) as' m e = absurd (no_gate (ap (λ (z : Handled). z.source) (same_Some _ _ e)))
   where
@@ -343,10 +344,10 @@ abbrev NoRepeat : List Key → Type 0
 NoRepeat [] = 0 ≤ 0
 NoRepeat (k ∷ ks) = (IsIn k ks → ⊥) × NoRepeat ks
 
-module _ (t : Network) (n : ℕ) (past : History) (i : Input) where
+module _ (t : Network) (n : ℕ) (past : History) (i : ReadInput) where
   -- quiet outputs
 
-  acc_quiet : (h : History) (o : Output) → own_approval h i o ≡ None → failed_key t h i (sent o) ≡ None → is_ok_ack (sent o) ≡ false → post_in o ≡ [] → sends_in o ≡ [] → Acc t n h → Acc t n (Out i o ∷ h)
+  acc_quiet : (h : History) (o : ReadOutput) → own_approval h i o ≡ None → failed_key t h i (sent o) ≡ None → is_ok_ack (sent o) ≡ false → post_in o ≡ [] → sends_in o ≡ [] → Acc t n h → Acc t n (Out i o ∷ h)
   unfolding posts sends
   acc_quiet h o a b c p s q =
       let e : advices t n (Out i o ∷ h) ≡ advices t n h = quiet_out t n i o h a b ∙ not_acked (is_ok_ack (sent o)) c in
@@ -375,11 +376,11 @@ module _ (t : Network) (n : ℕ) (past : History) (i : Input) where
 
   -- what is kept
 
-  data KeptOut (x : Fields) (h : History) (o : Output) : Type 0 where
+  data KeptOut (x : Fields) (h : History) (o : ReadOutput) : Type 0 where
     post_out : is_at_home t n x ≡ true → o ≡ Post x → KeptOut x h o
     send_out : (l : ℕ) (again : Bool) → o ≡ next_put l (as_kind (sent_kind (is_04xx x.kind) again) x) h → KeptOut x h o
 
-  send_any : (x : Fields) (h : History) (Q : History → Type 0) → ((o : Output) → KeptOut x h o → Q (Out i o ∷ h)) → Q h → Q (send t n i x h)
+  send_any : (x : Fields) (h : History) (Q : History → Type 0) → ((o : ReadOutput) → KeptOut x h o → Q (Out i o ∷ h)) → Q h → Q (send t n i x h)
   unfolding send
   send_any x h Q close q = go (own_way t n h x (forwarded h (key_of x))) refl
     where
@@ -387,7 +388,7 @@ module _ (t : Network) (n : ℕ) (past : History) (i : Input) where
       go None e = q
       go (Some l) e = close (next_put l (as_kind (sent_kind (is_04xx x.kind) (was_put h (identity_of x))) x) h) (send_out l (was_put h (identity_of x)) refl)
 
-  keep_any : (x : Fields) (h : History) (Q : History → Type 0) → ((o : Output) → KeptOut x h o → Q (Out i o ∷ h)) → Q h → Q (keep t n past i x h)
+  keep_any : (x : Fields) (h : History) (Q : History → Type 0) → ((o : ReadOutput) → KeptOut x h o → Q (Out i o ∷ h)) → Q h → Q (keep t n past i x h)
   unfolding keep
   keep_any x h Q close q =
       cond_both (known t n past (identity_of x)) h (cond (is_at_home t n x) (emit i (Post x) h) (send t n i x h)) Q (λ _. q)
@@ -395,7 +396,7 @@ module _ (t : Network) (n : ℕ) (past : History) (i : Input) where
       (λ home. close (Post x) (post_out home refl))
       (λ away. send_any x h Q close q))
 
-  kept_out_quiet : (x : Fields) (h : History) (o : Output) → KeptOut x h o → advices t n (Out i o ∷ h) ≡ advices t n h
+  kept_out_quiet : (x : Fields) (h : History) (o : ReadOutput) → KeptOut x h o → advices t n (Out i o ∷ h) ≡ advices t n h
   kept_out_quiet x h o (post_out home e) = quiet_out t n i o h (rw e refl) (rw e refl) ∙ rw e refl
   kept_out_quiet x h o (send_out l again e) =
       let y : Fields = as_kind (sent_kind (is_04xx x.kind) again) x in
@@ -407,7 +408,7 @@ module _ (t : Network) (n : ℕ) (past : History) (i : Input) where
       failed true at y e = rw (at, e) refl
       failed false at y e = rw at refl
 
-  kept_out_answer : (x : Fields) (h : History) (o : Output) (k : Key) → KeptOut x h o → answer (Out i o ∷ h) k ≡ answer h k
+  kept_out_answer : (x : Fields) (h : History) (o : ReadOutput) (k : Key) → KeptOut x h o → answer (Out i o ∷ h) k ≡ answer h k
   unfolding answer
   kept_out_answer x h o k (post_out home e) = rw e (same (answer h k))
     where
@@ -463,7 +464,7 @@ module _ (t : Network) (n : ℕ) (past : History) (i : Input) where
   unfolding sends
   send_sends x h u m = send_any x h (λ z. IsIn u (sends z) → IsIn u (sends h) ⊎ Alike x u.1) out inl m
     where
-      out : (o : Output) → KeptOut x h o → IsIn u (sends_in o ++ sends h) → IsIn u (sends h) ⊎ Alike x u.1
+      out : (o : ReadOutput) → KeptOut x h o → IsIn u (sends_in o ++ sends h) → IsIn u (sends h) ⊎ Alike x u.1
       out o (post_out home e) m = inl (rw e at m)
       out o (send_out l again e) m =
           let g : is_advice_group (group (sent_kind (is_04xx x.kind) again)) ≡ true = advice_kind_group (is_04xx x.kind) again in
@@ -497,7 +498,7 @@ module _ (t : Network) (n : ℕ) (past : History) (i : Input) where
       r : Fields
       r = response op.message c
 
-      o : Output
+      o : ReadOutput
       o = reply_output op.source r h
 
       h2 : History
@@ -622,7 +623,7 @@ module _ (t : Network) (n : ℕ) (past : History) (i : Input) where
       none1 : answer h1 k ≡ None
       none1 = keep_answer rev h k ∙ Ready.unanswered ready
 
-      no_timer_00 : (j : Input) → is_timer j ≡ true → brings_00 h1 k j ≡ false
+      no_timer_00 : (j : ReadInput) → is_timer j ≡ true → brings_00 h1 k j ≡ false
       no_timer_00 (LinkDown l) e = refl
       no_timer_00 Tick e = refl
       no_timer_00 (Enter m) e = refl
@@ -686,7 +687,7 @@ module _ (t : Network) (n : ℕ) (past : History) (i : Input) where
   unfolding failing answer
   failing_ready timer none k m = go (opening t past k) refl (answer past k) refl (pend i (in_filter (fails t past i) (reverse (opened t past)) k m))
     where
-      pend : (j : Input) → fails t past j k ≡ true → pending t past k ≡ true
+      pend : (j : ReadInput) → fails t past j k ≡ true → pending t past k ≡ true
       pend (LinkDown l) f = (and_parts (pending t past k) _ f).0
       pend Tick f = (and_parts (pending t past k) _ f).0
       pend (Enter x) f = cc
@@ -767,7 +768,7 @@ module _ (t : Network) (n : ℕ) (past : History) (i : Input) where
       timer : is_timer i ≡ false
       timer = handled_no_timer t past i m src e
 
-      no_brought : (j : Input) → handled t past j ≡ Some (record { message = m; source = src }) → brings_00 (In i ∷ past) (key_of m) j ≡ false
+      no_brought : (j : ReadInput) → handled t past j ≡ Some (record { message = m; source = src }) → brings_00 (In i ∷ past) (key_of m) j ≡ false
       no_brought j e = request_brings_none t past (In i ∷ past) j m src e r
 
       none_before : answer past (key_of m) ≡ None
@@ -1034,13 +1035,13 @@ once_filter : (p : Key → Bool) (xs : List Key) → NoRepeat xs → NoRepeat (f
 once_filter p [] q = q
 once_filter p (x ∷ xs) q = cond_both (p x) (x ∷ filter p xs) (filter p xs) NoRepeat (λ _. (λ m. q.0 (filtered_in p xs x m), once_filter p xs q.1)) (λ _. once_filter p xs q.1)
 
-failing_once : (t : Network) (past : History) (i : Input) → NoRepeat (failing t past i)
+failing_once : (t : Network) (past : History) (i : ReadInput) → NoRepeat (failing t past i)
 unfolding failing
 failing_once t past i = once_filter (fails t past i) (reverse (opened t past)) (once_reverse (opened t past) (opened_once t past))
 
 -- through an entry and a trace
 
-acc_decide : (t : Network) (n : ℕ) (past : History) (i : Input) → LateFacts t n past → NodeFacts t n past → Acc t n past → Acc t n (decide t n past i)
+acc_decide : (t : Network) (n : ℕ) (past : History) (i : ReadInput) → LateFacts t n past → NodeFacts t n past → Acc t n past → Acc t n (decide t n past i)
 unfolding decide handled on_host ask_key
 acc_decide t n past (Enter m) late facts q = group_acc t n past (Enter m) late facts (Rattle.network_law.specs.Traces.dated (Rattle.network_law.specs.Traces.date_of t past) (Rattle.iso_message.specs.Fields.remove_element m 33)) Gate (group (Rattle.network_law.specs.Traces.dated (Rattle.network_law.specs.Traces.date_of t past) (Rattle.iso_message.specs.Fields.remove_element m 33)).kind) refl refl q
 acc_decide t n past (Take l s m) late facts q = group_acc t n past (Take l s m) late facts m (ByLink l) (group m.kind) refl refl q
@@ -1057,14 +1058,14 @@ acc_decide t n past (HostAnswer a c) late facts q = go (ask_key past a) refl
     go None e = in_acc t n past (HostAnswer a c) (rw e refl) q
     go (Some k) e = code_acc t n past (HostAnswer a c) late facts k c code_05 (opening t past k) refl refl (rw e refl) (λ z. rw (e, key_eq_refl k, z) refl) refl q
 
-pub legal_acc : (t : Network) (n : ℕ) (es : List Rattle.network_law.specs.Runs.Entry) → Rattle.network_law.specs.Runs.Legal t n es → Acc t n (Rattle.network_law.specs.Runs.history es)
-unfolding Rattle.network_law.specs.Runs.history advices posts sends posted_of
+pub legal_acc : (t : Network) (n : ℕ) (es : List Rattle.network_law.specs.Entries.ReadEntry) → Rattle.network_law.proofs.ReadRuns.IsLegalRead t n es → Acc t n (Rattle.network_law.specs.Entries.read_history es)
+unfolding Rattle.network_law.specs.Entries.read_history advices posts sends posted_of
 legal_acc t n [] l = record { home = λ a m. absurd m; posted = λ x m. absurd m; put = λ u m. absurd m; one = λ id. omega arith; single = λ a b m. absurd m }
-legal_acc t n (e ∷ es) l = subst (Acc t n) (sym l.1.outputs) (acc_decide t n (Rattle.network_law.specs.Runs.history es) e.input (Rattle.network_law.proofs.Late.legal_late t n es l.0) (Rattle.network_law.proofs.Node.legal_facts t n es l.0) (legal_acc t n es l.0))
+legal_acc t n (e ∷ es) l = subst (Acc t n) (sym l.1.outputs) (acc_decide t n (Rattle.network_law.specs.Entries.read_history es) e.input (Rattle.network_law.proofs.Late.legal_late t n es l.0) (Rattle.network_law.proofs.Node.legal_facts t n es l.0) (legal_acc t n es l.0))
 
 -- posts and puts as events
 
-pub post_has : (h : History) (x : Fields) → IsIn x (posts h) → (i : Input) × Has (Out i (Post x)) h
+pub post_has : (h : History) (x : Fields) → IsIn x (posts h) → (i : ReadInput) × Has (Out i (Post x)) h
 unfolding posts
 post_has [] x m = absurd m
 post_has (In i ∷ h) x m = let r = post_has h x m in (r.0, inr r.1)
@@ -1082,7 +1083,7 @@ post_counted (Out i (Put l s y) ∷ h) id = let e = post_counted h id in omega (
 post_counted (Out i (Answer y) ∷ h) id = let e = post_counted h id in omega (arith, e)
 post_counted (Out i (Ask a y) ∷ h) id = let e = post_counted h id in omega (arith, e)
 
-pub put_is_sent : (h : History) (i : Input) (l s : ℕ) (x : Fields) → Has (Out i (Put l s x)) h → is_advice_group (group x.kind) ≡ true → IsIn (l, x) (sends h)
+pub put_is_sent : (h : History) (i : ReadInput) (l s : ℕ) (x : Fields) → Has (Out i (Put l s x)) h → is_advice_group (group x.kind) ≡ true → IsIn (l, x) (sends h)
 unfolding sends
 put_is_sent [] i l s x m g = absurd m
 put_is_sent (In j ∷ h) i l s x m g = ⊎_elim (λ bad. absurd (no_in j i (Put l s x) bad)) (λ old. put_is_sent h i l s x old g) m

@@ -1,15 +1,14 @@
 -- What an input that isn't refused has.
-use Rattle.std.proofs.Common.{◌≡◌, ℕ, List, [], ◌∷◌, Option, Some, None, Bool, true, false, not, ◌&&◌, ◌||◌, refl, sym, ap, ◌∙◌, subst, inl, inr, ⊎_elim}
+use Rattle.std.proofs.Common.{◌≡◌, ℕ, List, [], ◌∷◌, Option, Some, None, Bool, true, false, not, refl, subst, ⊎_elim}
 use Rattle.std.proofs.lemmas.Bool.{not-false}
 use Rattle.std.specs.Option.{option_or, option_map}
 use Rattle.iso_message.specs.Fields.{Fields, has}
-use Rattle.iso_message.specs.Groups.{group, is_reversal}
+use Rattle.iso_message.specs.Groups.{group}
 use Rattle.iso_message.specs.Keys.{own_key}
 use Rattle.net_rows.specs.Network.{Network}
-use Rattle.network_law.specs.declared.fault.StepFault.{StepFault}
 use Rattle.network_law.specs.declared.fault.StepFault.TheVariants.{ForeignAcquirer, Missing, TypeNotForGate}
 use Rattle.network_law.specs.Tables.{is_attached}
-use Rattle.network_law.specs.Traces.{Input, Enter, Take, History, IsIn}
+use Rattle.network_law.specs.Traces.{Enter, Take, History, IsIn}
 use Rattle.network_law.specs.Refusals.{refusal, when, entered_kind, taken_kind, required_entered, required_taken, first_missing, strange_original, missing}
 
 or_none : {X : Type 0} (a b : Option X) → option_or a b ≡ None → (a ≡ None) × (b ≡ None)

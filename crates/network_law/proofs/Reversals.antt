@@ -1,18 +1,19 @@
 -- Where a reversal on a link comes from, and that it agrees with its key wherever that is open.
 use Rattle.std.proofs.Common.{◌≡◌, ℕ, zero, suc, ◌+◌, ◌≤◌, ◌<◌, List, [], ◌∷◌, map, Option, Some, None, is_some, is_none, Bool, true, false, cond, not, ◌&&◌, ◌||◌, refl, sym, ap, ◌∙◌, subst, inl, inr, ⊎_elim, ◌⊎◌, arith, bytes_eq, length}
-use Rattle.std.proofs.lemmas.Bool.{and_parts, and_from, or_right, cond_both, not-false, or_parts, and_left, and_right}
+use Rattle.std.proofs.lemmas.Bool.{and_parts, and_from, or_right, cond_both, not-false, and_left, and_right}
 use Rattle.std.proofs.lemmas.Option.{same_Some}
 use Rattle.std.specs.Option.{option_or, option_and_then}
 use Rattle.std.specs.List.{list_any}
 use Rattle.net_rows.specs.Network.{Network, issuer, other_end}
 use Rattle.net_rows.specs.declared.row.Issuer.{Issuer}
 use Rattle.network_law.specs.Tables.{is_home, node_id, route_links, is_attached}
-use Rattle.network_law.specs.Traces.{Source, ByLink, Input, Enter, Take, LinkUp, LinkDown, Tick, HostAnswer, NewDate, Output, Put, In, Out, History, Handled, handled, Opening, opening, sent, own_approval, Advice, advices, add_advice, add_made, add_accepted, acked_by, has_identity, reverses_key, late_key, comes_late, failed_key, is_ok_ack, is_advice_group, is_ack_kind, as_kept, ask_key, asked, is_timer, is_link, forwarded, forwards, pending, count_of, known, reversed, home_is, dated, date_of, is_up, ticks_by, IsIn, Has}
+use Rattle.network_law.specs.Traces.{Source, ByLink, ReadInput, Enter, Take, LinkUp, LinkDown, Tick, HostAnswer, NewDate, ReadOutput, Put, In, Out, History, Handled, handled, Opening, opening, sent, own_approval, Advice, advices, add_advice, add_made, add_accepted, acked_by, has_identity, reverses_key, late_key, comes_late, failed_key, is_ok_ack, is_advice_group, is_ack_kind, as_kept, ask_key, asked, is_timer, is_link, forwarded, forwards, pending, count_of, known, reversed, home_is, dated, date_of, is_up, ticks_by, IsIn, Has}
 use Rattle.network_law.specs.Decision.{decide, reply_output, sent_kind, standin_code, other_content, own_way, first_up, same_source}
 use Rattle.network_law.proofs.Refused.{EnteredFacts, entered_facts, IsWhole}
-use Rattle.network_law.specs.Refusals.{refusal, when, strange_original, first_missing, required_entered, entered_kind}
-use Rattle.network_law.specs.Runs.{IsFormed, Entry, history, Legal, IsRun}
-use Rattle.network_law.specs.Checked.{Ranks, IsRanked, IsSound}
+use Rattle.network_law.specs.Refusals.{refusal, strange_original}
+use Rattle.network_law.specs.Entries.{ReadEntry, read_history}
+use Rattle.network_law.proofs.ReadRuns.{IsFormed, IsLegalRead, IsReadRun}
+use Rattle.network_law.specs.Checked.{Ranks, IsRanked, IsChecked}
 use Rattle.network_law.specs.Claims.{NoRepeatReply}
 use Rattle.network_law.proofs.Emits.{Allowed, forwarding, asking, standing_in, passing, declining, repeating, refusing, acking, sending, posting, Forwarding, Sending, Acking, StandingIn, OpenedFirst, Failed, Reversing, ViaLink, ViaHost, Kept, due, reversing, standing, accepting, handled_as, Issued, decide_keeps, key_eq_refl, key_eq_is, bytes_eq_refl, bytes_eq_is, stays_open, ask_key_asked, is_kept_group, is_link_is, found_is_in, via_ticks, IsGood, from_link, handled_no_timer, Accepts}
 use Rattle.network_law.proofs.Node.{NodeFacts, EntryFacts, Opened, OpensNow, opening_in_cases, legal_facts, facts_in, facts_out, keeps_issuers, answer_no_request, response_is_of_kind, response_no_request, forwarded_has, asked_has, Sent, el_dated, el_remove, put_parts, put_case}
@@ -151,7 +152,7 @@ not_strange_is m r e =
     let c = and_parts (bytes_eq (part 0 4 (el m 90)) (48 ∷ 49 ∷ 48 ∷ 48 ∷ [])) (bytes_eq (part 20 11 (el m 90)) (own_key m).acquirer) (not-false _ b) in
     bytes_eq_is (part 20 11 (el m 90)) (own_key m).acquirer c.1
 
-dated_04xx : (date : Bytes) (m : Fields) → is_04xx (dated date m).kind ≡ is_04xx m.kind
+dated_04xx : (date : List ℕ) (m : Fields) → is_04xx (dated date m).kind ≡ is_04xx m.kind
 unfolding Rattle.iso_message.specs.Fields.set_element
 dated_04xx date m = go (is_request m.kind) refl
   where
@@ -169,7 +170,7 @@ entered_reversal t n h m x src ok e r =
     let acquirer : part 20 11 (el x 90) ≡ (own_key m).acquirer = ap (part 20 11) el90 ∙ not_strange_is m kind (not_strange t n h m ok) in
     rw r (subst (λ z. is_attached t n z ≡ true) (sym acquirer) (Rattle.network_law.proofs.Node.attached t n h m ok))
 
-reversal_source : (t : Network) (n : ℕ) (past : History) (i : Input) (h : History) (m : Fields) (src : Source) → refusal t n past i ≡ None → handled_as t past i m src → is_reversal m.kind ≡ true → Has (In i) h → TakenFrom h m ⊎ (is_attached t n (key_of m).acquirer ≡ true)
+reversal_source : (t : Network) (n : ℕ) (past : History) (i : ReadInput) (h : History) (m : Fields) (src : Source) → refusal t n past i ≡ None → handled_as t past i m src → is_reversal m.kind ≡ true → Has (In i) h → TakenFrom h m ⊎ (is_attached t n (key_of m).acquirer ≡ true)
 unfolding handled
 reversal_source t n past (Enter x) h m src ok e r has = inr (entered_reversal t n past x m src ok e (reversal_is_04xx m.kind r))
 reversal_source t n past (Take l s x) h m src ok e r has =
@@ -201,11 +202,11 @@ in_accepted a count true (Some x) as' m = cond_both (is_advice_group (group x.me
 in_accepted a count true None as' m = inr m
 in_accepted a count false o as' m = inr m
 
-pub in_acked : (a : Advice) (i : Input) (as' : List Advice) → IsIn a (map (acked_by i) as') → (b : Advice) × IsIn b as' × (b.message ≡ a.message) × (b.own ≡ a.own)
+pub in_acked : (a : Advice) (i : ReadInput) (as' : List Advice) → IsIn a (map (acked_by i) as') → (b : Advice) × IsIn b as' × (b.message ≡ a.message) × (b.own ≡ a.own)
 in_acked a i [] m = absurd m
 in_acked a i (b ∷ as') m = ⊎_elim (λ e. (b, inl refl, acked_message i b ∙ ap Advice.message e, acked_own i b ∙ ap Advice.own e)) (λ r. (let x = in_acked a i as' r in (x.0, inr x.1, x.2, x.3))) m
   where
-    acked_message : (i : Input) (b : Advice) → b.message ≡ (acked_by i b).message
+    acked_message : (i : ReadInput) (b : Advice) → b.message ≡ (acked_by i b).message
     acked_message (Take l s x) b = refl
     acked_message (Enter x) b = refl
     acked_message (LinkUp l) b = refl
@@ -214,7 +215,7 @@ in_acked a i (b ∷ as') m = ⊎_elim (λ e. (b, inl refl, acked_message i b ∙
     acked_message (HostAnswer c d) b = refl
     acked_message (NewDate d) b = refl
 
-    acked_own : (i : Input) (b : Advice) → b.own ≡ (acked_by i b).own
+    acked_own : (i : ReadInput) (b : Advice) → b.own ≡ (acked_by i b).own
     acked_own (Take l s x) b = refl
     acked_own (Enter x) b = refl
     acked_own (LinkUp l) b = refl
@@ -232,7 +233,7 @@ pub record SentReversal (t : Network) (n : ℕ) (h : History) (l : ℕ) (x : Fie
   pub provenance : Provenance t n h x
 
 abbrev pub SentKnown : Network → ℕ → History → Type 0
-SentKnown t n h = (i : Input) (l s : ℕ) (x : Fields) → Has (Out i (Put l s x)) h → is_reversal x.kind ≡ true → SentReversal t n h l x
+SentKnown t n h = (i : ReadInput) (l s : ℕ) (x : Fields) → Has (Out i (Put l s x)) h → is_reversal x.kind ≡ true → SentReversal t n h l x
 
 -- more events: what agreed still agrees, unless the key is forwarded only now
 record Extends (t : Network) (h h' : History) (k : Key) : Type 0 where
@@ -260,7 +261,7 @@ extend t n h h' x more p = record {
 extend_made : (t : Network) (n : ℕ) (h h' : History) (x : Fields) → ((op : Opening) → opening t h (key_of x) ≡ Some op → opening t h' (key_of x) ≡ Some op) → Issued t x → MadeHere t h x → Provenance t n h' x
 extend_made t n h h' x opens issued m = record { issued = issued; from = inl (record { op = m.op; opens = opens m.op m.opens; same = m.same }) }
 
-extends_in : (t : Network) (n : ℕ) (h : History) (i : Input) (k : Key) → NodeFacts t n h → Extends t h (In i ∷ h) k
+extends_in : (t : Network) (n : ℕ) (h : History) (i : ReadInput) (k : Key) → NodeFacts t n h → Extends t h (In i ∷ h) k
 unfolding forwarded
 extends_in t n h i k f = record {
   has = λ l s m has. inr has;
@@ -278,7 +279,7 @@ extends_in t n h i k f = record {
         (l, was ∙ ap Some same, fw)
 
 -- an output that forwards nothing, or a key that is forwarded already
-extends_out : (t : Network) (h : History) (i : Input) (o : Output) (k : Key) → ((l : ℕ) → forwarded h k ≡ None → forwards k o ≡ Some l → ⊥) → Extends t h (Out i o ∷ h) k
+extends_out : (t : Network) (h : History) (i : ReadInput) (o : ReadOutput) (k : Key) → ((l : ℕ) → forwarded h k ≡ None → forwards k o ≡ Some l → ⊥) → Extends t h (Out i o ∷ h) k
 unfolding opening forwarded
 extends_out t h i o k not_now = record {
   has = λ l s m has. inr has;
@@ -300,7 +301,7 @@ made_provenance t n h k op x f o issued e =
     record { issued = (issued.0, ap (issuer t) (same_card x op.message same) ∙ issued.1); from = inl (record { op = op; opens = ap (opening t h) key ∙ o; same = sym same }) }
 
 -- a late key was forwarded or asked
-pub late_ticks : (t : Network) (h : History) (as' : List Advice) (i : Input) (k : Key) → late_key h as' i ≡ Some k → is_some (ticks_by t (forwarded h k) (asked h k)) ≡ true
+pub late_ticks : (t : Network) (h : History) (as' : List Advice) (i : ReadInput) (k : Key) → late_key h as' i ≡ Some k → is_some (ticks_by t (forwarded h k) (asked h k)) ≡ true
 late_ticks t h as' (Take l s m) k e = go (is_answer m.kind && bytes_eq (code_of m) code_00 && is_link l (forwarded h (key_of m)) && comes_late h as' (key_of m)) refl
   where
     go : (b : Bool) → (is_answer m.kind && bytes_eq (code_of m) code_00 && is_link l (forwarded h (key_of m)) && comes_late h as' (key_of m)) ≡ b → is_some (ticks_by t (forwarded h k) (asked h k)) ≡ true
@@ -332,7 +333,7 @@ pub opened_of_key : {X Y : Type 0} (f : X → Option Y) (o : Option X) (y : Y) �
 opened_of_key f None y e = absurd (none_some y e)
 opened_of_key f (Some x) y e = (x, refl, e)
 
-known_in : (t : Network) (n : ℕ) (h : History) (i : Input) → IsFormed i → refusal t n h i ≡ None → NodeFacts t n h → AllKnown t n h → AllKnown t n (In i ∷ h)
+known_in : (t : Network) (n : ℕ) (h : History) (i : ReadInput) → IsFormed i → refusal t n h i ≡ None → NodeFacts t n h → AllKnown t n h → AllKnown t n (In i ∷ h)
 unfolding advices
 known_in t n h i form ok f before a m r = ⊎_elim made old (in_made a (λ x. made_reversal x (node_id t n)) (count_of h) (option_and_then (opening t h) (late_key h (advices t n h) i)) (map (acked_by i) (advices t n h)) m)
   where
@@ -348,7 +349,7 @@ known_in t n h i form ok f before a m r = ⊎_elim made old (in_made a (λ x. ma
         let p : Provenance t n h a.message = subst (λ z. Provenance t n h z) b.2 (before b.0 b.1 (ap (λ z. is_04xx (Fields.kind z)) b.2 ∙ r)) in
         extend t n h (In i ∷ h) a.message (extends_in t n h i (key_of a.message) f) p
 
-sent_in : (t : Network) (n : ℕ) (h : History) (i : Input) → NodeFacts t n h → SentKnown t n h → SentKnown t n (In i ∷ h)
+sent_in : (t : Network) (n : ℕ) (h : History) (i : ReadInput) → NodeFacts t n h → SentKnown t n h → SentKnown t n (In i ∷ h)
 sent_in t n h i f before j l s x has r =
     let b = before j l s x (below has) r in
     record { s = b.s; issued = b.issued; away = b.away; on_route = b.on_route; provenance = extend t n h (In i ∷ h) x (extends_in t n h i (key_of x) f) b.provenance }
@@ -427,7 +428,7 @@ ok_ack_parts None e = absurd (not_both false e refl)
 ok_ack_parts (Some y) e = let p = and_parts (is_ack_kind (group y.kind)) (bytes_eq (code_of y) code_00) e in (y, refl, p.0, p.1)
 
 -- what is acknowledged with 00 is good
-pub ack_case : (t : Network) (n : ℕ) (past : History) (i : Input) (h : History) (o : Output) → EntryFacts t n past i h → Allowed t n past i h o → is_ok_ack (sent o) ≡ true → (m : Fields) × (src : Source) × handled_as t past i m src × IsGood t past m
+pub ack_case : (t : Network) (n : ℕ) (past : History) (i : ReadInput) (h : History) (o : ReadOutput) → EntryFacts t n past i h → Allowed t n past i h o → is_ok_ack (sent o) ≡ true → (m : Fields) × (src : Source) × handled_as t past i m src × IsGood t past m
 ack_case t n past i h o facts allowed e = go allowed
   where
     y : (y : Fields) × (sent o ≡ Some y) × (is_ack_kind (group y.kind) ≡ true) × (bytes_eq (code_of y) code_00 ≡ true)
@@ -452,11 +453,11 @@ ack_case t n past i h o facts allowed e = go allowed
     go (posting f) = absurd (none_some y.0 (ap sent (sym f.is) ∙ y.1))
 
 -- a reversal that is good, at its node
-record GoodHere (t : Network) (n : ℕ) (past : History) (i : Input) (h : History) : Type 0 where
+record GoodHere (t : Network) (n : ℕ) (past : History) (i : ReadInput) (h : History) : Type 0 where
   entry : EntryFacts t n past i h
   input : Has (In i) h
 
-good_accepted : (t : Network) (n : ℕ) (past : History) (i : Input) (h : History) (m x : Fields) (src : Source) → refusal t n past i ≡ None → GoodHere t n past i h → handled_as t past i m src → is_reversal m.kind ≡ true → IsGood t past m → key_of x ≡ key_of m → content x ≡ content m → reversed t n h (key_of x) ≡ true → Provenance t n h x
+good_accepted : (t : Network) (n : ℕ) (past : History) (i : ReadInput) (h : History) (m x : Fields) (src : Source) → refusal t n past i ≡ None → GoodHere t n past i h → handled_as t past i m src → is_reversal m.kind ≡ true → IsGood t past m → key_of x ≡ key_of m → content x ≡ content m → reversed t n h (key_of x) ≡ true → Provenance t n h x
 good_accepted t n past i h m x src ok here e r good key same rev = record {
   issued = issued_of (issuer t (card_of m)) refl good.issued;
   from = inr (rev, record { agrees = λ op l o f. agrees op (ap (opening t h) (sym key) ∙ o); source = ⊎_elim (λ s. inl (record { link = s.link; serial = s.serial; message = s.message; has = s.has; reversal = s.reversal; key = s.key ∙ sym key; same = s.same ∙ sym same })) (λ g. inr (ap (λ z. is_attached t n (Key.acquirer z)) key ∙ g)) (reversal_source t n past i h m src ok e r (GoodHere.input here)) });
@@ -489,7 +490,7 @@ any_in p x (y ∷ ys) m e = ⊎_elim (λ same. (let z : p y ≡ true = ap p same
 abbrev accepted_of : Key → Advice → Bool
 accepted_of k a = not a.own && reverses_key k a
 
-reversed_back : (t : Network) (n : ℕ) (past : History) (i : Input) (k : Key) → reversed t n (In i ∷ past) k ≡ true → reversed t n past k ≡ true
+reversed_back : (t : Network) (n : ℕ) (past : History) (i : ReadInput) (k : Key) → reversed t n (In i ∷ past) k ≡ true → reversed t n past k ≡ true
 unfolding reversed advices
 reversed_back t n past i k r = acked_back (advices t n past) (made_back (λ m. made_reversal m (node_id t n)) (count_of past) (option_and_then (opening t past) (late_key past (advices t n past) i)) (map (acked_by i) (advices t n past)) r)
   where
@@ -497,7 +498,7 @@ reversed_back t n past i k r = acked_back (advices t n past) (made_back (λ m. m
     made_back make count None as' e = e
     made_back make count (Some op) as' e = cond_both (list_any (has_identity (identity_of (make op.message))) as') as' (record { message = make op.message; count = count; own = true; acked = false } ∷ as') (λ z. list_any (accepted_of k) z ≡ true → list_any (accepted_of k) as' ≡ true) (λ _ x. x) (λ _ x. x) e
 
-    acked_one : (i : Input) (a : Advice) → accepted_of k (acked_by i a) ≡ accepted_of k a
+    acked_one : (i : ReadInput) (a : Advice) → accepted_of k (acked_by i a) ≡ accepted_of k a
     acked_one (Take l s m) a = refl
     acked_one (Enter m) a = refl
     acked_one (LinkUp l) a = refl
@@ -514,7 +515,7 @@ reversed_back t n past i k r = acked_back (advices t n past) (made_back (λ m. m
     acked_back as' e = sym (acked_all as') ∙ e
 
 -- within an entry
-record Through (t : Network) (n : ℕ) (past : History) (i : Input) (h : History) : Type 0 where
+record Through (t : Network) (n : ℕ) (past : History) (i : ReadInput) (h : History) : Type 0 where
   entry : EntryFacts t n past i h
   input : Has (In i) h
   handled_same : handled t h i ≡ handled t past i
@@ -524,18 +525,18 @@ record Through (t : Network) (n : ℕ) (past : History) (i : Input) (h : History
 
 -- an entry's advices where nothing is made
 
-pub quiet_out : (t : Network) (n : ℕ) (i : Input) (o : Output) (h : History) → own_approval h i o ≡ None → failed_key t h i (sent o) ≡ None → advices t n (Out i o ∷ h) ≡ add_accepted (count_of h) (is_ok_ack (sent o)) (handled t h i) (advices t n h)
+pub quiet_out : (t : Network) (n : ℕ) (i : ReadInput) (o : ReadOutput) (h : History) → own_approval h i o ≡ None → failed_key t h i (sent o) ≡ None → advices t n (Out i o ∷ h) ≡ add_accepted (count_of h) (is_ok_ack (sent o)) (handled t h i) (advices t n h)
 unfolding advices
 quiet_out t n i o h a b = rw (a, b) refl
 
-pub no_failed : (t : Network) (h : History) (i : Input) (w : Option Fields) → is_timer i ≡ false → failed_key t h i w ≡ None
+pub no_failed : (t : Network) (h : History) (i : ReadInput) (w : Option Fields) → is_timer i ≡ false → failed_key t h i w ≡ None
 no_failed t h i None e = refl
 no_failed t h i (Some y) e = rw e refl
 
-pub no_own : (h : History) (i : Input) (o : Output) (y : Fields) → sent o ≡ Some y → (is_answer y.kind && bytes_eq (code_of y) code_00) ≡ false → own_approval h i o ≡ None
+pub no_own : (h : History) (i : ReadInput) (o : ReadOutput) (y : Fields) → sent o ≡ Some y → (is_answer y.kind && bytes_eq (code_of y) code_00) ≡ false → own_approval h i o ≡ None
 no_own h i o y e f = rw (e, f) refl
 
-pub late_none : (t : Network) (past : History) (as' : List Advice) (i : Input) (m : Fields) (src : Source) → handled_as t past i m src → is_answer m.kind ≡ false → late_key past as' i ≡ None
+pub late_none : (t : Network) (past : History) (as' : List Advice) (i : ReadInput) (m : Fields) (src : Source) → handled_as t past i m src → is_answer m.kind ≡ false → late_key past as' i ≡ None
 unfolding handled
 late_none t past as' (Take l s x) m src e f =
     let same : x ≡ m = ap (λ (z : Handled). z.message) (same_Some _ _ e) in
@@ -548,11 +549,11 @@ late_none t past as' Tick m src e f = refl
 late_none t past as' (HostAnswer a c) m src e f = absurd (none_some _ e)
 late_none t past as' (NewDate d) m src e f = refl
 
-pub identity_acked : (id : AdviceId) (i : Input) (as' : List Advice) → list_any (has_identity id) (map (acked_by i) as') ≡ list_any (has_identity id) as'
+pub identity_acked : (id : AdviceId) (i : ReadInput) (as' : List Advice) → list_any (has_identity id) (map (acked_by i) as') ≡ list_any (has_identity id) as'
 identity_acked id i [] = refl
 identity_acked id i (a ∷ as') = ap (λ b. b || list_any (has_identity id) (map (acked_by i) as')) (one i a) ∙ ap (λ b. has_identity id a || b) (identity_acked id i as')
   where
-    one : (i : Input) (a : Advice) → has_identity id (acked_by i a) ≡ has_identity id a
+    one : (i : ReadInput) (a : Advice) → has_identity id (acked_by i a) ≡ has_identity id a
     one (Take l s m) a = refl
     one (Enter m) a = refl
     one (LinkUp l) a = refl
@@ -561,7 +562,7 @@ identity_acked id i (a ∷ as') = ap (λ b. b || list_any (has_identity id) (map
     one (HostAnswer b c) a = refl
     one (NewDate d) a = refl
 
-pub advices_in : (t : Network) (n : ℕ) (past : History) (i : Input) → late_key past (advices t n past) i ≡ None → advices t n (In i ∷ past) ≡ map (acked_by i) (advices t n past)
+pub advices_in : (t : Network) (n : ℕ) (past : History) (i : ReadInput) → late_key past (advices t n past) i ≡ None → advices t n (In i ∷ past) ≡ map (acked_by i) (advices t n past)
 unfolding advices
 advices_in t n past i e = rw e refl
 
@@ -573,7 +574,7 @@ identity_kept m g =
     λ j. record { kind = Rattle.iso_message.specs.Keys.advice_kind (a j); key = b j; forwarder = Rattle.iso_message.specs.Keys.padded_or_zeros (Rattle.iso_message.specs.Fields.get m 33) }
 
 -- an accepted reversal is marked when its acknowledgement is put out
-reversed_now : (t : Network) (n : ℕ) (past : History) (i : Input) (h : History) (x : Fields) → Accepts t n past i h x → is_04xx x.kind ≡ true → reversed t n h (key_of x) ≡ true
+reversed_now : (t : Network) (n : ℕ) (past : History) (i : ReadInput) (h : History) (x : Fields) → Accepts t n past i h x → is_04xx x.kind ≡ true → reversed t n h (key_of x) ≡ true
 unfolding reversed known
 reversed_now t n past i h x a r =
     rw a.at (subst (λ z. list_any (accepted_of (key_of x)) z ≡ true) (sym out) added)
@@ -581,7 +582,7 @@ reversed_now t n past i h x a r =
     m : Fields
     m = a.message
 
-    ro : Output
+    ro : ReadOutput
     ro = reply_output a.source (response a.message code_00) a.before
 
     r0 : is_04xx a.message.kind ≡ true
@@ -648,7 +649,7 @@ reversed_now t n past i h x a r =
         first_any b as' e = rw e refl
 
 -- what was known stays so, whatever is put out
-module _ (t : Network) (n : ℕ) (past : History) (i : Input) (ok : refusal t n past i ≡ None) (facts : NodeFacts t n past) (h : History) (o : Output) (q : Through t n past i h) (allowed : Allowed t n past i h o) where
+module _ (t : Network) (n : ℕ) (past : History) (i : ReadInput) (ok : refusal t n past i ≡ None) (facts : NodeFacts t n past) (h : History) (o : ReadOutput) (q : Through t n past i h) (allowed : Allowed t n past i h o) where
   keep_provenance : (x : Fields) → Provenance t n h x → Provenance t n (Out i o ∷ h) x
   unfolding opening
   keep_provenance x p = ⊎_elim made accepted p.from
@@ -767,7 +768,7 @@ advice_reverses true false e = (refl, refl)
 advice_reverses false true e = cc
 advice_reverses false false e = cc
 
-reversal_case : (t : Network) (n : ℕ) (past : History) (i : Input) (h : History) (o : Output) (l s : ℕ) (x : Fields) → Allowed t n past i h o → o ≡ Put l s x → is_reversal x.kind ≡ true → Sending t n past i h o
+reversal_case : (t : Network) (n : ℕ) (past : History) (i : ReadInput) (h : History) (o : ReadOutput) (l s : ℕ) (x : Fields) → Allowed t n past i h o → o ≡ Put l s x → is_reversal x.kind ≡ true → Sending t n past i h o
 reversal_case t n past i h o l s x allowed e r = go allowed
   where
     is_sent : sent o ≡ Some x
@@ -794,7 +795,7 @@ reversal_case t n past i h o l s x allowed e r = go allowed
 pub home_is_not : (n : ℕ) (o : Option Issuer) (s : Issuer) → o ≡ Some s → home_is n o ≡ false → is_home s n ≡ false
 home_is_not n o s e f = ap (home_is n) (sym e) ∙ f
 
-module _ (t : Network) (n : ℕ) (past : History) (i : Input) (ok : refusal t n past i ≡ None) (facts : NodeFacts t n past) (before : AllKnown t n past) (h : History) (o : Output) (q : Through t n past i h) (allowed : Allowed t n past i h o) where
+module _ (t : Network) (n : ℕ) (past : History) (i : ReadInput) (ok : refusal t n past i ≡ None) (facts : NodeFacts t n past) (before : AllKnown t n past) (h : History) (o : ReadOutput) (q : Through t n past i h) (allowed : Allowed t n past i h o) where
   -- the provenance of what is sent
   sent_provenance : (x : Fields) → Kept t n past i h x → is_04xx x.kind ≡ true → Provenance t n h x
   sent_provenance x (due a m e) r = Through.past_known q x (subst (Provenance t n past) (sym e) (before a m (ap (λ z. is_04xx (Fields.kind z)) (sym e) ∙ r)))
@@ -856,7 +857,7 @@ record Both (t : Network) (n : ℕ) (h : History) : Type 0 where
   all : AllKnown t n h
   puts : SentKnown t n h
 
-both_decide : (t : Network) (n : ℕ) (past : History) (i : Input) → IsFormed i → refusal t n past i ≡ None → NodeFacts t n past → Both t n past → Both t n (decide t n past i)
+both_decide : (t : Network) (n : ℕ) (past : History) (i : ReadInput) → IsFormed i → refusal t n past i ≡ None → NodeFacts t n past → Both t n past → Both t n (decide t n past i)
 both_decide t n past i form ok f before =
     let q : Through t n past i (decide t n past i) = (decide_keeps t n past i (Through t n past i)
     (λ h o q allowed. record {
@@ -878,36 +879,36 @@ both_decide t n past i form ok f before =
     })) in
     record { all = Through.all_known q; puts = Through.sent_known q }
 
-legal_both : (t : Network) (n : ℕ) (es : List Entry) → Legal t n es → Both t n (history es)
-unfolding history advices
+legal_both : (t : Network) (n : ℕ) (es : List ReadEntry) → IsLegalRead t n es → Both t n (read_history es)
+unfolding read_history advices
 legal_both t n [] l = record { all = λ a m. absurd m; puts = λ i k s x m. absurd m }
-legal_both t n (e ∷ es) l = subst (Both t n) (sym l.1.outputs) (both_decide t n (history es) e.input l.1.formed l.1.accepted (legal_facts t n es l.0) (legal_both t n es l.0))
+legal_both t n (e ∷ es) l = subst (Both t n) (sym l.1.outputs) (both_decide t n (read_history es) e.input l.1.formed l.1.accepted (legal_facts t n es l.0) (legal_both t n es l.0))
 
-pub legal_sent : (t : Network) (n : ℕ) (es : List Entry) → Legal t n es → SentKnown t n (history es)
+pub legal_sent : (t : Network) (n : ℕ) (es : List ReadEntry) → IsLegalRead t n es → SentKnown t n (read_history es)
 legal_sent t n es l = Both.puts (legal_both t n es l)
 
 -- a reversal is traced back to where it was made, or to its gate
 
-pub record Traced (t : Network) (ranks : Ranks) (traces : ℕ → List Entry) (a : ℕ) (x : Fields) : Type 0 where
+pub record Traced (t : Network) (ranks : Ranks) (traces : ℕ → List ReadEntry) (a : ℕ) (x : Fields) : Type 0 where
   pub node : ℕ
   pub above : rank ranks (card_of x) a ≤ rank ranks (card_of x) node
-  pub made : ((op : Opening) × (opening t (history (traces node)) (key_of x) ≡ Some op) × (content op.message ≡ content x))
-      ⊎ ((is_attached t node (key_of x).acquirer ≡ true) × ((op : Opening) (l : ℕ) → opening t (history (traces node)) (key_of x) ≡ Some op → forwarded (history (traces node)) (key_of x) ≡ Some l → content op.message ≡ content x))
+  pub made : ((op : Opening) × (opening t (read_history (traces node)) (key_of x) ≡ Some op) × (content op.message ≡ content x))
+      ⊎ ((is_attached t node (key_of x).acquirer ≡ true) × ((op : Opening) (l : ℕ) → opening t (read_history (traces node)) (key_of x) ≡ Some op → forwarded (read_history (traces node)) (key_of x) ≡ Some l → content op.message ≡ content x))
 
-module _ (t : Network) (ranks : Ranks) (traces : ℕ → List Entry) (run : IsRun t traces) (ranked : IsRanked t ranks) (sound : IsSound t) where
-  sent_at : (a l s : ℕ) (i : Input) (x : Fields) → Has (Out i (Put l s x)) (history (traces a)) → is_reversal x.kind ≡ true → SentReversal t a (history (traces a)) l x
+module _ (t : Network) (ranks : Ranks) (traces : ℕ → List ReadEntry) (run : IsReadRun t traces) (ranked : IsRanked t ranks) (sound : IsChecked t) where
+  sent_at : (a l s : ℕ) (i : ReadInput) (x : Fields) → Has (Out i (Put l s x)) (read_history (traces a)) → is_reversal x.kind ≡ true → SentReversal t a (read_history (traces a)) l x
   sent_at a l s i x has r = legal_sent t a (traces a) (legal_at run a) i l s x has r
 
-  reversal_falls : (a l : ℕ) (x : Fields) → SentReversal t a (history (traces a)) l x → a < length t.nodes → RankFalls ranks (card_of x) (other_end t a l) a
+  reversal_falls : (a l : ℕ) (x : Fields) → SentReversal t a (read_history (traces a)) l x → a < length t.nodes → RankFalls ranks (card_of x) (other_end t a l) a
   reversal_falls a l x s less = falls ranks (card_of x) (other_end t a l) a (ranked (card_of x) s.s a l s.issued less (not_home s.s a s.away) s.on_route)
 
   -- the node that sent what was taken
   record Sender (n : ℕ) (l : ℕ) (x : Fields) : Type 0 where
-    sent : SentReversal t (other_end t n l) (history (traces (other_end t n l))) l x
+    sent : SentReversal t (other_end t n l) (read_history (traces (other_end t n l))) l x
     less : rank ranks (card_of x) n < rank ranks (card_of x) (other_end t n l)
     bound : rank ranks (card_of x) (other_end t n l) ≤ highest
 
-  sender : (n l s : ℕ) (x : Fields) → Has (In (Take l s x)) (history (traces n)) → is_reversal x.kind ≡ true → Sender n l x
+  sender : (n l s : ℕ) (x : Fields) → Has (In (Take l s x)) (read_history (traces n)) → is_reversal x.kind ≡ true → Sender n l x
   sender n l s x has r =
       let put = run.linked n l s x has in
       let back' = back t l n (legal_own t n (traces n) (legal_at run n) l s x has) in
@@ -915,10 +916,10 @@ module _ (t : Network) (ranks : Ranks) (traces : ℕ → List Entry) (run : IsRu
       let f = reversal_falls (other_end t n l) l x sent' (is_node run (other_end t n l) (Out put.0 (Put l s x)) put.1) in
       record { sent = sent'; less = subst (λ z. rank ranks (card_of x) z < rank ranks (card_of x) (other_end t n l)) back' f.less; bound = f.bound }
 
-  traced : (fuel a : ℕ) (x : Fields) → Provenance t a (history (traces a)) x → highest < rank ranks (card_of x) a + fuel → Traced t ranks traces a x
+  traced : (fuel a : ℕ) (x : Fields) → Provenance t a (read_history (traces a)) x → highest < rank ranks (card_of x) a + fuel → Traced t ranks traces a x
   traced zero a x p far = ⊎_elim (λ m. record { node = a; above = omega arith; made = inl (m.op, m.opens, m.same) }) (λ w. ⊎_elim (λ s. absurd (too_far s)) (λ g. record { node = a; above = omega arith; made = inr (g, w.1.agrees) }) w.1.source) p.from
     where
-      too_far : TakenFrom (history (traces a)) x → ⊥
+      too_far : TakenFrom (read_history (traces a)) x → ⊥
       too_far s =
           let b = sender a s.link s.serial s.message s.has s.reversal in
           let less = Sender.less b in
@@ -927,28 +928,28 @@ module _ (t : Network) (ranks : Ranks) (traces : ℕ → List Entry) (run : IsRu
           omega (arith, less, bound, far')
   traced (suc fuel) a x p far = ⊎_elim (λ m. record { node = a; above = omega arith; made = inl (m.op, m.opens, m.same) }) (λ w. ⊎_elim (λ s. go s (λ p' far'. traced fuel (other_end t a s.link) x p' far')) (λ g. record { node = a; above = omega arith; made = inr (g, w.1.agrees) }) w.1.source) p.from
     where
-      go : (s : TakenFrom (history (traces a)) x) → (Provenance t (other_end t a s.link) (history (traces (other_end t a s.link))) x → highest < rank ranks (card_of x) (other_end t a s.link) + fuel → Traced t ranks traces (other_end t a s.link) x) → Traced t ranks traces a x
+      go : (s : TakenFrom (read_history (traces a)) x) → (Provenance t (other_end t a s.link) (read_history (traces (other_end t a s.link))) x → highest < rank ranks (card_of x) (other_end t a s.link) + fuel → Traced t ranks traces (other_end t a s.link) x) → Traced t ranks traces a x
       go s ih =
           let b = sender a s.link s.serial s.message s.has s.reversal in
           let less : rank ranks (card_of x) a < rank ranks (card_of x) (other_end t a s.link) = subst (λ c. rank ranks c a < rank ranks c (other_end t a s.link)) (same_card s.message x s.same) (Sender.less b) in
-          let p' = provenance_of t (other_end t a s.link) (history (traces (other_end t a s.link))) s.message x s.key s.same (Sender.sent b).provenance in
+          let p' = provenance_of t (other_end t a s.link) (read_history (traces (other_end t a s.link))) s.message x s.key s.same (Sender.sent b).provenance in
           let r = ih p' (omega (arith, less, far)) in
           let above = r.above in
           record { node = r.node; above = omega (arith, less, above); made = r.made }
 
   -- a chain with a second node begins with a forward
-  first_forward : (k : Key) (g j n : ℕ) → chain t traces k g (suc j) ≡ Some n → (l : ℕ) × (forwarded (history (traces g)) k ≡ Some l)
+  first_forward : (k : Key) (g j n : ℕ) → chain t traces k g (suc j) ≡ Some n → (l : ℕ) × (forwarded (read_history (traces g)) k ≡ Some l)
   unfolding chain
   first_forward k g zero n e =
       let s = step_back t ranks traces run ranked sound k g 0 n e in
       let same : g ≡ s.0 = same_Some g s.0 s.1 in
-      (s.2, ap (λ z. forwarded (history (traces z)) k) same ∙ s.3)
+      (s.2, ap (λ z. forwarded (read_history (traces z)) k) same ∙ s.3)
   first_forward k g (suc j) n e =
       let s = step_back t ranks traces run ranked sound k g (suc j) n e in
       first_forward k g j s.0 s.1
 
   -- a reversal that is taken agrees with its key where that is open
-  pub no_reversal_refused : (n l s : ℕ) (m : Fields) (op : Opening) → Has (In (Take l s m)) (history (traces n)) → is_reversal m.kind ≡ true → opening t (history (traces n)) (key_of m) ≡ Some op → content op.message ≡ content m
+  pub no_reversal_refused : (n l s : ℕ) (m : Fields) (op : Opening) → Has (In (Take l s m)) (read_history (traces n)) → is_reversal m.kind ≡ true → opening t (read_history (traces n)) (key_of m) ≡ Some op → content op.message ≡ content m
   unfolding chain
   no_reversal_refused n l s m op has r e =
       let b = sender n l s m has r in
@@ -964,7 +965,7 @@ module _ (t : Network) (ranks : Ranks) (traces : ℕ → List Entry) (run : IsRu
           st : Stands t traces (key_of m) n op
           st = stands t ranks traces run ranked sound (key_of m) n op e
 
-          at_gate : (is_attached t w.node (key_of m).acquirer ≡ true) × ((op : Opening) (l : ℕ) → opening t (history (traces w.node)) (key_of m) ≡ Some op → forwarded (history (traces w.node)) (key_of m) ≡ Some l → content op.message ≡ content m) → content op.message ≡ content m
+          at_gate : (is_attached t w.node (key_of m).acquirer ≡ true) × ((op : Opening) (l : ℕ) → opening t (read_history (traces w.node)) (key_of m) ≡ Some op → forwarded (read_history (traces w.node)) (key_of m) ≡ Some l → content op.message ≡ content m) → content op.message ≡ content m
           at_gate g = by_place st.place refl
             where
               same : st.gate ≡ w.node
@@ -978,9 +979,9 @@ module _ (t : Network) (ranks : Ranks) (traces : ℕ → List Entry) (run : IsRu
                   absurd (omega (arith, above, less))
               by_place (suc j) is =
                   let f = first_forward (key_of m) st.gate j n (ap (chain t traces (key_of m) st.gate) (sym is) ∙ st.at) in
-                  st.same ∙ g.1 st.first f.0 (ap (λ z. opening t (history (traces z)) (key_of m)) (sym same) ∙ st.opened_at_gate) (ap (λ z. forwarded (history (traces z)) (key_of m)) (sym same) ∙ f.1)
+                  st.same ∙ g.1 st.first f.0 (ap (λ z. opening t (read_history (traces z)) (key_of m)) (sym same) ∙ st.opened_at_gate) (ap (λ z. forwarded (read_history (traces z)) (key_of m)) (sym same) ∙ f.1)
 
-pub NoRepeatReply_holds : (t : Network) (ranks : Ranks) (traces : ℕ → List Entry) → IsRun t traces → IsRanked t ranks → IsSound t → NoRepeatReply (histories traces)
+pub NoRepeatReply_holds : (t : Network) (ranks : Ranks) (traces : ℕ → List ReadEntry) → IsReadRun t traces → IsRanked t ranks → IsChecked t → NoRepeatReply (histories traces)
 NoRepeatReply_holds t ranks traces run ranked sound n l s i m has r code =
     let b = legal_codes t n (traces n) (legal_at run n) i l s m has r code in
     ⊎_elim (λ d. not_both (same_source b.op.source (ByLink l) && content_eq (content b.op.message) (content b.message)) (no_request_refused t ranks traces run ranked sound n l b.serial b.message b.op b.has d.0 b.opens) d.1)

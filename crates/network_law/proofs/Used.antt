@@ -8,17 +8,18 @@ use Rattle.card_digits.specs.Numbers.{decimal}
 use Rattle.net_rows.specs.Network.{Network, issuer, day}
 use Rattle.net_rows.specs.declared.row.Issuer.{Issuer}
 use Rattle.network_law.specs.Tables.{node_id, single}
-use Rattle.network_law.specs.Traces.{Source, Gate, ByLink, Input, Enter, Take, LinkUp, LinkDown, Tick, HostAnswer, NewDate, Output, Put, Answer, Ask, Post, Event, In, Out, History, Opening, opening, answer, answers, sent, has_00, is_00_of, brings_00, key_of_00, own_in, own_approval, Approval, approval_by, approval_of, approvals, Advice, advices, add_advice, add_made, add_accepted, acked_by, has_identity, reverses_key, reversed, counted, added, used, ask_key, key_asked, is_key, is_advice_group, count_of, late_key, failed_key, is_ok_ack, handled, IsIn}
+use Rattle.network_law.specs.Traces.{Source, Gate, ByLink, ReadInput, Enter, Take, LinkUp, LinkDown, Tick, HostAnswer, NewDate, ReadOutput, Put, Answer, Ask, Post, Event, In, Out, History, Opening, opening, answer, answers, sent, has_00, is_00_of, brings_00, key_of_00, own_in, own_approval, Approval, approval_by, approval_of, approvals, Advice, advices, add_advice, add_made, add_accepted, acked_by, has_identity, reverses_key, reversed, counted, added, used, ask_key, key_asked, is_key, is_advice_group, count_of, late_key, failed_key, is_ok_ack, handled, IsIn}
 use Rattle.network_law.specs.Decision.{decide, reply_output, sent_kind, standin_code, code_by_limits}
 use Rattle.network_law.specs.Refusals.{refusal}
-use Rattle.network_law.specs.Runs.{IsFormed, Entry, history, Legal, IsRun}
+use Rattle.network_law.specs.Entries.{ReadEntry, read_history}
+use Rattle.network_law.proofs.ReadRuns.{IsFormed, IsLegalRead, IsReadRun}
 use Rattle.network_law.specs.Checked.{IsBounded, sum_below}
-use Rattle.network_law.specs.Claims.{NamedApprovers, WithinCeiling, AtMost, exposure}
+use Rattle.network_law.specs.Claims.{IsWithinLimits, NamedApprovers, WithinCeiling, AtMost, exposure}
 use Rattle.network_law.proofs.Emits.{Allowed, forwarding, asking, standing_in, passing, declining, repeating, refusing, acking, sending, posting, Forwarding, Asking, StandingIn, Passing, Declining, Repeating, Refusing, Acking, Sending, Posting, is_kept_group, Issued, decide_keeps, key_eq_refl, key_eq_is, bytes_eq_refl, bytes_eq_is}
 use Rattle.network_law.proofs.Node.{NodeFacts, EntryFacts, Opened, legal_facts, facts_in, facts_out, facts_decide, keeps_issuers, answers_is, response_is_of_kind}
 use Rattle.network_law.proofs.Elements.{code_response, response_key}
 use Rattle.network_law.proofs.Ends.{legal_at, histories}
-use Rattle.network_law.specs.Cards.{Bytes, card_of}
+use Rattle.network_law.specs.Cards.{label_of, Bytes, card_of}
 use Rattle.iso_message.specs.Fields.{Fields, el, as_kind}
 use Rattle.iso_message.specs.declared.kind.Kind.{Kind}
 use Rattle.iso_message.specs.declared.kind.Kind.TheVariants.{K0100, K0110, K0120, K0121, K0130, K0400, K0401, K0410, K0420, K0421, K0430, K0101}
@@ -55,7 +56,7 @@ add_accepted_keeps p count false o as' e = e
 abbrev reverses : Key → Advice → Bool
 reverses k a = not a.own && reverses_key k a
 
-acked_same : (k : Key) (i : Input) (a : Advice) → reverses k (acked_by i a) ≡ reverses k a
+acked_same : (k : Key) (i : ReadInput) (a : Advice) → reverses k (acked_by i a) ≡ reverses k a
 acked_same k (Take l s m) a = refl
 acked_same k (Enter m) a = refl
 acked_same k (LinkUp l) a = refl
@@ -64,7 +65,7 @@ acked_same k Tick a = refl
 acked_same k (HostAnswer b c) a = refl
 acked_same k (NewDate d) a = refl
 
-any_acked : (k : Key) (i : Input) (as' : List Advice) → list_any (reverses k) (map (acked_by i) as') ≡ list_any (reverses k) as'
+any_acked : (k : Key) (i : ReadInput) (as' : List Advice) → list_any (reverses k) (map (acked_by i) as') ≡ list_any (reverses k) as'
 any_acked k i [] = refl
 any_acked k i (a ∷ as') = ap (λ b. b || list_any (reverses k) (map (acked_by i) as')) (acked_same k i a) ∙ ap (λ b. reverses k a || b) (any_acked k i as')
 
@@ -83,7 +84,7 @@ unfolding has_00
 has_00_more h (In i) k r = r
 has_00_more h (Out i o) k r = rw r refl
 
-pub ask_key_more : (h : History) (i : Input) (o : Output) (a : ℕ) (k : Key) → ask_key h a ≡ Some k → ask_key (Out i o ∷ h) a ≡ Some k
+pub ask_key_more : (h : History) (i : ReadInput) (o : ReadOutput) (a : ℕ) (k : Key) → ask_key h a ≡ Some k → ask_key (Out i o ∷ h) a ≡ Some k
 unfolding ask_key
 ask_key_more h i o a k e = rw e refl
 
@@ -91,7 +92,7 @@ is_key_some : (k : Key) (o : Option Key) → is_key k o ≡ true → (j : Key) �
 is_key_some k None e = absurd (not_both false e refl)
 is_key_some k (Some j) e = (j, refl, e)
 
-pub brings_more : (h : History) (j : Input) (o : Output) (k : Key) (i : Input) → brings_00 h k i ≡ true → brings_00 (Out j o ∷ h) k i ≡ true
+pub brings_more : (h : History) (j : ReadInput) (o : ReadOutput) (k : Key) (i : ReadInput) → brings_00 h k i ≡ true → brings_00 (Out j o ∷ h) k i ≡ true
 brings_more h j o k (Take l s m) r = r
 brings_more h j o k (HostAnswer a c) r =
     let p = and_parts (is_key k (ask_key h a)) (bytes_eq c code_00) r in
@@ -118,7 +119,7 @@ answer_has_00 (Out i o ∷ h) k m e z = go (answer h k) refl (answer_has_00 h k 
 
 -- what the own approval of a key says
 
-pub record OwnNow (h : History) (i : Input) (o : Output) (k : Key) : Type 0 where
+pub record OwnNow (h : History) (i : ReadInput) (o : ReadOutput) (k : Key) : Type 0 where
   pub message : Fields
   pub is : sent o ≡ Some message
   pub answer_kind : is_answer message.kind ≡ true
@@ -127,7 +128,7 @@ pub record OwnNow (h : History) (i : Input) (o : Output) (k : Key) : Type 0 wher
   pub none_before : has_00 h k ≡ false
   pub not_brought : brings_00 h k i ≡ false
 
-own_now : (h : History) (i : Input) (o : Output) (k : Key) → own_approval h i o ≡ Some k → OwnNow h i o k
+own_now : (h : History) (i : ReadInput) (o : ReadOutput) (k : Key) → own_approval h i o ≡ Some k → OwnNow h i o k
 own_now h i o k e = by_message (sent o) refl e
   where
     none_some : (x : Key) → None ≡ Some x → ⊥
@@ -150,7 +151,7 @@ own_now h i o k e = by_message (sent o) refl e
     by_message (Some m) is e = by_key m is (is_answer m.kind && bytes_eq (code_of m) code_00) refl (rw is at e)
 
 -- within an entry
-pub record OwnFacts (t : Network) (n : ℕ) (past : History) (i : Input) (h : History) : Type 0 where
+pub record OwnFacts (t : Network) (n : ℕ) (past : History) (i : ReadInput) (h : History) : Type 0 where
   pub entry : EntryFacts t n past i h
   pub stays_00 : (k : Key) → has_00 past k ≡ true → has_00 h k ≡ true
   pub stays_brought : (k : Key) → brings_00 past k i ≡ true → brings_00 h k i ≡ true
@@ -167,7 +168,7 @@ pub sent_reply : (src : Source) (m : Fields) (h : History) → sent (reply_outpu
 sent_reply Gate m h = refl
 sent_reply (ByLink l) m h = refl
 
-pub reply_message : (src : Source) (m : Fields) (h : History) (o : Output) (x : Fields) → o ≡ reply_output src m h → sent o ≡ Some x → m ≡ x
+pub reply_message : (src : Source) (m : Fields) (h : History) (o : ReadOutput) (x : Fields) → o ≡ reply_output src m h → sent o ≡ Some x → m ≡ x
 reply_message src m h o x is e = same_Some m x (sym (sent_reply src m h) ∙ (ap sent (sym is) ∙ e))
 
 pub acked_kind : (k : Kind) → is_kept_group (group k) ≡ true → is_answer (response_kind k) ≡ false
@@ -194,13 +195,13 @@ advice_no_answer false false = refl
 pub response_code : (m : Fields) (c : Bytes) (x : Fields) → response m c ≡ x → code_of x ≡ c
 response_code m c x e = ap code_of (sym e) ∙ code_response m c
 
-open_here : (t : Network) (n : ℕ) (past : History) (i : Input) (h : History) (e : EntryFacts t n past i h) (op : Opening) (k : Key) → opening t (In i ∷ past) k ≡ Some op → (opening t h k ≡ Some op) × (key_of op.message ≡ k) × (is_request op.message.kind ≡ true)
+open_here : (t : Network) (n : ℕ) (past : History) (i : ReadInput) (h : History) (e : EntryFacts t n past i h) (op : Opening) (k : Key) → opening t (In i ∷ past) k ≡ Some op → (opening t h k ≡ Some op) × (key_of op.message ≡ k) × (is_request op.message.kind ≡ true)
 open_here t n past i h e op k is =
     let now : opening t h k ≡ Some op = e.opening_is k ∙ is in
     let w = e.node.opens k op now in
     (now, w.key, w.request)
 
-pub own_case : (t : Network) (n : ℕ) (past : History) (i : Input) (h : History) (o : Output) (k : Key) → OwnFacts t n past i h → Allowed t n past i h o → own_approval h i o ≡ Some k → Stood t n h k
+pub own_case : (t : Network) (n : ℕ) (past : History) (i : ReadInput) (h : History) (o : ReadOutput) (k : Key) → OwnFacts t n past i h → Allowed t n past i h o → own_approval h i o ≡ Some k → Stood t n h k
 own_case t n past i h o k facts allowed own = go allowed
   where
     w : OwnNow h i o k
@@ -281,9 +282,9 @@ code_within day single currency u m amount e = first (eqb day 0) refl e
     first true at e = no (rw at at e)
     first false at e = second (not (bytes_eq (el m 49) currency)) refl at (rw at at e)
 
-stood_within : (t : Network) (n : ℕ) (h : History) (k : Key) (s : Stood t n h k) → WithinLimits (day t n (card_of s.op.message)) (used t n h (card_of s.op.message) (el s.op.message 15) + decimal (el s.op.message 4))
+stood_within : (t : Network) (n : ℕ) (h : History) (k : Key) (s : Stood t n h k) → WithinLimits (day t n (card_of s.op.message)) (used t n h (card_of s.op.message) (label_of s.op.message) + decimal (el s.op.message 4))
 unfolding standin_code
-stood_within t n h k s = code_within (day t n (card_of s.op.message)) (single t n (card_of s.op.message)) t.settings.currency (used t n h (card_of s.op.message) (el s.op.message 15)) s.op.message (decimal (el s.op.message 4)) s.code
+stood_within t n h k s = code_within (day t n (card_of s.op.message)) (single t n (card_of s.op.message)) t.settings.currency (used t n h (card_of s.op.message) (label_of s.op.message)) s.op.message (decimal (el s.op.message 4)) s.code
 
 -- amounts
 
@@ -297,8 +298,8 @@ picked true true false amount more = absurd (bad (more refl))
     bad : false ≡ true → ⊥
     bad p = cc
 
-counted_more : (t : Network) (n : ℕ) (e : Event) (h : History) (card : List ℕ) (date : Bytes) (a : Approval) → counted t n (e ∷ h) card date a ≤ counted t n h card date a
-counted_more t n e h card date a = picked (bytes_eq (card_of a.request) card && bytes_eq (el a.request 15) date) (reversed t n h a.key) (reversed t n (e ∷ h) a.key) (decimal (el a.request 4)) (reversed_more t n e h a.key)
+counted_more : (t : Network) (n : ℕ) (e : Event) (h : History) (card : List ℕ) (date : List ℕ) (a : Approval) → counted t n (e ∷ h) card date a ≤ counted t n h card date a
+counted_more t n e h card date a = picked (bytes_eq (card_of a.request) card && bytes_eq (label_of a.request) date) (reversed t n h a.key) (reversed t n (e ∷ h) a.key) (decimal (el a.request 4)) (reversed_more t n e h a.key)
 
 sum_less : {X : Type 0} (f g : X → ℕ) (xs : List X) → ((x : X) → f x ≤ g x) → added f xs ≤ added g xs
 sum_less f g [] le = omega arith
@@ -307,19 +308,19 @@ sum_less f g (x ∷ xs) le =
     let b = sum_less f g xs le in
     omega (arith, a, b)
 
-counted_at_most : (t : Network) (n : ℕ) (h : History) (card : List ℕ) (date : Bytes) (a : Approval) → counted t n h card date a ≤ decimal (el a.request 4)
-counted_at_most t n h card date a = cond_both (bytes_eq (card_of a.request) card && bytes_eq (el a.request 15) date && not (reversed t n h a.key)) (decimal (el a.request 4)) 0 (λ z. z ≤ decimal (el a.request 4)) (λ _. omega arith) (λ _. omega arith)
+counted_at_most : (t : Network) (n : ℕ) (h : History) (card : List ℕ) (date : List ℕ) (a : Approval) → counted t n h card date a ≤ decimal (el a.request 4)
+counted_at_most t n h card date a = cond_both (bytes_eq (card_of a.request) card && bytes_eq (label_of a.request) date && not (reversed t n h a.key)) (decimal (el a.request 4)) 0 (λ z. z ≤ decimal (el a.request 4)) (λ _. omega arith) (λ _. omega arith)
 
 -- what counts for a card and date is of them
-counted_of : (t : Network) (n : ℕ) (h : History) (card : List ℕ) (date : Bytes) (a : Approval) → (counted t n h card date a ≡ 0) ⊎ ((card_of a.request ≡ card) × (el a.request 15 ≡ date))
-counted_of t n h card date a = cond_both (bytes_eq (card_of a.request) card && bytes_eq (el a.request 15) date && not (reversed t n h a.key)) (decimal (el a.request 4)) 0 (λ z. (z ≡ 0) ⊎ ((card_of a.request ≡ card) × (el a.request 15 ≡ date)))
+counted_of : (t : Network) (n : ℕ) (h : History) (card : List ℕ) (date : List ℕ) (a : Approval) → (counted t n h card date a ≡ 0) ⊎ ((card_of a.request ≡ card) × (label_of a.request ≡ date))
+counted_of t n h card date a = cond_both (bytes_eq (card_of a.request) card && bytes_eq (label_of a.request) date && not (reversed t n h a.key)) (decimal (el a.request 4)) 0 (λ z. (z ≡ 0) ⊎ ((card_of a.request ≡ card) × (label_of a.request ≡ date)))
     (λ e. inr (parts e)) (λ _. inl refl)
   where
-    parts : (bytes_eq (card_of a.request) card && bytes_eq (el a.request 15) date && not (reversed t n h a.key)) ≡ true → (card_of a.request ≡ card) × (el a.request 15 ≡ date)
+    parts : (bytes_eq (card_of a.request) card && bytes_eq (label_of a.request) date && not (reversed t n h a.key)) ≡ true → (card_of a.request ≡ card) × (label_of a.request ≡ date)
     parts e =
-        let p = and_parts (bytes_eq (card_of a.request) card && bytes_eq (el a.request 15) date) (not (reversed t n h a.key)) e in
-        let q = and_parts (bytes_eq (card_of a.request) card) (bytes_eq (el a.request 15) date) p.0 in
-        (bytes_eq_is (card_of a.request) card q.0, bytes_eq_is (el a.request 15) date q.1)
+        let p = and_parts (bytes_eq (card_of a.request) card && bytes_eq (label_of a.request) date) (not (reversed t n h a.key)) e in
+        let q = and_parts (bytes_eq (card_of a.request) card) (bytes_eq (label_of a.request) date) p.0 in
+        (bytes_eq_is (card_of a.request) card q.0, bytes_eq_is (label_of a.request) date q.1)
 
 -- the limit of a card at a node, 0 without an issuer
 pub cap_of : Option Issuer → ℕ → ℕ
@@ -328,20 +329,20 @@ cap_of (Some s) day = day
 
 pub record UsedFacts (t : Network) (n : ℕ) (h : History) : Type 0 where
   pub named : (a : Approval) → IsIn a (approvals t h) → (s : Issuer) × (issuer t (card_of a.request) ≡ Some s) × (0 < (day t n (card_of a.request)))
-  pub within : (card : List ℕ) (date : Bytes) → used t n h card date ≤ cap_of (issuer t card) (day t n card)
+  pub within : (card : List ℕ) (date : List ℕ) → used t n h card date ≤ cap_of (issuer t card) (day t n card)
 
-used_in : (t : Network) (n : ℕ) (i : Input) (h : History) → UsedFacts t n h → UsedFacts t n (In i ∷ h)
+used_in : (t : Network) (n : ℕ) (i : ReadInput) (h : History) → UsedFacts t n h → UsedFacts t n (In i ∷ h)
 unfolding used approvals
 used_in t n i h f = record {
   named = f.named;
   within = λ card date. (let a = f.within card date in let b = sum_less (counted t n (In i ∷ h) card date) (counted t n h card date) (approvals t h) (counted_more t n (In i) h card date) in omega (arith, a, b));
 }
 
-used_out : (t : Network) (n : ℕ) (i : Input) (o : Output) (h : History) → ((k : Key) → own_approval h i o ≡ Some k → Stood t n h k) → UsedFacts t n h → UsedFacts t n (Out i o ∷ h)
+used_out : (t : Network) (n : ℕ) (i : ReadInput) (o : ReadOutput) (h : History) → ((k : Key) → own_approval h i o ≡ Some k → Stood t n h k) → UsedFacts t n h → UsedFacts t n (Out i o ∷ h)
 unfolding used approvals cap_of
 used_out t n i o h stood f = go (own_approval h i o) refl
   where
-    step : (card : List ℕ) (date : Bytes) → added (counted t n (Out i o ∷ h) card date) (approvals t h) ≤ added (counted t n h card date) (approvals t h)
+    step : (card : List ℕ) (date : List ℕ) → added (counted t n (Out i o ∷ h) card date) (approvals t h) ≤ added (counted t n h card date) (approvals t h)
     step card date = sum_less (counted t n (Out i o ∷ h) card date) (counted t n h card date) (approvals t h) (counted_more t n (Out i o) h card date)
 
     named_more : (as' : List Approval) → approval_of t h (own_approval h i o) ≡ as' → ((a : Approval) → IsIn a as' → (s : Issuer) × (issuer t (card_of a.request) ≡ Some s) × (0 < (day t n (card_of a.request)))) → (a : Approval) → IsIn a (approval_of t h (own_approval h i o) ++ approvals t h) → (s : Issuer) × (issuer t (card_of a.request) ≡ Some s) × (0 < (day t n (card_of a.request)))
@@ -369,13 +370,13 @@ used_out t n i o h stood f = go (own_approval h i o) refl
           within = λ card date. rw one (sums k s card date);
         }
       where
-        sums : (k : Key) (s : Stood t n h k) (card : List ℕ) (date : Bytes) → counted t n (Out i o ∷ h) card date (record { key = k; request = s.op.message }) + added (counted t n (Out i o ∷ h) card date) (approvals t h) ≤ cap_of (issuer t card) (day t n card)
+        sums : (k : Key) (s : Stood t n h k) (card : List ℕ) (date : List ℕ) → counted t n (Out i o ∷ h) card date (record { key = k; request = s.op.message }) + added (counted t n (Out i o ∷ h) card date) (approvals t h) ≤ cap_of (issuer t card) (day t n card)
         sums k s card date = ⊎_elim none same (counted_of t n (Out i o ∷ h) card date (record { key = k; request = s.op.message }))
           where
             none : counted t n (Out i o ∷ h) card date (record { key = k; request = s.op.message }) ≡ 0 → counted t n (Out i o ∷ h) card date (record { key = k; request = s.op.message }) + added (counted t n (Out i o ∷ h) card date) (approvals t h) ≤ cap_of (issuer t card) (day t n card)
             none z = let a = f.within card date in let b = step card date in omega (arith, a, b, z)
 
-            same : (card_of s.op.message ≡ card) × (el s.op.message 15 ≡ date) → counted t n (Out i o ∷ h) card date (record { key = k; request = s.op.message }) + added (counted t n (Out i o ∷ h) card date) (approvals t h) ≤ cap_of (issuer t card) (day t n card)
+            same : (card_of s.op.message ≡ card) × (label_of s.op.message ≡ date) → counted t n (Out i o ∷ h) card date (record { key = k; request = s.op.message }) + added (counted t n (Out i o ∷ h) card date) (approvals t h) ≤ cap_of (issuer t card) (day t n card)
             same e =
                 let limit = stood_within t n h k s in
                 let a : used t n h card date + decimal (el s.op.message 4) ≤ (day t n card) = subst (λ c. used t n h c date + decimal (el s.op.message 4) ≤ (day t n c)) e.0 (subst (λ d. used t n h (card_of s.op.message) d + decimal (el s.op.message 4) ≤ (day t n (card_of s.op.message))) e.1 limit.all) in
@@ -389,11 +390,11 @@ unfolding used approvals
 no_used t n = record { named = λ a m. absurd m; within = λ card date. omega arith }
 
 -- within an entry
-record Both (t : Network) (n : ℕ) (past : History) (i : Input) (h : History) : Type 0 where
+record Both (t : Network) (n : ℕ) (past : History) (i : ReadInput) (h : History) : Type 0 where
   own : OwnFacts t n past i h
   all : UsedFacts t n h
 
-pub own_in_entry : (t : Network) (n : ℕ) (past : History) (i : Input) → IsFormed i → refusal t n past i ≡ None → NodeFacts t n past → OwnFacts t n past i (In i ∷ past)
+pub own_in_entry : (t : Network) (n : ℕ) (past : History) (i : ReadInput) → IsFormed i → refusal t n past i ≡ None → NodeFacts t n past → OwnFacts t n past i (In i ∷ past)
 unfolding ask_key
 own_in_entry t n past i form ok f = record {
   entry = record { node = facts_in t n past i form ok f; opening_is = λ k. refl };
@@ -401,7 +402,7 @@ own_in_entry t n past i form ok f = record {
   stays_brought = λ k r. brought_in k i r;
 }
   where
-    brought_in : (k : Key) (j : Input) → brings_00 past k j ≡ true → brings_00 (In i ∷ past) k j ≡ true
+    brought_in : (k : Key) (j : ReadInput) → brings_00 past k j ≡ true → brings_00 (In i ∷ past) k j ≡ true
     brought_in k (Take l s m) r = r
     brought_in k (HostAnswer a c) r = r
     brought_in k (Enter m) r = r
@@ -410,7 +411,7 @@ own_in_entry t n past i form ok f = record {
     brought_in k Tick r = r
     brought_in k (NewDate d) r = r
 
-used_decide : (t : Network) (n : ℕ) (past : History) (i : Input) → IsFormed i → refusal t n past i ≡ None → NodeFacts t n past → UsedFacts t n past → UsedFacts t n (decide t n past i)
+used_decide : (t : Network) (n : ℕ) (past : History) (i : ReadInput) → IsFormed i → refusal t n past i ≡ None → NodeFacts t n past → UsedFacts t n past → UsedFacts t n (decide t n past i)
 used_decide t n past i form ok f u =
     (decide_keeps t n past i (Both t n past i)
     (λ h o q allowed. record {
@@ -420,26 +421,40 @@ used_decide t n past i form ok f u =
     (keeps_issuers t n past f)
     (record { own = own_in_entry t n past i form ok f; all = used_in t n i past u })).all
 
-pub legal_used : (t : Network) (n : ℕ) (es : List Entry) → Legal t n es → UsedFacts t n (history es)
-unfolding history
+pub legal_used : (t : Network) (n : ℕ) (es : List ReadEntry) → IsLegalRead t n es → UsedFacts t n (read_history es)
+unfolding read_history
 legal_used t n [] l = no_used t n
-legal_used t n (e ∷ es) l = subst (UsedFacts t n) (sym l.1.outputs) (used_decide t n (history es) e.input l.1.formed l.1.accepted (legal_facts t n es l.0) (legal_used t n es l.0))
+legal_used t n (e ∷ es) l = subst (UsedFacts t n) (sym l.1.outputs) (used_decide t n (read_history es) e.input l.1.formed l.1.accepted (legal_facts t n es l.0) (legal_used t n es l.0))
 
 -- the laws
 
-pub NamedApprovers_holds : (t : Network) (traces : ℕ → List Entry) → IsRun t traces → IsBounded t → NamedApprovers t (histories traces)
-unfolding history approvals
+pub NamedApprovers_holds : (t : Network) (traces : ℕ → List ReadEntry) → IsReadRun t traces → IsBounded t → NamedApprovers t (histories traces)
+unfolding read_history approvals
 NamedApprovers_holds t traces run bounded n a m =
     let f = (legal_used t n (traces n) (legal_at run n)).named a m in
     (f.0, f.1, bounded.named (card_of a.request) f.0 n f.1 (live (traces n) refl m) f.2)
   where
     -- a node that approved has a trace
-    live : (es : List Entry) → traces n ≡ es → IsIn a (approvals t (history es)) → n < length t.nodes
+    live : (es : List ReadEntry) → traces n ≡ es → IsIn a (approvals t (read_history es)) → n < length t.nodes
     live [] e has = absurd has
     live (x ∷ xs) e has = ⊎_elim (λ less. less) (λ more. absurd (no (sym e ∙ run.no_others n more))) (cases_lt n (length t.nodes))
       where
         no : x ∷ xs ≡ [] → ⊥
         no p = cc
+
+pub within_limits : (t : Network) (n : ℕ) (es : List ReadEntry) → IsBounded t → n < length t.nodes → IsLegalRead t n es → IsWithinLimits t n (read_history es)
+unfolding cap_of
+within_limits t n es bounded less l = record {
+  named = λ a m. (let f = u.named a m in (f.0, f.1, bounded.named (card_of a.request) f.0 n f.1 less f.2));
+  within = λ card date. go card date (issuer t card) (u.within card date);
+}
+  where
+    u : UsedFacts t n (read_history es)
+    u = legal_used t n es l
+
+    go : (card date : List ℕ) (o : Option Issuer) → used t n (read_history es) card date ≤ cap_of o (day t n card) → used t n (read_history es) card date ≤ day t n card
+    go card date None le = omega (arith, le)
+    go card date (Some s) le = le
 
 total_less : (f g : ℕ → ℕ) (n : ℕ) → ((k : ℕ) → f k ≤ g k) → sum_below f n ≤ sum_below g n
 total_less f g zero le = omega arith
@@ -455,16 +470,16 @@ total_zero f (suc n) le =
     let b = total_zero f n le in
     omega (arith, a, b)
 
-pub WithinCeiling_holds : (t : Network) (traces : ℕ → List Entry) → IsRun t traces → IsBounded t → WithinCeiling t (histories traces)
+pub WithinCeiling_holds : (t : Network) (traces : ℕ → List ReadEntry) → IsReadRun t traces → IsBounded t → WithinCeiling t (histories traces)
 unfolding cap_of
 WithinCeiling_holds t traces run bounded card date = go (issuer t card) refl
   where
-    cap : (o : Option Issuer) → issuer t card ≡ o → (n : ℕ) → used t n (history (traces n)) card date ≤ cap_of o (day t n card)
+    cap : (o : Option Issuer) → issuer t card ≡ o → (n : ℕ) → used t n (read_history (traces n)) card date ≤ cap_of o (day t n card)
     cap o e n = rw e at ((legal_used t n (traces n) (legal_at run n)).within card date)
 
     go : (o : Option Issuer) → issuer t card ≡ o → AtMost o (exposure t (histories traces) card date)
-    go None e = total_zero (λ n. used t n (history (traces n)) card date) (length t.nodes) (cap None e)
+    go None e = total_zero (λ n. used t n (read_history (traces n)) card date) (length t.nodes) (cap None e)
     go (Some s) e =
-        let a = total_less (λ n. used t n (history (traces n)) card date) (λ n. day t n card) (length t.nodes) (cap (Some s) e) in
+        let a = total_less (λ n. used t n (read_history (traces n)) card date) (λ n. day t n card) (length t.nodes) (cap (Some s) e) in
         let b = bounded.within card s e in
         omega (arith, a, b)

@@ -1,5 +1,5 @@
--- The card numbers of messages.
-use Rattle.std.specs.Prelude.{ℕ, List, Bool, ◌&&◌, is_ok}
+-- Card numbers and settlement dates of messages, as the digits that ASCII digits write.
+use Rattle.std.specs.Prelude.{ℕ, ◌+◌, List, map, Bool, ◌&&◌, is_ok}
 use Rattle.card_digits.specs.Digits.{digits_of}
 use Rattle.card_digits.specs.Reading.{read_digits}
 use Rattle.card_digits.specs.Numbers.{passes_luhn}
@@ -12,6 +12,15 @@ Bytes = List ℕ
 unfoldable pub card_of : Fields → List ℕ
 unfolding el
 card_of m = digits_of (el m 2)
+
+-- the digits of the settlement date
+unfoldable pub label_of : Fields → List ℕ
+unfolding el
+label_of m = digits_of (el m 15)
+
+-- the ASCII digits that write digits
+abbrev pub text_of : List ℕ → Bytes
+text_of digits = map (λ d. d + 48) digits
 
 -- a card number whose check digit is right
 unfoldable pub is_good_card : Bytes → Bool

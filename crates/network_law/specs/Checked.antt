@@ -1,18 +1,23 @@
 -- What tables and ranks keep that a checker accepts. A card is any list of digits here: a checker that looks at the longest
 -- prefixes of the rows gives no less, and for each card number it is what is said.
-use Rattle.std.specs.Prelude.{ℕ, zero, suc, ◌+◌, ◌<◌, ◌≤◌, ◌≡◌, ◌≢◌, List, length, replicate, Contains, Option, Some, true}
+use Rattle.std.specs.Prelude.{ℕ, zero, suc, ◌+◌, ◌<◌, ◌≤◌, ◌≡◌, ◌≢◌, List, length, Contains, Option, Some, true}
 use Rattle.card_digits.specs.Numbers.{pad11}
+use Rattle.std.specs.Char.{is_ascii_digit}
+use Rattle.std.specs.List.{list_all}
+use Rattle.card_digits.specs.Digits.{IsDateLabel, IsId}
 use Rattle.net_rows.specs.Network.{Network, issuer, other_end, day}
 use Rattle.net_rows.specs.declared.row.Issuer.{Issuer}
 use Rattle.network_law.specs.Cards.{Bytes}
 use Rattle.network_law.specs.Tables.{route_links, is_attached, node_id}
 use Rattle.network_law.specs.Traces.{IsIn}
 
--- an acquirer is attached to one node; padded node ids are distinct, and none is all zeros
-pub record IsSound (t : Network) : Type 0 where
-  pub single_gates : (acquirer : Bytes) (n m : ℕ) → is_attached t n acquirer ≡ true → is_attached t m acquirer ≡ true → n ≡ m
+-- the forms of dates and ids, distinct padded ids, and one gate for each acquirer
+pub record IsChecked (t : Network) : Type 0 where
+  pub date : IsDateLabel t.settings.date
+  pub ids : (n : ℕ) → n < length t.nodes → IsId (node_id t n)
+  pub id_digits : (n : ℕ) → n < length t.nodes → list_all is_ascii_digit (node_id t n) ≡ true
   pub single_ids : (n m : ℕ) → n < length t.nodes → m < length t.nodes → pad11 (node_id t n) ≡ pad11 (node_id t m) → n ≡ m
-  pub no_zero_ids : (n : ℕ) → n < length t.nodes → pad11 (node_id t n) ≢ replicate 11 48
+  pub single_gates : (acquirer : Bytes) (n m : ℕ) → is_attached t n acquirer ≡ true → is_attached t m acquirer ≡ true → n ≡ m
 
 -- the sum of f over the numbers below n
 abbrev pub sum_below : (ℕ → ℕ) → ℕ → ℕ

@@ -10,22 +10,22 @@ use Rattle.iso_message.specs.Fields.{Fields}
 use Rattle.iso_message.specs.Groups.{is_request, is_answer}
 use Rattle.iso_message.specs.Keys.{key_of, key_eq, content, identity_of, identity_eq}
 use Rattle.iso_message.specs.Codes.{code_of, code_94, code_00}
-use Rattle.net_rows.specs.Network.{Network, issuer, other_end}
+use Rattle.net_rows.specs.Network.{Network, issuer, day, other_end}
 use Rattle.net_rows.specs.declared.row.Issuer.{Issuer}
-use Rattle.network_law.specs.Cards.{Bytes, card_of}
+use Rattle.network_law.specs.Cards.{card_of}
 use Rattle.network_law.specs.Checked.{sum_below}
-use Rattle.network_law.specs.Traces.{Input, Take, HostAnswer, Output, Put, Ask, Post, In, Out, Has, IsIn, History, Opening, opening, Approval, approvals, Advice, advices, stored, is_at_home, reverses_key, answer, answers, sent, forwarded, used, ask_key, is_00_of, is_link}
+use Rattle.network_law.specs.Traces.{ReadInput, Take, HostAnswer, ReadOutput, Put, Ask, Post, In, Out, Has, IsIn, History, Opening, opening, Approval, approvals, Advice, advices, stored, is_at_home, reverses_key, answer, answers, sent, forwarded, used, ask_key, is_00_of, is_link}
 
 -- n has put the request x of k on link l with serial s
 pub record IsForward (at : ℕ → History) (k : Key) (n l s : ℕ) (x : Fields) : Type 0 where
-  pub input : Input
+  pub input : ReadInput
   pub put : Has (Out input (Put l s x)) (at n)
   pub request : is_request x.kind ≡ true
   pub key : key_of x ≡ k
 
 -- n has asked its host about k by this number
 pub record IsAsk (at : ℕ → History) (k : Key) (n a : ℕ) : Type 0 where
-  pub input : Input
+  pub input : ReadInput
   pub message : Fields
   pub put : Has (Out input (Ask a message)) (at n)
   pub key : key_of message ≡ k
@@ -44,7 +44,7 @@ abbrev pub NamedApprovers : Network → (ℕ → History) → Type 0
 NamedApprovers t at = (n : ℕ) (a : Approval) → IsIn a (approvals t (at n)) → (s : Issuer) × (issuer t (card_of a.request) ≡ Some s) × Contains s.named n
 
 -- what is used of a card and date at all nodes together
-abbrev pub exposure : Network → (ℕ → History) → List ℕ → Bytes → ℕ
+abbrev pub exposure : Network → (ℕ → History) → List ℕ → List ℕ → ℕ
 exposure t at card date = sum_below (λ n. used t n (at n) card date) (length t.nodes)
 
 -- at most the issuer's ceiling, and nothing without an issuer
@@ -54,7 +54,7 @@ AtMost (Some s) n = n ≤ s.ceiling
 
 -- the unreversed own approvals of a card and date never exceed the ceiling of its issuer
 abbrev pub WithinCeiling : Network → (ℕ → History) → Type 0
-WithinCeiling t at = (card : List ℕ) (date : Bytes) → AtMost (issuer t card) (exposure t at card date)
+WithinCeiling t at = (card date : List ℕ) → AtMost (issuer t card) (exposure t at card date)
 
 abbrev pub is_response : Kind → Bool
 is_response K0110 = true
@@ -65,7 +65,7 @@ is_response _ = false
 
 -- no response put on a link has code 94
 abbrev pub NoRepeatReply : (ℕ → History) → Type 0
-NoRepeatReply at = (n l s : ℕ) (i : Input) (m : Fields) → Has (Out i (Put l s m)) (at n) → is_response m.kind ≡ true → code_of m ≢ code_94
+NoRepeatReply at = (n l s : ℕ) (i : ReadInput) (m : Fields) → Has (Out i (Put l s m)) (at n) → is_response m.kind ≡ true → code_of m ≢ code_94
 
 -- n approved k itself, or had its host's 00 for k
 abbrev pub ApprovedAt : Network → (ℕ → History) → Key → ℕ → Type 0
@@ -87,14 +87,14 @@ abbrev pub ApprovalsLead : Network → (ℕ → History) → Type 0
 ApprovalsLead t at = (k : Key) (n : ℕ) (a : Fields) → answer (at n) k ≡ Some a → code_of a ≡ code_00 → (ns : List ℕ) × LeadsToApproval t at k n ns
 
 -- the input of the entry in which k was answered
-unfoldable pub answered_by : History → Key → Option Input
+unfoldable pub answered_by : History → Key → Option ReadInput
 unfolding key_of code_of
 answered_by [] k = None
 answered_by (In i ∷ h) k = answered_by h k
 answered_by (Out i o ∷ h) k = option_or (answered_by h k) (cond (is_some (answers k (sent o))) (Some i) None)
 
 -- the input is a 0110 of k with 00, on the link on which k was forwarded
-abbrev pub takes_00 : History → Key → Input → Bool
+abbrev pub takes_00 : History → Key → ReadInput → Bool
 takes_00 h k (Take l s m) = is_00_of k (Some m) && is_link l (forwarded h k)
 takes_00 h k _ = false
 
@@ -106,7 +106,7 @@ took_00 (In i ∷ h) k = took_00 h k || takes_00 h k i
 took_00 (Out i o ∷ h) k = took_00 h k
 
 -- the input is a 0110 of k
-abbrev pub takes_answer : Key → Input → Bool
+abbrev pub takes_answer : Key → ReadInput → Bool
 takes_answer k (Take l s m) = is_answer m.kind && key_eq (key_of m) k
 takes_answer k _ = false
 
@@ -118,19 +118,19 @@ has_reversal t n h k = list_any (reverses_key k) (advices t n h)
 -- a 00 that a node took for a key that it had forwarded was its answer, or the key was reversed there; and where a node answered
 -- a forwarded key in an entry that took no answer, it has reversed it
 pub record LateApprovalsUndone (t : Network) (at : ℕ → History) : Type 0 where
-  pub taken : (n : ℕ) (k : Key) → took_00 (at n) k ≡ true → ((i : Input) × (answered_by (at n) k ≡ Some i) × (takes_00 (at n) k i ≡ true)) ⊎ (has_reversal t n (at n) k ≡ true)
-  pub answered : (n l : ℕ) (k : Key) (i : Input) → forwarded (at n) k ≡ Some l → answered_by (at n) k ≡ Some i → takes_answer k i ≡ false → has_reversal t n (at n) k ≡ true
+  pub taken : (n : ℕ) (k : Key) → took_00 (at n) k ≡ true → ((i : ReadInput) × (answered_by (at n) k ≡ Some i) × (takes_00 (at n) k i ≡ true)) ⊎ (has_reversal t n (at n) k ≡ true)
+  pub answered : (n l : ℕ) (k : Key) (i : ReadInput) → forwarded (at n) k ≡ Some l → answered_by (at n) k ≡ Some i → takes_answer k i ≡ false → has_reversal t n (at n) k ≡ true
 
 -- an advice with this one's identity and content was posted at this node, which is the home of its card
 abbrev pub IsPosted : Network → (ℕ → History) → Fields → ℕ → Type 0
-IsPosted t at x n = (i : Input) × (y : Fields) × Has (Out i (Post y)) (at n) × (identity_of y ≡ identity_of x) × (content y ≡ content x) × (is_at_home t n x ≡ true)
+IsPosted t at x n = (i : ReadInput) × (y : Fields) × Has (Out i (Post y)) (at n) × (identity_of y ≡ identity_of x) × (content y ≡ content x) × (is_at_home t n x ≡ true)
 
 -- an advice with this one's identity and content stands in this node's store
 abbrev pub IsStored : Network → (ℕ → History) → Fields → ℕ → Type 0
 IsStored t at x n = (a : Advice) × IsIn a (stored t n (at n)) × (identity_of a.message ≡ identity_of x) × (content a.message ≡ content x)
 
 -- how often an advice of the identity was posted
-abbrev pub posts_in : AdviceId → Output → ℕ
+abbrev pub posts_in : AdviceId → ReadOutput → ℕ
 posts_in id (Post x) = if identity_eq (identity_of x) id then 1 else 0
 posts_in id _ = 0
 
@@ -146,6 +146,11 @@ pub record AdvicesKept (t : Network) (at : ℕ → History) : Type 0 where
   pub somewhere : (n : ℕ) (a : Advice) → IsIn a (advices t n (at n)) → (m : ℕ) × (IsStored t at a.message m ⊎ IsPosted t at a.message m)
   pub once : (id : AdviceId) (n m : ℕ) → 0 < post_count (at n) id → 0 < post_count (at m) id → n ≡ m
   pub one : (id : AdviceId) (n : ℕ) → post_count (at n) id ≤ 1
+
+-- a node approves only what it is named for, and no more of a card and date than its limit for a day
+pub record IsWithinLimits (t : Network) (n : ℕ) (h : History) : Type 0 where
+  pub named : (a : Approval) → IsIn a (approvals t h) → (s : Issuer) × (issuer t (card_of a.request) ≡ Some s) × Contains s.named n
+  pub within : (card date : List ℕ) → used t n h card date ≤ day t n card
 
 -- a network is safe: no node is sent a request by two nodes or a second time, only named nodes approve by themselves, and what they
 -- approve stays within the issuer's ceiling

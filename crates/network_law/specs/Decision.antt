@@ -1,21 +1,20 @@
 -- The decision: what a node puts out for an input. Each part adds outputs to the history; terms are read at the
 -- trace before the input (past), but for used amounts, serials, asks, the count and the links, which are read at the
 -- history so far.
-use Rattle.std.specs.Prelude.{ℕ, suc, ◌+◌, ◌-◌, ◌%◌, List, [], ◌∷◌, filter, reverse, find, Bool, true, false, ◌&&◌, ◌||◌, not, if◌then◌else◌, ◌==◌, nat_lt, bytes_eq, Option, Some, None, unwrap_or, is_some, is_none}
-use Rattle.std.specs.Option.{option_or, option_map}
+use Rattle.std.specs.Prelude.{ℕ, suc, ◌+◌, ◌-◌, ◌%◌, List, [], ◌∷◌, filter, reverse, find, Bool, true, false, ◌&&◌, not, if◌then◌else◌, ◌==◌, nat_lt, bytes_eq, Option, Some, None, is_none}
 use Rattle.card_digits.specs.Numbers.{decimal}
 use Rattle.net_rows.specs.Network.{Network, issuer, day}
 use Rattle.net_rows.specs.declared.row.Issuer.{Issuer}
-use Rattle.network_law.specs.Tables.{is_home, node_id, is_attached, route_links, single}
-use Rattle.network_law.specs.Traces.{Source, Gate, ByLink, Input, Enter, Take, LinkUp, LinkDown, Tick, HostAnswer, NewDate, Output, Put, Answer, Ask, Post, Event, In, Out, History, count_of, is_up, put_count, ask_count, ask_key, Handled, handled, Opening, opening, opened, answer, pending, forwarded, fails, Advice, advices, known, reversed, stored, load, was_put, used, as_kept, is_at_home, comes_late, is_link, is_advice_group}
-use Rattle.network_law.specs.Cards.{Bytes, is_good_card, card_of}
+use Rattle.network_law.specs.Tables.{is_home, node_id, route_links, single}
+use Rattle.network_law.specs.Traces.{Source, Gate, ByLink, ReadInput, Enter, Take, LinkUp, LinkDown, Tick, HostAnswer, NewDate, ReadOutput, Put, Answer, Ask, Post, Event, In, Out, History, count_of, is_up, put_count, ask_count, ask_key, Handled, handled, Opening, opening, opened, answer, pending, forwarded, fails, Advice, advices, known, reversed, stored, load, was_put, used, as_kept, is_at_home, comes_late, is_link, is_advice_group}
+use Rattle.network_law.specs.Cards.{label_of, Bytes, is_good_card, card_of}
 use Rattle.iso_message.specs.Fields.{Fields, el, get, as_kind, set_element, remove_element}
 use Rattle.iso_message.specs.declared.kind.Kind.{Kind}
-use Rattle.iso_message.specs.declared.kind.Kind.TheVariants.{K0100, K0120, K0121, K0130, K0400, K0401, K0410, K0420, K0421, K0101}
+use Rattle.iso_message.specs.declared.kind.Kind.TheVariants.{K0100, K0120, K0121, K0420, K0421}
 use Rattle.iso_message.specs.declared.kind.Group.{Group}
-use Rattle.iso_message.specs.Groups.{group, is_answer, is_reversal, is_04xx}
+use Rattle.iso_message.specs.Groups.{group, is_reversal, is_04xx}
 use Rattle.card_digits.specs.declared.key.Key.{Key}
-use Rattle.iso_message.specs.Keys.{key_of, own_key, part, content, content_eq, identity_of, original_key}
+use Rattle.iso_message.specs.Keys.{key_of, own_key, content, content_eq, identity_of, original_key}
 use Rattle.iso_message.specs.Codes.{code_of, code_00, code_05, code_14, code_57, code_61, code_68, code_91, code_92, code_94, code_96}
 use Rattle.iso_message.specs.Made.{made_reversal, made_stand_in, response, made_from}
 use Rattle.iso_message.specs.Finding.{find_element, without, put}
@@ -23,20 +22,20 @@ use Rattle.iso_message.specs.declared.kind.Group.TheVariants as groups
 
 -- outputs
 
-abbrev pub emit : Input → Output → History → History
+abbrev pub emit : ReadInput → ReadOutput → History → History
 emit i o h = Out i o ∷ h
 
-abbrev pub next_put : ℕ → Fields → History → Output
+abbrev pub next_put : ℕ → Fields → History → ReadOutput
 next_put l m h = Put l (suc (put_count h l)) m
 
-abbrev pub put_on : Input → ℕ → Fields → History → History
+abbrev pub put_on : ReadInput → ℕ → Fields → History → History
 put_on i l m h = Out i (next_put l m h) ∷ h
 
-abbrev pub reply_output : Source → Fields → History → Output
+abbrev pub reply_output : Source → Fields → History → ReadOutput
 reply_output Gate m h = Answer m
 reply_output (ByLink l) m h = next_put l m h
 
-abbrev pub reply : Input → Source → Fields → History → History
+abbrev pub reply : ReadInput → Source → Fields → History → History
 reply i src m h = Out i (reply_output src m h) ∷ h
 
 -- the first link that is up
@@ -55,15 +54,15 @@ sent_kind true false = K0420
 sent_kind false true = K0121
 sent_kind false false = K0120
 
-abbrev pub send_by : Input → Fields → Option ℕ → History → History
+abbrev pub send_by : ReadInput → Fields → Option ℕ → History → History
 send_by i x None h = h
 send_by i x (Some l) h = put_on i l (as_kind (sent_kind (is_04xx x.kind) (was_put h (identity_of x))) x) h
 
-unfoldable pub send : Network → ℕ → Input → Fields → History → History
+unfoldable pub send : Network → ℕ → ReadInput → Fields → History → History
 unfolding was_put identity_of el card_of key_of forwarded is_up put_count route_links
 send t n i x h = send_by i x (own_way t n h x (forwarded h (key_of x))) h
 
-unfoldable pub keep : Network → ℕ → History → Input → Fields → History → History
+unfoldable pub keep : Network → ℕ → History → ReadInput → Fields → History → History
 unfolding send known identity_of card_of
 keep t n past i x h = if known t n past (identity_of x) then h else if is_at_home t n x then emit i (Post x) h else send t n i x h
 
@@ -79,36 +78,36 @@ code_by_limits day single currency used_now m amount =
     else code_00
 
 unfoldable pub standin_code : Network → ℕ → History → Fields → Bytes
-unfolding el card_of used
-standin_code t n h m = code_by_limits (day t n (card_of m)) (single t n (card_of m)) t.settings.currency (used t n h (card_of m) (el m 15)) m (decimal (el m 4))
+unfolding el card_of label_of used
+standin_code t n h m = code_by_limits (day t n (card_of m)) (single t n (card_of m)) t.settings.currency (used t n h (card_of m) (label_of m)) m (decimal (el m 4))
 
-abbrev pub standin_by : Network → ℕ → History → Input → Opening → Bytes → History → History
+abbrev pub standin_by : Network → ℕ → History → ReadInput → Opening → Bytes → History → History
 standin_by t n past i op c h =
     if bytes_eq c code_00
     then keep t n past i (made_stand_in op.message (node_id t n)) (reply i op.source (response op.message c) h)
     else reply i op.source (response op.message c) h
 
-unfoldable pub standin : Network → ℕ → History → Input → Opening → History → History
+unfoldable pub standin : Network → ℕ → History → ReadInput → Opening → History → History
 unfolding standin_code keep response made_stand_in put_count
 standin t n past i op h = standin_by t n past i op (standin_code t n h op.message) h
 
-unfoldable pub fail : Network → ℕ → History → Input → Option Opening → History → History
+unfoldable pub fail : Network → ℕ → History → ReadInput → Option Opening → History → History
 unfolding standin keep made_reversal
 fail t n past i None h = h
 fail t n past i (Some op) h = standin t n past i op (keep t n past i (made_reversal op.message (node_id t n)) h)
 
-unfoldable pub fail_all : Network → ℕ → History → Input → List Key → History → History
+unfoldable pub fail_all : Network → ℕ → History → ReadInput → List Key → History → History
 unfolding fail opening
 fail_all t n past i [] h = h
 fail_all t n past i (k ∷ ks) h = fail_all t n past i ks (fail t n past i (opening t past k) h)
 
-unfoldable pub send_all : Network → ℕ → Input → List Advice → History → History
+unfoldable pub send_all : Network → ℕ → ReadInput → List Advice → History → History
 unfolding send
 send_all t n i [] h = h
 send_all t n i (a ∷ as') h = send_all t n i as' (send t n i a.message h)
 
 -- the keys that fail at an input, in opening order
-unfoldable pub failing : Network → History → Input → List Key
+unfoldable pub failing : Network → History → ReadInput → List Key
 unfolding opened opening answer forwarded Rattle.network_law.specs.Traces.asked count_of
 failing t past i = filter (fails t past i) (reverse (opened t past))
 
@@ -128,22 +127,22 @@ same_source (ByLink a) (ByLink b) = a == b
 same_source Gate (ByLink b) = false
 same_source (ByLink a) Gate = false
 
-abbrev pub on_forward : Network → ℕ → History → Input → Fields → Source → Option ℕ → History
+abbrev pub on_forward : Network → ℕ → History → ReadInput → Fields → Source → Option ℕ → History
 on_forward t n past i m src None = standin t n past i (record { message = m; source = src; count = count_of past; input = i }) (In i ∷ past)
 on_forward t n past i m src (Some l) = put_on i l (as_kind K0100 m) (In i ∷ past)
 
-abbrev pub on_issuer : Network → ℕ → History → Input → Fields → Source → Option Issuer → History
+abbrev pub on_issuer : Network → ℕ → History → ReadInput → Fields → Source → Option Issuer → History
 on_issuer t n past i m src None = reply i src (response m code_92) (In i ∷ past)
 on_issuer t n past i m src (Some s) =
     if nat_lt 65536 (load t n past + 2) then reply i src (response m code_96) (In i ∷ past)
     else if is_home s n then emit i (Ask (suc (ask_count past)) (as_kind K0100 m)) (In i ∷ past)
     else on_forward t n past i m src (first_up past (route_links t n (card_of m)))
 
-abbrev pub on_repeat : Input → Source → Option Fields → History → History
+abbrev pub on_repeat : ReadInput → Source → Option Fields → History → History
 on_repeat i src None h = h
 on_repeat i src (Some a) h = reply i src a h
 
-unfoldable pub on_request : Network → ℕ → History → Input → Fields → Source → Option Opening → History
+unfoldable pub on_request : Network → ℕ → History → ReadInput → Fields → Source → Option Opening → History
 unfolding standin put_count response load ask_count is_good_card reversed answer content key_of el card_of is_up route_links count_of
 on_request t n past i m src (Some op) =
     if same_source op.source src && content_eq (content op.message) (content m)
@@ -160,11 +159,11 @@ abbrev pub other_content : Option Opening → Fields → Bool
 other_content None m = false
 other_content (Some op) m = not (content_eq (content op.message) (content m))
 
-abbrev pub answer_pending : Network → Input → Bool → Option Opening → Bytes → History → History
+abbrev pub answer_pending : Network → ReadInput → Bool → Option Opening → Bytes → History → History
 answer_pending t i true (Some op) c h = reply i op.source (response op.message c) h
 answer_pending t i _ _ c h = h
 
-unfoldable pub on_reversal : Network → ℕ → History → Input → Fields → Source → History
+unfoldable pub on_reversal : Network → ℕ → History → ReadInput → Fields → Source → History
 unfolding put_count response is_good_card content key_of el card_of known identity_of opening answer keep
 on_reversal t n past i m src =
     if not (is_good_card (el m 2)) then reply i src (response m code_14) (In i ∷ past)
@@ -173,7 +172,7 @@ on_reversal t n past i m src =
     else if known t n past (identity_of m) then reply i src (response m code_00) (In i ∷ past)
     else keep t n past i (as_kept m) (reply i src (response m code_00) (answer_pending t i (pending t past (key_of m)) (opening t past (key_of m)) code_68 (In i ∷ past)))
 
-unfoldable pub on_advice : Network → ℕ → History → Input → Fields → Source → History
+unfoldable pub on_advice : Network → ℕ → History → ReadInput → Fields → Source → History
 unfolding put_count response is_good_card el card_of known identity_of keep
 on_advice t n past i m src =
     if not (is_good_card (el m 2)) then reply i src (response m code_14) (In i ∷ past)
@@ -187,25 +186,25 @@ abbrev pub as_code : Bytes → Bytes → Bytes
 as_code other c = if bytes_eq c code_94 then other else c
 
 -- what an answer with this code for k does: close k, or undo what comes late
-abbrev pub on_code : Network → ℕ → History → Input → Key → Bytes → Bytes → Option Opening → History
+abbrev pub on_code : Network → ℕ → History → ReadInput → Key → Bytes → Bytes → Option Opening → History
 on_code t n past i k c other None = In i ∷ past
 on_code t n past i k c other (Some op) =
     if pending t past k then reply i op.source (response op.message (as_code other c)) (In i ∷ past)
     else if bytes_eq c code_00 && comes_late past (advices t n past) k then keep t n past i (made_reversal op.message (node_id t n)) (In i ∷ past)
     else In i ∷ past
 
-unfoldable pub on_answer : Network → ℕ → History → Input → Fields → Source → History
+unfoldable pub on_answer : Network → ℕ → History → ReadInput → Fields → Source → History
 unfolding key_of code_of opening answer forwarded put_count response keep advices made_reversal
 on_answer t n past i m Gate = In i ∷ past
 on_answer t n past i m (ByLink l) =
     if is_link l (forwarded past (key_of m)) then on_code t n past i (key_of m) (code_of m) code_96 (opening t past (key_of m)) else In i ∷ past
 
-unfoldable pub on_host : Network → ℕ → History → Input → Bytes → Option Key → History
+unfoldable pub on_host : Network → ℕ → History → ReadInput → Bytes → Option Key → History
 unfolding code_of opening answer put_count response keep advices made_reversal
 on_host t n past i c None = In i ∷ past
 on_host t n past i c (Some k) = on_code t n past i k c code_05 (opening t past k)
 
-abbrev pub on_group : Network → ℕ → History → Input → Fields → Source → Group → History
+abbrev pub on_group : Network → ℕ → History → ReadInput → Fields → Source → Group → History
 on_group t n past i m src groups.Request = on_request t n past i m src (opening t past (key_of m))
 on_group t n past i m src groups.Answer = on_answer t n past i m src
 on_group t n past i m src groups.StandInAdvice = on_advice t n past i m src
@@ -213,12 +212,12 @@ on_group t n past i m src groups.Reversal = on_reversal t n past i m src
 on_group t n past i m src groups.Acknowledgement = In i ∷ past
 on_group t n past i m src groups.Reply = In i ∷ past
 
-abbrev pub on_handled : Network → ℕ → History → Input → Option Handled → History
+abbrev pub on_handled : Network → ℕ → History → ReadInput → Option Handled → History
 on_handled t n past i None = In i ∷ past
 on_handled t n past i (Some x) = on_group t n past i x.message x.source (group x.message.kind)
 
 -- the history after the entry of an input
-unfoldable pub decide : Network → ℕ → History → Input → History
+unfoldable pub decide : Network → ℕ → History → ReadInput → History
 unfolding on_request on_reversal on_advice on_answer on_host handled opening fail_all failing send_all due_advices ask_key get find_element el put without set_element remove_element own_key original_key key_of content identity_of code_of response made_from made_stand_in made_reversal
 decide t n past (Enter m) = on_handled t n past (Enter m) (handled t past (Enter m))
 decide t n past (Take l s m) = on_handled t n past (Take l s m) (handled t past (Take l s m))

@@ -1,12 +1,13 @@
 -- Where a request fails, as a plain sentence of legal traces.
-use Rattle.std.specs.Prelude.{ℕ, ◌≡◌, List, [], ◌∷◌, Bool, true, false, ◌||◌, Some}
+use Rattle.std.specs.Prelude.{ℕ, ◌≡◌, ◌<◌, length, Ok, List, [], ◌∷◌, Bool, true, false, ◌||◌, Some}
 use Rattle.card_digits.specs.declared.key.Key.{Key}
 use Rattle.iso_message.specs.Keys.{key_of, identity_of}
 use Rattle.iso_message.specs.Made.{made_reversal}
 use Rattle.net_rows.specs.Network.{Network}
 use Rattle.network_law.specs.Tables.{node_id}
-use Rattle.network_law.specs.Traces.{In, Out, History, Opening, opening, answer, fails, is_key, failed_key, sent, known}
-use Rattle.network_law.specs.Runs.{Entry, history, Legal}
+use Rattle.network_law.specs.Traces.{ReadInput, In, Out, History, Opening, opening, answer, fails, is_key, failed_key, sent, known}
+use Rattle.network_law.specs.Entries.{Entry, read_input, history}
+use Rattle.network_law.specs.Runs.{IsLegal}
 
 -- the newest entry marks k as failed: it is a LinkDown or a Tick, and a 0110 of the pending key is put out
 unfoldable pub marked_failed : Network → History → Key → Bool
@@ -15,10 +16,10 @@ marked_failed t [] k = false
 marked_failed t (In i ∷ h) k = false
 marked_failed t (Out i o ∷ h) k = marked_failed t h k || is_key k (failed_key t h i (sent o))
 
--- the mark stands where k fails, and nowhere else
+-- where k fails in an entry of a legal trace the mark of its failing stands there, and nowhere else
 abbrev pub FailsAreMarked : Network → Type 0
-FailsAreMarked t = (n : ℕ) (e : Entry) (es : List Entry) (k : Key) → Legal t n (e ∷ es) → marked_failed t (history (e ∷ es)) k ≡ fails t (history es) e.input k
+FailsAreMarked t = (n : ℕ) (e : Entry) (es : List Entry) (i : ReadInput) (k : Key) → n < length t.nodes → IsLegal t n (e ∷ es) → read_input e.input ≡ Ok i → marked_failed t (history (e ∷ es)) k ≡ fails t (history es) i k
 
 -- where k fails its reversal is made, or was
 abbrev pub FailsAreReversed : Network → Type 0
-FailsAreReversed t = (n : ℕ) (e : Entry) (es : List Entry) (k : Key) → Legal t n (e ∷ es) → fails t (history es) e.input k ≡ true → (op : Opening) × (opening t (history es) k ≡ Some op) × (known t n (history (e ∷ es)) (identity_of (made_reversal op.message (node_id t n))) ≡ true)
+FailsAreReversed t = (n : ℕ) (e : Entry) (es : List Entry) (i : ReadInput) (k : Key) → n < length t.nodes → IsLegal t n (e ∷ es) → read_input e.input ≡ Ok i → fails t (history es) i k ≡ true → (op : Opening) × (opening t (history es) k ≡ Some op) × (known t n (history (e ∷ es)) (identity_of (made_reversal op.message (node_id t n))) ≡ true)

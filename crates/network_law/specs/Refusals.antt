@@ -16,7 +16,7 @@ use Rattle.network_law.specs.declared.fault.StepFault.{StepFault}
 use Rattle.network_law.specs.declared.fault.StepFault.TheVariants.{ForeignAcquirer, Missing, TypeNotForGate, UnknownAsk, Replacement, NoPlace}
 use Rattle.network_law.specs.Cards.{card_of, is_good_card}
 use Rattle.network_law.specs.Tables.{is_attached}
-use Rattle.network_law.specs.Traces.{Input, Enter, Take, LinkUp, LinkDown, Tick, HostAnswer, NewDate, History, ask_key, handled, Opening, opening, answer, pending, forwarded, advices, known, load, is_at_home, comes_late, is_link, is_advice_group}
+use Rattle.network_law.specs.Traces.{ReadInput, Enter, Take, LinkUp, LinkDown, Tick, HostAnswer, NewDate, History, ask_key, handled, Opening, opening, answer, pending, forwarded, advices, known, load, is_at_home, comes_late, is_link, is_advice_group}
 use Rattle.network_law.specs.Decision.{other_content}
 
 abbrev pub when : {X : Type 0} → Bool → X → Option X
@@ -86,7 +86,7 @@ home_of_key t n (Some op) = is_at_home t n op.message
 abbrev pub late_finds_no_place : Network → ℕ → History → ℕ → Fields → Bool
 late_finds_no_place t n past l m = is_answer m.kind && bytes_eq (code_of m) code_00 && is_link l (forwarded past (key_of m)) && comes_late past (advices t n past) (key_of m) && not (home_of_key t n (opening t past (key_of m))) && nat_lt 65536 (load t n past + 1)
 
-unfoldable pub refusal : Network → ℕ → History → Input → Option StepFault
+unfoldable pub refusal : Network → ℕ → History → ReadInput → Option StepFault
 unfolding handled card_of known load is_good_card opening answer forwarded advices ask_key has get find_element el put without set_element remove_element own_key original_key key_of content identity_of code_of response made_from made_stand_in made_reversal
 refusal t n past (Enter m) =
     option_or (when (not (entered_kind m.kind)) TypeNotForGate)

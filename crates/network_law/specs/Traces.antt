@@ -7,7 +7,7 @@ use Rattle.card_digits.specs.Numbers.{decimal}
 use Rattle.net_rows.specs.Network.{Network, issuer}
 use Rattle.net_rows.specs.declared.row.Issuer.{Issuer}
 use Rattle.network_law.specs.Tables.{is_home, node_id, link_ticks}
-use Rattle.network_law.specs.Cards.{Bytes, card_of}
+use Rattle.network_law.specs.Cards.{label_of, text_of, Bytes, card_of}
 use Rattle.iso_message.specs.Fields.{Fields, el, set_element, remove_element, as_kind, get}
 use Rattle.iso_message.specs.declared.kind.Group.{Group}
 use Rattle.iso_message.specs.Groups.{group, is_request, is_answer, is_04xx}
@@ -24,24 +24,24 @@ pub data Source : Type 0 where
   Gate : Source
   ByLink : (link : ℕ) → Source
 
-pub data Input : Type 0 where
-  Enter : (message : Fields) → Input
-  Take : (link serial : ℕ) (message : Fields) → Input
-  LinkUp : (link : ℕ) → Input
-  LinkDown : (link : ℕ) → Input
-  Tick : Input
-  HostAnswer : (ask : ℕ) (code : Bytes) → Input
-  NewDate : (date : Bytes) → Input
+pub data ReadInput : Type 0 where
+  Enter : (message : Fields) → ReadInput
+  Take : (link serial : ℕ) (message : Fields) → ReadInput
+  LinkUp : (link : ℕ) → ReadInput
+  LinkDown : (link : ℕ) → ReadInput
+  Tick : ReadInput
+  HostAnswer : (ask : ℕ) (code : Bytes) → ReadInput
+  NewDate : (date : List ℕ) → ReadInput
 
-pub data Output : Type 0 where
-  Put : (link serial : ℕ) (message : Fields) → Output
-  Answer : (message : Fields) → Output
-  Ask : (ask : ℕ) (message : Fields) → Output
-  Post : (message : Fields) → Output
+pub data ReadOutput : Type 0 where
+  Put : (link serial : ℕ) (message : Fields) → ReadOutput
+  Answer : (message : Fields) → ReadOutput
+  Ask : (ask : ℕ) (message : Fields) → ReadOutput
+  Post : (message : Fields) → ReadOutput
 
 pub data Event : Type 0 where
-  In : (input : Input) → Event
-  Out : (input : Input) (output : Output) → Event
+  In : (input : ReadInput) → Event
+  Out : (input : ReadInput) (output : ReadOutput) → Event
 
 abbrev pub History : Type 0
 History = List Event
@@ -51,22 +51,23 @@ abbrev pub IsIn : {X : Type 0} → X → List X → Type 0
 IsIn x [] = ⊥
 IsIn x (y ∷ ys) = (y ≡ x) ⊎ IsIn x ys
 
--- an event stands in a history
+-- an event stands in a read_history
 abbrev pub Has : Event → History → Type 0
 Has e h = IsIn e h
 
 -- the date, the count and the links
 
-abbrev pub date_after : Input → Bytes → Bytes
+-- the digits of the last new date, else of the tables' date
+abbrev pub date_after : ReadInput → List ℕ → List ℕ
 date_after (NewDate date) old = date
 date_after _ old = old
 
-unfoldable pub date_of : Network → History → Bytes
+unfoldable pub date_of : Network → History → List ℕ
 date_of t [] = t.settings.date
 date_of t (In i ∷ h) = date_after i (date_of t h)
 date_of t (Out i o ∷ h) = date_of t h
 
-abbrev pub ticks_in : Input → ℕ
+abbrev pub ticks_in : ReadInput → ℕ
 ticks_in Tick = 1
 ticks_in _ = 0
 
@@ -75,7 +76,7 @@ count_of [] = 0
 count_of (In i ∷ h) = ticks_in i + count_of h
 count_of (Out i o ∷ h) = count_of h
 
-abbrev pub up_after : Input → ℕ → Bool → Bool
+abbrev pub up_after : ReadInput → ℕ → Bool → Bool
 up_after (LinkUp k) l old = cond (k == l) true old
 up_after (LinkDown k) l old = cond (k == l) false old
 up_after _ l old = old
@@ -87,7 +88,7 @@ is_up (Out i o ∷ h) l = is_up h l
 
 -- serials and asks
 
-abbrev pub puts_on : ℕ → Output → ℕ
+abbrev pub puts_on : ℕ → ReadOutput → ℕ
 puts_on l (Put k s m) = if k == l then 1 else 0
 puts_on l _ = 0
 
@@ -96,7 +97,7 @@ put_count [] l = 0
 put_count (In i ∷ h) l = put_count h l
 put_count (Out i o ∷ h) l = puts_on l o + put_count h l
 
-abbrev pub asks_in : Output → ℕ
+abbrev pub asks_in : ReadOutput → ℕ
 asks_in (Ask a m) = 1
 asks_in _ = 0
 
@@ -107,7 +108,7 @@ ask_count (Out i o ∷ h) = asks_in o + ask_count h
 
 -- the key of an ask
 
-abbrev pub key_asked : ℕ → Output → Option Key
+abbrev pub key_asked : ℕ → ReadOutput → Option Key
 key_asked a (Ask b m) = if a == b then Some (key_of m) else None
 key_asked a _ = None
 
@@ -122,10 +123,10 @@ pub record Handled : Type 0 where
   pub message : Fields
   pub source : Source
 
-abbrev pub dated : Bytes → Fields → Fields
-dated date m = if is_request m.kind then set_element m 15 date else m
+abbrev pub dated : List ℕ → Fields → Fields
+dated date m = if is_request m.kind then set_element m 15 (text_of date) else m
 
-unfoldable pub handled : Network → History → Input → Option Handled
+unfoldable pub handled : Network → History → ReadInput → Option Handled
 unfolding date_of remove_element set_element
 handled t h (Enter m) = Some (record { message = dated (date_of t h) (remove_element m 33); source = Gate })
 handled t h (Take l s m) = Some (record { message = m; source = ByLink l })
@@ -137,9 +138,9 @@ pub record Opening : Type 0 where
   pub message : Fields
   pub source : Source
   pub count : ℕ
-  pub input : Input
+  pub input : ReadInput
 
-abbrev pub opened_by : Key → ℕ → Input → Option Handled → Option Opening
+abbrev pub opened_by : Key → ℕ → ReadInput → Option Handled → Option Opening
 opened_by k n i None = None
 opened_by k n i (Some x) = if is_request x.message.kind && key_eq (key_of x.message) k then Some (record { message = x.message; source = x.source; count = n; input = i }) else None
 
@@ -165,7 +166,7 @@ opened t [] = []
 opened t (In i ∷ h) = with_new (is_none (option_and_then (opening t h) (key_handled (handled t h i)))) (key_handled (handled t h i)) (opened t h)
 opened t (Out i o ∷ h) = opened t h
 
-abbrev pub sent : Output → Option Fields
+abbrev pub sent : ReadOutput → Option Fields
 sent (Put l s m) = Some m
 sent (Answer m) = Some m
 sent (Ask a m) = None
@@ -186,7 +187,7 @@ abbrev pub pending : Network → History → Key → Bool
 pending t h k = is_some (opening t h k) && is_none (answer h k)
 
 -- a put of a request of k
-abbrev pub forwards : Key → Output → Option ℕ
+abbrev pub forwards : Key → ReadOutput → Option ℕ
 forwards k (Put l s m) = if is_request m.kind && key_eq (key_of m) k then Some l else None
 forwards k _ = None
 
@@ -196,7 +197,7 @@ forwarded [] k = None
 forwarded (In i ∷ h) k = forwarded h k
 forwarded (Out i o ∷ h) k = option_or (forwarded h k) (forwards k o)
 
-abbrev pub asks : Key → Output → Bool
+abbrev pub asks : Key → ReadOutput → Bool
 asks k (Ask a m) = key_eq (key_of m) k
 asks k _ = false
 
@@ -223,7 +224,7 @@ is_link l None = false
 is_link l (Some k) = k == l
 
 -- k fails at an input
-abbrev pub fails : Network → History → Input → Key → Bool
+abbrev pub fails : Network → History → ReadInput → Key → Bool
 fails t h (LinkDown l) k = pending t h k && is_link l (forwarded h k)
 fails t h Tick k = pending t h k && is_due t h (suc (count_of h)) k
 fails t h _ k = false
@@ -246,7 +247,7 @@ is_key k None = false
 is_key k (Some j) = key_eq j k
 
 -- the input is a 0110 of k with 00, or the host's 00 for k
-abbrev pub brings_00 : History → Key → Input → Bool
+abbrev pub brings_00 : History → Key → ReadInput → Bool
 brings_00 h k (Take l s m) = is_00_of k (Some m)
 brings_00 h k (HostAnswer a c) = is_key k (ask_key h a) && bytes_eq c code_00
 brings_00 h k _ = false
@@ -256,11 +257,11 @@ key_of_00 None = None
 key_of_00 (Some m) = if is_answer m.kind && bytes_eq (code_of m) code_00 then Some (key_of m) else None
 
 -- the key that is approved by the node itself in this output
-abbrev pub own_in : History → Input → Option Key → Option Key
+abbrev pub own_in : History → ReadInput → Option Key → Option Key
 own_in h i None = None
 own_in h i (Some k) = if has_00 h k || brings_00 h k i then None else Some k
 
-abbrev pub own_approval : History → Input → Output → Option Key
+abbrev pub own_approval : History → ReadInput → ReadOutput → Option Key
 own_approval h i o = own_in h i (key_of_00 (sent o))
 
 pub record Approval : Type 0 where
@@ -303,7 +304,7 @@ is_ack _ = false
 abbrev pub is_ack_of : Fields → Advice → Bool
 is_ack_of m a = is_ack (group m.kind) && bytes_eq (code_of m) code_00 && has_identity (identity_of m) a
 
-abbrev pub acked_by : Input → Advice → Advice
+abbrev pub acked_by : ReadInput → Advice → Advice
 acked_by (Take l s m) a = record { message = a.message; count = a.count; own = a.own; acked = a.acked || is_ack_of m a }
 acked_by _ a = a
 
@@ -322,18 +323,18 @@ code_is_not_00 (Some m) = not (bytes_eq (code_of m) code_00)
 abbrev pub comes_late : History → List Advice → Key → Bool
 comes_late h as' k = code_is_not_00 (answer h k) && not (list_any (reverses_key k) as')
 
-abbrev pub late_key : History → List Advice → Input → Option Key
+abbrev pub late_key : History → List Advice → ReadInput → Option Key
 late_key h as' (Take l s m) = if is_answer m.kind && bytes_eq (code_of m) code_00 && is_link l (forwarded h (key_of m)) && comes_late h as' (key_of m) then Some (key_of m) else None
 late_key h as' (HostAnswer a c) = option_and_then (λ k. if bytes_eq c code_00 && comes_late h as' k then Some k else None) (ask_key h a)
 late_key h as' _ = None
 
-abbrev pub is_timer : Input → Bool
+abbrev pub is_timer : ReadInput → Bool
 is_timer (LinkDown l) = true
 is_timer Tick = true
 is_timer _ = false
 
 -- the key that fails in this output: in an entry of LinkDown or Tick the 0110 of a pending key is that of its failing
-abbrev pub failed_key : Network → History → Input → Option Fields → Option Key
+abbrev pub failed_key : Network → History → ReadInput → Option Fields → Option Key
 failed_key t h i None = None
 failed_key t h i (Some m) = if is_timer i && is_answer m.kind && pending t h (key_of m) then Some (key_of m) else None
 
@@ -394,7 +395,7 @@ unfoldable pub load : Network → ℕ → History → ℕ
 unfolding stored opened opening answer
 load t n h = length (stored t n h) + 2 * count_by (pending t h) (opened t h)
 
-abbrev pub is_put_of : AdviceId → Output → Bool
+abbrev pub is_put_of : AdviceId → ReadOutput → Bool
 is_put_of id (Put l s m) = is_advice_group (group m.kind) && identity_eq (identity_of m) id
 is_put_of id _ = false
 
@@ -406,13 +407,13 @@ was_put (In i ∷ h) id = was_put h id
 was_put (Out i o ∷ h) id = was_put h id || is_put_of id o
 
 -- used: the amounts of own approvals of the card and date, of keys that aren't reversed
-abbrev pub counted : Network → ℕ → History → Bytes → Bytes → Approval → ℕ
-counted t n h card date a = if bytes_eq (card_of a.request) card && bytes_eq (el a.request 15) date && not (reversed t n h a.key) then decimal (el a.request 4) else 0
+abbrev pub counted : Network → ℕ → History → List ℕ → List ℕ → Approval → ℕ
+counted t n h card date a = if bytes_eq (card_of a.request) card && bytes_eq (label_of a.request) date && not (reversed t n h a.key) then decimal (el a.request 4) else 0
 
 abbrev pub added : {X : Type 0} → (X → ℕ) → List X → ℕ
 added f [] = 0
 added f (x ∷ xs) = f x + added f xs
 
-unfoldable pub used : Network → ℕ → History → Bytes → Bytes → ℕ
-unfolding approvals reversed el card_of
+unfoldable pub used : Network → ℕ → History → List ℕ → List ℕ → ℕ
+unfolding approvals reversed el card_of label_of
 used t n h card date = added (counted t n h card date) (approvals t h)

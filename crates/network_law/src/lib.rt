@@ -1,27 +1,39 @@
 //! The safety of a network of nodes as a law over definitions: what its tables, a node's decision and its runs are, and what holds
-//! of every run. Messages here are types and elements; the bytes that spell them are not spoken of yet.
+//! of every run.
 #![tactic(auto)]
 
 mod fault;
+mod words;
+mod worked;
+
+ghost use Rattle.std.specs.Prelude.{ℕ, ◌<◌, List, length};
+ghost use Rattle.net_rows.specs.Network.{Network};
+ghost use Rattle.network_law.specs.Checked.{IsChecked, IsBounded, IsRanked, Ranks};
+ghost use Rattle.network_law.specs.Entries.{Entry, history};
+ghost use Rattle.network_law.specs.Runs.{IsLegal, IsRun};
+ghost use Rattle.network_law.specs.Claims.{Safe, Covered, IsWithinLimits};
+ghost use Rattle.network_law.specs.Marks.{FailsAreMarked, FailsAreReversed};
 
 pub use fault::StepFault;
-
-ghost use Rattle.std.specs.Prelude.{ℕ, List};
-ghost use Rattle.net_rows.specs.Network.{Network};
-ghost use Rattle.network_law.specs.Checked.{IsSound, IsBounded, IsRanked, Ranks};
-ghost use Rattle.network_law.specs.Runs.{Entry, IsRun, history};
-ghost use Rattle.network_law.specs.Claims.{Safe, Covered};
-ghost use Rattle.network_law.specs.Marks.{FailsAreMarked, FailsAreReversed};
+pub use words::plain_words;
+pub use worked::{
+    worked_answers, worked_limits, worked_reversals, worked_run, wrong_traces_are_not_legal,
+};
 
 /// Where the tables are sound, ranks fall along each route and limits stay within ceilings, every run is safe and nothing in it is
 /// lost, however steps interleave, links fail and packets are lost, repeated or late.
 pub fn every_run_is_safe()
-    ensures safe { (t : Network) (ranks : Ranks) (traces : ℕ → List Entry) → IsSound t → IsRanked t ranks → IsBounded t → IsRun t traces → Safe t (λ n. history (traces n)) }
-    ensures covered { (t : Network) (ranks : Ranks) (traces : ℕ → List Entry) → IsSound t → IsRanked t ranks → IsRun t traces → Covered t (λ n. history (traces n)) }
+    ensures safe { (t : Network) (ranks : Ranks) (traces : ℕ → List Entry) → IsChecked t → IsRanked t ranks → IsBounded t → IsRun t traces → Safe t (λ n. history (traces n)) }
+    ensures covered { (t : Network) (ranks : Ranks) (traces : ℕ → List Entry) → IsChecked t → IsRanked t ranks → IsRun t traces → Covered t (λ n. history (traces n)) }
+{}
+
+/// Whatever the other nodes do: a node whose trace is legal approves by itself only what it is named for, within its own limits.
+pub fn every_legal_trace_is_within_limits()
+    ensures { (t : Network) (n : ℕ) (trace : List Entry) → IsChecked t → IsBounded t → n < length t.nodes → IsLegal t n trace → IsWithinLimits t n (history trace) }
 {}
 
 /// In every legal trace the mark of a failing key stands exactly where the key fails, and its reversal is made there.
 pub fn failing_is_marked()
-    ensures marked { (t : Network) → FailsAreMarked t }
-    ensures reversed { (t : Network) → FailsAreReversed t }
+    ensures marked { (t : Network) → IsChecked t → FailsAreMarked t }
+    ensures reversed { (t : Network) → IsChecked t → FailsAreReversed t }
 {}

@@ -1,8 +1,23 @@
+use Rattle.std.proofs.Common.{◌≡◌, List, true, subst, sym, ap, ◌∙◌}
+use Rattle.iso_message.specs.Keys.{identity_of}
+use Rattle.iso_message.specs.Made.{made_reversal}
+use Rattle.network_law.specs.Tables.{node_id}
+use Rattle.network_law.specs.Traces.{Opening, known}
+use Rattle.network_law.specs.Entries.{ReadEntry, read_history, read_trace, history}
+use Rattle.network_law.specs.Marks.{marked_failed}
 use Rattle.network_law.proofs.failing_is_marked.Goals as goal
+use Rattle.network_law.proofs.Reading.{EntryRead, entry_read}
 use Rattle.network_law.proofs.Marks.{fails_are_marked, fails_are_reversed}
 
 pub returns-clause-marked : goal.returns-clause-marked
-returns-clause-marked c = fails_are_marked
+unfolding history
+returns-clause-marked c t sound n e es i k less legal at =
+    let r = entry_read t n e es i sound less legal at in
+    ap (λ (z : List ReadEntry). marked_failed t (read_history z) k) (EntryRead.is r) ∙ fails_are_marked t n (record { input = i; outputs = EntryRead.outputs r }) (read_trace es) k (EntryRead.legal r)
 
 pub returns-clause-reversed : goal.returns-clause-reversed
-returns-clause-reversed c = fails_are_reversed
+unfolding history
+returns-clause-reversed c t sound n e es i k less legal at f =
+    let r = entry_read t n e es i sound less legal at in
+    let w = fails_are_reversed t n (record { input = i; outputs = EntryRead.outputs r }) (read_trace es) k (EntryRead.legal r) f in
+    (w.0, w.1, subst (λ (z : List ReadEntry). known t n (read_history z) (identity_of (made_reversal (Opening.message w.0) (node_id t n))) ≡ true) (sym (EntryRead.is r)) w.2)

@@ -1,5 +1,5 @@
 use Rattle.iso_message.specs.Fields.{Fields}
-use Rattle.iso_message.proofs.Laws.{read_takes}
+use Rattle.iso_message.proofs.ReadingLaws.{read_takes}
 use Rattle.iso_message.proofs.Good.{is_message}
 use Rattle.iso_message.proofs.reading.whole.Goals as goal
 

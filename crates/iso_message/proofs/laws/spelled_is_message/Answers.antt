@@ -1,5 +1,5 @@
 use Rattle.iso_message.proofs.Good.{is_message}
-use Rattle.iso_message.proofs.reading.spelled_is_message.Goals as goal
+use Rattle.iso_message.proofs.laws.spelled_is_message.Goals as goal
 
 pub returns : goal.returns
 returns c = is_message

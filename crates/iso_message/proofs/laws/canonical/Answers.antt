@@ -1,5 +1,5 @@
 use Rattle.iso_message.proofs.Canonical.{spells}
-use Rattle.iso_message.proofs.reading.canonical.Goals as goal
+use Rattle.iso_message.proofs.laws.canonical.Goals as goal
 
 pub returns : goal.returns
 returns c = spells

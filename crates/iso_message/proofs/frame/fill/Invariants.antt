@@ -1,0 +1,12 @@
+use Rattle.std.proofs.Common.{◌≤◌, take, length}
+use Rattle.std.specs.Io.KnownBytes.{Consumes}
+use Rattle.iso_message.proofs.frame.fill.Given as goal
+
+abbrev pub invariant-loop-done : goal.invariant-loop-done
+invariant-loop-done g l = record {
+  within : l.done ≤ length l.buffer;
+  taken : Consumes (g.R.Source.remaining l.fn.reader) (g.R.Source.remaining l.reader) (take l.done l.buffer);
+}
+
+abbrev pub decreases-loop-done : goal.decreases-loop-done
+decreases-loop-done g l = l.turns

@@ -1,0 +1,5 @@
+use Rattle.iso_message.proofs.MessageLemmas.{kept_stays}
+use Rattle.iso_message.proofs.message.Message.kept.Goals as goal
+
+pub invariant_of-result : goal.invariant_of-result
+invariant_of-result c = rw c.in_ok-elements.ensures (kept_stays c.self.inside.kind c.args.kind c.args.numbers.now c.self.inside.elements c.self.invariant)

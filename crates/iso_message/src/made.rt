@@ -1,0 +1,90 @@
+//! Responses, and the advices that a node makes of a request.
+ghost use Rattle.std.specs.Prelude.{◌≡◌, ◌++◌, true, None, IfOk};
+ghost use Rattle.iso_message.specs.Table.{form_of};
+ghost use Rattle.iso_message.specs.Elements.{set_fault};
+ghost use Rattle.iso_message.specs.Keys.{has_own_key};
+ghost use Rattle.iso_message.specs.Made.{response, made_stand_in, made_reversal, made_from, kept, original_data};
+
+use crate::code::Code;
+use crate::keys::bytes_of;
+use crate::kind::Kind;
+use crate::message::Message;
+use card_digits::pad11;
+use std::alloc::AllocError;
+
+/// The elements that a response carries of its message.
+const RESPONSE_NUMBERS: [u8; 12] = [2, 3, 4, 7, 11, 15, 32, 33, 37, 41, 49, 90];
+
+/// The elements that an advice carries of its request.
+const ADVICE_NUMBERS: [u8; 10] = [2, 3, 4, 7, 11, 15, 32, 37, 41, 49];
+
+impl Message {
+    /// The response to the message with a code: card number, amounts, times, trace number, institutions, terminal and element
+    /// 90 of it, where they are there, and element 39.
+    #[tactic(auto, unfolding(crate::specs::Made::response), using(crate::proofs::MessageLemmas::code_fits))]
+    pub fn response(&self, code: Code) -> Result<Message, AllocError>
+        ensures { IfOk result (λ m. m ≡ response self.now code) }
+    {
+        let mut response = self.kept(self.kind().response(), &RESPONSE_NUMBERS)?;
+        response.put(39, code.as_slice())?;
+        Ok(response)
+    }
+
+    /// The advice (0120) of a request that the node with this id approved itself. The id is one that element 33 takes.
+    #[tactic(auto, unfolding(crate::specs::Made::made_stand_in))]
+    pub fn made_stand_in(&self, id: &[u8]) -> Result<Message, AllocError>
+        requires { set_fault (form_of 33) 33 id.now ≡ None }
+        ensures { IfOk result (λ m. m ≡ made_stand_in self.now id.now) }
+    {
+        self.made_from(Kind::K0120, id, Code::new(*b"00"))
+    }
+
+    /// The reversal (0420) of a request by the node with this id, with code 68 and the request's key in element 90. The id is
+    /// one that element 33 takes.
+    #[tactic(auto, unfolding(crate::specs::Made::made_reversal))]
+    pub fn made_reversal(&self, id: &[u8]) -> Result<Message, AllocError>
+        requires id { set_fault (form_of 33) 33 id.now ≡ None }
+        requires key { has_own_key self.now ≡ true }
+        ensures { IfOk result (λ m. m ≡ made_reversal self.now id.now) }
+    {
+        let _ = self.kind();
+        let original = original_data(self)?;
+        let mut reversal = self.made_from(Kind::K0420, id, Code::new(*b"68"))?;
+        reversal.put(90, &original)?;
+        Ok(reversal)
+    }
+
+    /// What an advice carries of a request, with the maker's id and a code.
+    #[tactic(auto, unfolding(crate::specs::Made::made_from), using(crate::proofs::MessageLemmas::code_fits))]
+    fn made_from(&self, kind: Kind, id: &[u8], code: Code) -> Result<Message, AllocError>
+        requires { set_fault (form_of 33) 33 id.now ≡ None }
+        ensures { IfOk result (λ m. m ≡ made_from kind self.now id.now code) }
+    {
+        let mut advice = self.kept(kind, &ADVICE_NUMBERS)?;
+        advice.put(33, id)?;
+        advice.put(39, code.as_slice())?;
+        Ok(advice)
+    }
+
+    /// A message of the type with those elements that have these numbers.
+    fn kept(&self, kind: Kind, numbers: &[u8]) -> Result<Message, AllocError>
+        ensures { IfOk result (λ m. m ≡ record { kind = kind; elements = kept numbers.now self.now.elements }) }
+    {
+        let elements = self.elements.kept(numbers)?;
+        Ok(Message { kind, elements })
+    }
+}
+
+/// The type, trace number, time and acquirer of a request, and eleven zeros for its forwarder.
+fn original_data(message: &Message) -> Result<Vec<u8>, AllocError>
+    ensures { IfOk result (λ v. v.items ≡ original_data message.now) }
+{
+    let _ = message.kind();
+    let mut data = Vec::with_capacity(message.allocator(), 42)?;
+    data.extend_from_slice(b"0100")?;
+    data.extend_from_slice(bytes_of(message, 11))?;
+    data.extend_from_slice(bytes_of(message, 7))?;
+    data.extend_from_slice(&pad11(bytes_of(message, 32)))?;
+    data.extend_from_slice(&[b'0'; 11])?;
+    Ok(data)
+}

@@ -1,0 +1,29 @@
+use Rattle.network_law.proofs.words.plain_words.Goals as goal
+use Rattle.network_law.proofs.Plain.{opened_by_first, opened_once, each_of_its_key, fail_in_opening_order, answered_by_first, forwarded_by_first, counts_ticks, used_is_sum, late_is_reversed}
+
+pub returns-clause-opened_by_first : goal.returns-clause-opened_by_first
+returns-clause-opened_by_first c = opened_by_first
+
+pub returns-clause-opened_once : goal.returns-clause-opened_once
+returns-clause-opened_once c = opened_once
+
+pub returns-clause-of_its_key : goal.returns-clause-of_its_key
+returns-clause-of_its_key c = each_of_its_key
+
+pub returns-clause-fail_in_order : goal.returns-clause-fail_in_order
+returns-clause-fail_in_order c = fail_in_opening_order
+
+pub returns-clause-answered_by_first : goal.returns-clause-answered_by_first
+returns-clause-answered_by_first c = answered_by_first
+
+pub returns-clause-forwarded_by_first : goal.returns-clause-forwarded_by_first
+returns-clause-forwarded_by_first c = forwarded_by_first
+
+pub returns-clause-count : goal.returns-clause-count
+returns-clause-count c = counts_ticks
+
+pub returns-clause-used : goal.returns-clause-used
+returns-clause-used c = used_is_sum
+
+pub returns-clause-late : goal.returns-clause-late
+returns-clause-late c = late_is_reversed

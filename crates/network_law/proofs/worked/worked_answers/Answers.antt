@@ -1,0 +1,27 @@
+use Rattle.std.proofs.Common.{refl}
+use Rattle.network_law.specs.Worked.{outputs_after}
+use Rattle.network_law.proofs.worked.worked_answers.Goals as goal
+
+pub returns-clause-forwarded : goal.returns-clause-forwarded
+unfolding outputs_after
+returns-clause-forwarded c = refl
+
+pub returns-clause-asked : goal.returns-clause-asked
+unfolding outputs_after
+returns-clause-asked c = refl
+
+pub returns-clause-approved : goal.returns-clause-approved
+unfolding outputs_after
+returns-clause-approved c = refl
+
+pub returns-clause-answered : goal.returns-clause-answered
+unfolding outputs_after
+returns-clause-answered c = refl
+
+pub returns-clause-repeated : goal.returns-clause-repeated
+unfolding outputs_after
+returns-clause-repeated c = refl
+
+pub returns-clause-answered_again : goal.returns-clause-answered_again
+unfolding outputs_after
+returns-clause-answered_again c = refl

@@ -1,0 +1,124 @@
+-- The terms of a history once more, in plain words: as lists in the order of time, of which they are the first, the last or a sum.
+use Rattle.std.specs.Prelude.{ℕ, ◌≡◌, List, [], ◌∷◌, ◌++◌, map, filter, find, sum, length, Bool, true, false, not, ◌&&◌, if◌then◌else◌, bytes_eq, Option, Some, None, is_none}
+use Rattle.std.specs.Option.{option_map}
+use Rattle.card_digits.specs.Numbers.{decimal}
+use Rattle.card_digits.specs.declared.key.Key.{Key}
+use Rattle.iso_message.specs.Fields.{Fields, el}
+use Rattle.iso_message.specs.Groups.{is_request, is_answer}
+use Rattle.iso_message.specs.Keys.{key_of, key_eq}
+use Rattle.iso_message.specs.Codes.{code_of, code_94}
+use Rattle.iso_message.specs.Made.{made_reversal}
+use Rattle.net_rows.specs.Network.{Network}
+use Rattle.network_law.specs.Cards.{card_of, label_of}
+use Rattle.network_law.specs.Tables.{node_id}
+use Rattle.network_law.specs.Traces.{ReadInput, Tick, ReadOutput, Put, Answer, Ask, Post, In, Out, History, IsIn, count_of, Handled, handled, Opening, opening, answer, forwarded, fails, approvals, reversed, used, advices, late_key}
+use Rattle.network_law.specs.Decision.{failing, decide, keep}
+
+-- the inputs and the outputs, the oldest first
+
+unfoldable pub inputs : History → List ReadInput
+inputs [] = []
+inputs (In i ∷ h) = inputs h ++ i ∷ []
+inputs (Out i o ∷ h) = inputs h
+
+unfoldable pub outputs : History → List ReadOutput
+outputs [] = []
+outputs (In i ∷ h) = outputs h
+outputs (Out i o ∷ h) = outputs h ++ o ∷ []
+
+-- requests
+
+abbrev pub request_of : ℕ → ReadInput → Option Handled → List Opening
+request_of count i None = []
+request_of count i (Some x) = if is_request x.message.kind then record { message = x.message; source = x.source; count = count; input = i } ∷ [] else []
+
+-- the requests that were entered or taken
+unfoldable pub requests : Network → History → List Opening
+requests t [] = []
+requests t (In i ∷ h) = requests t h ++ request_of (count_of h) i (handled t h i)
+requests t (Out i o ∷ h) = requests t h
+
+abbrev pub opened_key : Opening → Key
+opened_key op = key_of op.message
+
+-- of these those whose keys weren't open before
+unfoldable pub openings : Network → History → List Opening
+openings t [] = []
+openings t (In i ∷ h) = openings t h ++ filter (λ op. is_none (opening t h (opened_key op))) (request_of (count_of h) i (handled t h i))
+openings t (Out i o ∷ h) = openings t h
+
+-- a key is opened by the first request of it
+abbrev pub OpenedByFirst : Type 0
+OpenedByFirst = (t : Network) (h : History) (k : Key) → opening t h k ≡ find (λ op. key_eq (opened_key op) k) (requests t h)
+
+-- and by none after that
+abbrev pub OpenedOnce : Type 0
+OpenedOnce = (t : Network) (h : History) (k : Key) → opening t h k ≡ find (λ op. key_eq (opened_key op) k) (openings t h)
+
+-- each opening is that of its key
+abbrev pub EachIsOfItsKey : Type 0
+EachIsOfItsKey = (t : Network) (h : History) (op : Opening) → IsIn op (openings t h) → opening t h (opened_key op) ≡ Some op
+
+-- the keys that fail are those of the openings that do, in the order of opening
+abbrev pub FailInOpeningOrder : Type 0
+FailInOpeningOrder = (t : Network) (past : History) (i : ReadInput) → failing t past i ≡ map opened_key (filter (λ op. fails t past i (opened_key op)) (openings t past))
+
+-- answers and forwards
+
+abbrev pub is_answer_of : Key → Fields → Bool
+is_answer_of k m = is_answer m.kind && key_eq (key_of m) k && not (bytes_eq (code_of m) code_94)
+
+abbrev pub said_in : ReadOutput → List Fields
+said_in (Put l s m) = m ∷ []
+said_in (Answer m) = m ∷ []
+said_in (Ask a m) = []
+said_in (Post m) = []
+
+-- the messages that were put and given as answers
+unfoldable pub said : History → List Fields
+said [] = []
+said (In i ∷ h) = said h
+said (Out i o ∷ h) = said h ++ said_in o
+
+-- the answer of a key is the first 0110 of it whose code isn't 94
+abbrev pub AnsweredByFirst : Type 0
+AnsweredByFirst = (h : History) (k : Key) → answer h k ≡ find (is_answer_of k) (said h)
+
+pub record OnLink : Type 0 where
+  pub link : ℕ
+  pub message : Fields
+
+abbrev pub put_in : ReadOutput → List OnLink
+put_in (Put l s m) = record { link = l; message = m } ∷ []
+put_in _ = []
+
+unfoldable pub puts : History → List OnLink
+puts [] = []
+puts (In i ∷ h) = puts h
+puts (Out i o ∷ h) = puts h ++ put_in o
+
+-- a key is forwarded on the link of the first put of a request of it
+abbrev pub ForwardedByFirst : Type 0
+ForwardedByFirst = (h : History) (k : Key) → forwarded h k ≡ option_map (λ p. p.link) (find (λ p. is_request p.message.kind && key_eq (key_of p.message) k) (puts h))
+
+-- the count
+
+abbrev pub is_tick : ReadInput → Bool
+is_tick Tick = true
+is_tick _ = false
+
+-- the count is the number of ticks
+abbrev pub CountsTicks : Type 0
+CountsTicks = (h : History) → count_of h ≡ length (filter is_tick (inputs h))
+
+-- used amounts
+
+-- used is the sum of the amounts of all approvals of the card and the date whose keys aren't reversed
+abbrev pub UsedIsSum : Type 0
+UsedIsSum = (t : Network) (n : ℕ) (h : History) (card date : List ℕ) → used t n h card date ≡ sum (map (λ a. decimal (el a.request 4)) (filter (λ a. bytes_eq (card_of a.request) card && bytes_eq (label_of a.request) date && not (reversed t n h a.key)) (approvals t h)))
+
+-- late approvals
+
+-- the reversal of a late approval is kept in the very entry in which it comes, and nothing else is put out there
+abbrev pub LateIsReversed : Type 0
+LateIsReversed = (t : Network) (n : ℕ) (past : History) (i : ReadInput) (k : Key) (op : Opening) → late_key past (advices t n past) i ≡ Some k → opening t past k ≡ Some op → decide t n past i ≡ keep t n past i (made_reversal op.message (node_id t n)) (In i ∷ past)

@@ -1,0 +1,232 @@
+-- Small networks, messages and traces, by which the definitions are tried.
+use Rattle.std.specs.Prelude.{ℕ, zero, suc, List, [], ◌∷◌, ◌++◌, codes, Option, Some}
+use Rattle.iso_message.specs.declared.kind.Kind.{Kind}
+use Rattle.iso_message.specs.declared.kind.Kind.TheVariants.{K0100, K0110, K0120, K0400, K0410, K0420, K0430}
+use Rattle.iso_message.specs.Fields.{Fields}
+use Rattle.net_rows.specs.Network.{Network}
+use Rattle.net_rows.specs.declared.row.Settings.{Settings}
+use Rattle.net_rows.specs.declared.row.Node.{Node}
+use Rattle.net_rows.specs.declared.row.Link.{Link}
+use Rattle.net_rows.specs.declared.row.Route.{Route}
+use Rattle.network_law.specs.Traces.{ReadInput, Enter, Take, LinkDown, Tick, ReadOutput, Put, Answer, Post, History}
+use Rattle.network_law.specs.Decision.{decide}
+use Rattle.network_law.specs.Entries.{ReadEntry, newest_outputs}
+
+-- networks
+
+abbrev settings : Settings
+settings = record { currency = codes "840"; date = 0 ∷ 3 ∷ 1 ∷ 4 ∷ []; host_ticks = 100; advice_ticks = 50 }
+
+abbrev node : List ℕ → List ℕ → Node
+node name id = record { name = name; id = id }
+
+abbrev link : List ℕ → ℕ → ℕ → Link
+link name from to = record { name = name; from = from; to = to; ticks = 3 }
+
+abbrev route : ℕ → List ℕ → Route
+route node links = record { node = node; prefix = 4 ∷ []; links = links }
+
+-- A, node 0, is the gate of acquirer 400001, and routes over link 0 to H, node 1, which is the home of cards that begin with 4
+abbrev pub base : Network
+base = record {
+  settings = settings;
+  nodes = node (codes "A") (codes "1001") ∷ node (codes "H") (codes "1002") ∷ [];
+  links = link (codes "AH") 0 1 ∷ [];
+  acquirers = record { id = codes "400001"; node = 0 } ∷ [];
+  issuers = record { name = codes "I"; prefix = 4 ∷ []; home = 1; named = []; ceiling = 0 } ∷ [];
+  routes = route 0 (0 ∷ []) ∷ [];
+  stand_ins = [];
+}
+
+-- the same, and A may approve 1000 a day by itself
+abbrev pub limited : Network
+limited = record base {
+  issuers = record { name = codes "I"; prefix = 4 ∷ []; home = 1; named = 0 ∷ []; ceiling = 1000 } ∷ [];
+  stand_ins = record { node = 0; prefix = 4 ∷ []; day = 1000; single = 1000 } ∷ [];
+}
+
+-- A, P, Q and H are nodes 0 to 3; A routes to P over link 0, else to Q over link 1, and may approve 1000 a day by itself
+abbrev pub diamond : Network
+diamond = record {
+  settings = settings;
+  nodes = node (codes "A") (codes "1001") ∷ node (codes "P") (codes "1003") ∷ node (codes "Q") (codes "1004") ∷ node (codes "H") (codes "1002") ∷ [];
+  links = link (codes "AP") 0 1 ∷ link (codes "AQ") 0 2 ∷ link (codes "PH") 1 3 ∷ link (codes "QH") 2 3 ∷ [];
+  acquirers = record { id = codes "400001"; node = 0 } ∷ [];
+  issuers = record { name = codes "I"; prefix = 4 ∷ []; home = 3; named = 0 ∷ []; ceiling = 1000 } ∷ [];
+  routes = route 0 (0 ∷ 1 ∷ []) ∷ route 1 (2 ∷ []) ∷ route 2 (3 ∷ []) ∷ [];
+  stand_ins = record { node = 0; prefix = 4 ∷ []; day = 1000; single = 1000 } ∷ [];
+}
+
+-- messages
+
+abbrev card : List ℕ
+card = codes "4111111111111111"
+
+abbrev time : List ℕ
+time = codes "0314091530"
+
+-- a request as it is entered, by its trace number, amount and currency
+abbrev pub entered_in : List ℕ → List ℕ → List ℕ → Fields
+entered_in currency trace amount = record { kind = K0100; elements = (2, card) ∷ (3, codes "000000") ∷ (4, amount) ∷ (7, time) ∷ (11, trace) ∷ (32, codes "400001") ∷ (49, currency) ∷ [] }
+
+abbrev pub entered : List ℕ → List ℕ → Fields
+entered = entered_in (codes "840")
+
+-- as it is forwarded
+abbrev pub forwarded : List ℕ → List ℕ → Fields
+forwarded trace amount = record { kind = K0100; elements = (2, card) ∷ (3, codes "000000") ∷ (4, amount) ∷ (7, time) ∷ (11, trace) ∷ (15, codes "0314") ∷ (32, codes "400001") ∷ (49, codes "840") ∷ [] }
+
+abbrev pub answered_in : List ℕ → List ℕ → List ℕ → List ℕ → Fields
+answered_in currency trace amount code = record { kind = K0110; elements = (2, card) ∷ (3, codes "000000") ∷ (4, amount) ∷ (7, time) ∷ (11, trace) ∷ (15, codes "0314") ∷ (32, codes "400001") ∷ (39, code) ∷ (49, currency) ∷ [] }
+
+abbrev pub answered : List ℕ → List ℕ → List ℕ → Fields
+answered = answered_in (codes "840")
+
+abbrev original : List ℕ → List ℕ
+original trace = codes "0100" ++ trace ++ time ++ codes "00000400001" ++ codes "00000000000"
+
+-- the reversal that A makes, first or again
+abbrev pub reversal_as : Kind → List ℕ → List ℕ → Fields
+reversal_as kind trace amount = record { kind = kind; elements = (2, card) ∷ (3, codes "000000") ∷ (4, amount) ∷ (7, time) ∷ (11, trace) ∷ (15, codes "0314") ∷ (32, codes "400001") ∷ (33, codes "1001") ∷ (39, codes "68") ∷ (49, codes "840") ∷ (90, original trace) ∷ [] }
+
+abbrev pub reversal : List ℕ → List ℕ → Fields
+reversal = reversal_as K0420
+
+-- what acknowledges it
+abbrev pub acknowledged : List ℕ → List ℕ → Fields
+acknowledged trace amount = record { kind = K0430; elements = (2, card) ∷ (3, codes "000000") ∷ (4, amount) ∷ (7, time) ∷ (11, trace) ∷ (15, codes "0314") ∷ (32, codes "400001") ∷ (33, codes "1001") ∷ (39, codes "00") ∷ (49, codes "840") ∷ (90, original trace) ∷ [] }
+
+-- the stand-in advice that A makes
+abbrev pub stand_in : List ℕ → List ℕ → Fields
+stand_in trace amount = record { kind = K0120; elements = (2, card) ∷ (3, codes "000000") ∷ (4, amount) ∷ (7, time) ∷ (11, trace) ∷ (15, codes "0314") ∷ (32, codes "400001") ∷ (33, codes "1001") ∷ (39, codes "00") ∷ (49, codes "840") ∷ [] }
+
+-- a reversal as its acquirer enters it, as A forwards it, and its reply
+abbrev pub reversal_by_acquirer : Kind → List ℕ → List ℕ → Fields
+reversal_by_acquirer kind trace amount = record { kind = kind; elements = (2, card) ∷ (3, codes "000000") ∷ (4, amount) ∷ (7, codes "0314091600") ∷ (11, codes "000002") ∷ (32, codes "400001") ∷ (49, codes "840") ∷ (90, original trace) ∷ [] }
+
+abbrev pub reversal_reply : List ℕ → List ℕ → Fields
+reversal_reply trace amount = record { kind = K0410; elements = (2, card) ∷ (3, codes "000000") ∷ (4, amount) ∷ (7, codes "0314091600") ∷ (11, codes "000002") ∷ (32, codes "400001") ∷ (39, codes "00") ∷ (49, codes "840") ∷ (90, original trace) ∷ [] }
+
+abbrev pub one : List ℕ
+one = codes "000001"
+
+abbrev pub two : List ℕ
+two = codes "000002"
+
+abbrev pub three : List ℕ
+three = codes "000003"
+
+abbrev pub four : List ℕ
+four = codes "000004"
+
+abbrev pub ten_dollars : List ℕ
+ten_dollars = codes "000000001000"
+
+abbrev pub six_dollars : List ℕ
+six_dollars = codes "000000000600"
+
+abbrev pub four_dollars : List ℕ
+four_dollars = codes "000000000400"
+
+abbrev pub one_cent : List ℕ
+one_cent = codes "000000000001"
+
+-- steps
+
+-- the history after these inputs, of which the last stands first
+unfoldable pub history_after : Network → ℕ → List ReadInput → History
+unfolding decide
+history_after t n [] = []
+history_after t n (i ∷ is) = decide t n (history_after t n is) i
+
+-- what is put out for the last of them
+unfoldable pub outputs_after : Network → ℕ → List ReadInput → List ReadOutput
+unfolding history_after
+outputs_after t n is = newest_outputs (history_after t n is)
+
+-- so many ticks after these inputs
+abbrev pub ticks : ℕ → List ReadInput → List ReadInput
+ticks zero is = is
+ticks (suc n) is = Tick ∷ ticks n is
+
+-- traces, the newest entry first
+
+abbrev entry : ReadInput → List ReadOutput → ReadEntry
+entry i os = record { input = i; outputs = os }
+
+abbrev quiet_ticks : ℕ → List ReadEntry → List ReadEntry
+quiet_ticks zero es = es
+quiet_ticks (suc n) es = entry Tick [] ∷ quiet_ticks n es
+
+-- after a link failure the request goes to the next alternate
+abbrev pub next_alternate : List ReadEntry
+next_alternate =
+    entry (LinkDown 0) (Put 1 1 (forwarded one ten_dollars) ∷ [])
+    ∷ entry (Enter (entered one ten_dollars)) (Put 0 1 (forwarded one ten_dollars) ∷ [])
+    ∷ []
+
+-- a request that was reversed while it was pending is stood in for when its time is over
+abbrev pub stood_in_though_reversed : List ReadEntry
+stood_in_though_reversed =
+    entry Tick (Answer (answered one ten_dollars (codes "00")) ∷ Put 0 3 (stand_in one ten_dollars) ∷ [])
+    ∷ quiet_ticks 2 (
+    entry (Enter (reversal_by_acquirer K0400 one ten_dollars)) (Answer (answered one ten_dollars (codes "68")) ∷ Answer (reversal_reply one ten_dollars) ∷ Put 0 2 (reversal_by_acquirer K0420 one ten_dollars) ∷ [])
+    ∷ entry (Enter (entered one ten_dollars)) (Put 0 1 (forwarded one ten_dollars) ∷ [])
+    ∷ [])
+
+-- an approval that comes after the answer is dropped
+abbrev pub late_approval_dropped : List ReadEntry
+late_approval_dropped =
+    entry (Take 0 2 (answered one ten_dollars (codes "00"))) []
+    ∷ entry (Take 0 1 (answered one ten_dollars (codes "96"))) (Answer (answered one ten_dollars (codes "96")) ∷ [])
+    ∷ entry (Enter (entered one ten_dollars)) (Put 0 1 (forwarded one ten_dollars) ∷ [])
+    ∷ []
+
+-- of two requests that fail at one tick the second's limit doesn't count the first
+abbrev pub same_tick_not_counted : List ReadEntry
+same_tick_not_counted =
+    entry Tick (Put 0 3 (reversal one six_dollars) ∷ Answer (answered one six_dollars (codes "00")) ∷ Put 0 4 (stand_in one six_dollars) ∷ Put 0 5 (reversal two six_dollars) ∷ Answer (answered two six_dollars (codes "00")) ∷ Put 0 6 (stand_in two six_dollars) ∷ [])
+    ∷ quiet_ticks 2 (
+    entry (Enter (entered two six_dollars)) (Put 0 2 (forwarded two six_dollars) ∷ [])
+    ∷ entry (Enter (entered one six_dollars)) (Put 0 1 (forwarded one six_dollars) ∷ [])
+    ∷ [])
+
+-- an advice that was sent, and isn't acknowledged, isn't sent again
+abbrev pub advice_dropped_when_sent : List ReadEntry
+advice_dropped_when_sent =
+    quiet_ticks 50 (
+    entry Tick (Put 0 2 (reversal one ten_dollars) ∷ Answer (answered one ten_dollars (codes "91")) ∷ [])
+    ∷ quiet_ticks 2 (
+    entry (Enter (entered one ten_dollars)) (Put 0 1 (forwarded one ten_dollars) ∷ [])
+    ∷ []))
+
+-- a reversal that the node made gives it back what it approved itself
+abbrev pub own_reversal_frees : List ReadEntry
+own_reversal_frees =
+    entry (Enter (entered two six_dollars)) (Answer (answered two six_dollars (codes "00")) ∷ [])
+    ∷ entry (LinkDown 0) (Answer (answered one six_dollars (codes "00")) ∷ [])
+    ∷ entry (Enter (entered one six_dollars)) (Put 0 1 (forwarded one six_dollars) ∷ [])
+    ∷ []
+
+-- a run: the request fails at A at its third tick, H posts the reversal, and A takes the acknowledgement
+
+abbrev at_a : List ReadEntry
+at_a =
+    entry (Take 0 1 (acknowledged one ten_dollars)) []
+    ∷ entry Tick (Put 0 2 (reversal one ten_dollars) ∷ Answer (answered one ten_dollars (codes "91")) ∷ [])
+    ∷ quiet_ticks 2 (
+    entry (Enter (entered one ten_dollars)) (Put 0 1 (forwarded one ten_dollars) ∷ [])
+    ∷ [])
+
+abbrev at_h : List ReadEntry
+at_h = entry (Take 0 2 (reversal one ten_dollars)) (Put 0 1 (acknowledged one ten_dollars) ∷ Post (reversal one ten_dollars) ∷ []) ∷ []
+
+abbrev pub reversed_run : ℕ → List ReadEntry
+reversed_run zero = at_a
+reversed_run (suc zero) = at_h
+reversed_run (suc (suc n)) = []
+
+-- A stands above H for every card
+abbrev pub base_ranks : ℕ → List ℕ → Option ℕ
+base_ranks zero card = Some 1
+base_ranks (suc n) card = Some 0
