@@ -15,7 +15,7 @@ struct Slow<'a> {
 }
 
 impl<'a> Source for Slow<'a> {
-    ghost remaining = { λ s. Some s.left.now };
+    ghost remaining = { λ _. None };
 
     ghost failures = { λ s. 1 };
 
