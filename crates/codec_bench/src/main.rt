@@ -111,7 +111,9 @@ fn measure(
     if timed {
         let reading = decoded.as_micros();
         let all = both.as_micros();
-        println!(rt; "{name}: {rounds} thousand messages, decoded in {reading} us, decoded and encoded in {all} us")?;
+        println!(rt;
+            "{name}: {rounds} thousand messages, decoded in {reading} us, decoded and encoded in {all} us"
+        )?;
     }
     Ok(())
 }

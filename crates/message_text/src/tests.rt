@@ -8,12 +8,7 @@ fn answers(rt: &HostRuntime, input: &str, text: &str, status: u8) -> Result<bool
 }
 
 /// Whether the input's frames are answered so.
-fn answers_frames(
-    rt: &HostRuntime,
-    input: &[u8],
-    text: &str,
-    status: u8,
-) -> Result<bool, Fail> {
+fn answers_frames(rt: &HostRuntime, input: &[u8], text: &str, status: u8) -> Result<bool, Fail> {
     let answer = decode_frames(rt.alloc(), input)?;
     Ok(answer.text.as_slice() == text.as_bytes() && answer.status() == status)
 }
@@ -88,6 +83,13 @@ fn faults(rt: HostRuntime) -> Result<(), Fail> {
 
 #[test]
 fn values(rt: HostRuntime) -> Result<(), Fail> {
-    assert!(rt; answers(&rt, "01000000000100001000000123456789abcdef", "message 1\ntype 0100\n32 \n52 0123456789ABCDEF\n", 0)?);
+    assert!(rt;
+        answers(
+            &rt,
+            "01000000000100001000000123456789abcdef",
+            "message 1\ntype 0100\n32 \n52 0123456789ABCDEF\n",
+            0
+        )?
+    );
     Ok(())
 }

@@ -1,4 +1,4 @@
-use Rattle.std.proofs.Common.{◌≡◌, ◌≤◌, ◌+◌, suc, length, ap, sym, arith, length-append}
+use Rattle.std.proofs.Common.{◌+◌, suc, sym, arith}
 use Rattle.std.proofs.lemmas.Bool.{eqb-true}
 use Rattle.std.proofs.lemmas.List.{nil_from_length}
 use Rattle.message_text.proofs.PrintLemmas.{frames_step, frames_end, frames_cut, behind_frame}
@@ -11,7 +11,7 @@ loop-rest-preserved c =
     record {
       few = omega (arith, fewer, c.loop-rest.invariant.few);
       so_far = frames_step c.args.input.now c.loop-rest.rest.now c.in-Some.bytes.now c.in-Some.later.now c.loop-rest.number (c.loop-rest.number + 1)
-        c.loop-rest.text.items c.push_block.new.out.items c.loop-rest.good c.in_ok-fine-in-Some.fine (omega arith) frame c.loop-rest.invariant.so_far c.in_ok-fine-in-Some.ensures;
+          c.loop-rest.text.items c.push_block.new.out.items c.loop-rest.good c.in_ok-fine-in-Some.fine (omega arith) frame c.loop-rest.invariant.so_far c.in_ok-fine-in-Some.ensures;
     }
 
 pub returns-in-None : goal.returns-in-None

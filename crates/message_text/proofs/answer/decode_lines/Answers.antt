@@ -9,7 +9,7 @@ pub loop-rest-preserved : goal.loop-rest-preserved
 loop-rest-preserved c = record {
   few = omega (arith, c.first_line.ensures.shorter, c.loop-rest.invariant.few);
   so_far = lines_step (map (λ line. Some line) (lines_of c.args.input.now)) c.loop-rest.rest.now c.first_line.result.0.now c.first_line.result.1.now c.loop-rest.number (c.loop-rest.number + 1)
-    c.loop-rest.text.items c.push_block.new.out.items c.loop-rest.good c.in_ok-fine.fine (omega arith) c.first_line.ensures.lines c.loop-rest.invariant.so_far c.in_ok-fine.ensures;
+      c.loop-rest.text.items c.push_block.new.out.items c.loop-rest.good c.in_ok-fine.fine (omega arith) c.first_line.ensures.lines c.loop-rest.invariant.so_far c.in_ok-fine.ensures;
 }
 
 pub returns : goal.returns
