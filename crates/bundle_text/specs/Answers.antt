@@ -1,5 +1,5 @@
 -- What the program answers to an input.
-use Rattle.std.specs.Prelude.{◌≡◌, ℕ, List, [], ◌∷◌, ◌⊎◌, codes, Option, Some, None, Result, Ok, Err}
+use Rattle.std.specs.Prelude.{◌≡◌, ℕ, Bool, true, false, List, [], ◌∷◌, ◌⊎◌, map, codes, if◌then◌else◌, Option, Some, None, Result, Ok, Err}
 use Rattle.net_rows.specs.Network.{Network}
 use Rattle.net_tables.specs.Reading.{tables_in}
 use Rattle.net_tables.specs.declared.fault.TableFault.{TableFault}
@@ -10,7 +10,11 @@ use Rattle.table_checker.specs.Rules.{first_refusal}
 use Rattle.table_checker.specs.declared.refusal.Refusal.{Refusal}
 use Rattle.bundle_text.specs.declared.answer.Status.{Status}
 use Rattle.bundle_text.specs.declared.answer.Status.TheVariants.{Done, Refused, Fault}
-use Rattle.bundle_text.specs.Lines.{Text, table_fault_line, cert_fault_line, refusal_line}
+use Rattle.bundle_text.specs.Lines.{Text, table_fault_line, cert_fault_line, refusal_line, circle_line}
+use Rattle.rank_cert.specs.Writing.{text_of}
+use Rattle.rank_maker.specs.Circle.{IsCircle}
+use Rattle.message_text.specs.Parts.{lines_of, AreFrames}
+use Rattle.message_text.specs.Printed.{Printed}
 use Rattle.bundle_text.specs.Parts.{parts_of}
 
 -- a printed text, and the status that goes with it
@@ -43,6 +47,11 @@ check_parts _ = parts_fault
 abbrev pub check_said : List ℕ → Said
 check_said input = check_parts (parts_of input)
 
+abbrev pub status_code : Status → ℕ
+status_code Done = 0
+status_code Refused = 1
+status_code Fault = 2
+
 -- a line that names memory
 abbrev pub NamesMemory : Said → Type 0
 NamesMemory said = (said ≡ fault (codes "fault tables 8 memory\n")) ⊎ ((said ≡ fault (codes "fault ranks 6 memory\n")) ⊎ (said ≡ fault (codes "fault check 9 memory\n")))
@@ -50,3 +59,37 @@ NamesMemory said = (said ≡ fault (codes "fault tables 8 memory\n")) ⊎ ((said
 -- the answer of a job, unless memory was refused
 abbrev pub Answers : Said → Said → Type 0
 Answers said wanted = (said ≡ wanted) ⊎ NamesMemory said
+
+-- what is made of tables: some certificate, a circle of theirs, or neither
+pub data IsMade (t : Network) (said : Said) : Type 0 where
+  IsCert : (cert : List Rank) → said ≡ record { text = text_of cert; status = Done } → IsMade t said
+  IsCircleOf : (class nodes : List ℕ) → IsCircle t class nodes → said ≡ record { text = circle_line t class nodes; status = Refused } → IsMade t said
+  GaveUp : said ≡ record { text = codes "gave up\n"; status = Refused } → IsMade t said
+
+abbrev pub IsMadeOf : Result Network TableFault → Said → Type 0
+IsMadeOf (Err e) said = said ≡ fault (table_fault_line e)
+IsMadeOf (Ok t) said = IsMade t said
+
+abbrev pub IsMadeOfParts : List (List ℕ) → Said → Type 0
+IsMadeOfParts (tables ∷ []) said = IsMadeOf (tables_in tables) said
+IsMadeOfParts _ said = said ≡ parts_fault
+
+-- an answer of `make` to an input, unless memory was refused
+abbrev pub MakeAnswers : List ℕ → Said → Type 0
+MakeAnswers input said = IsMadeOfParts (parts_of input) said ⊎ NamesMemory said
+
+abbrev pub decode_status : Bool → Status
+decode_status good = if good then Done else Fault
+
+-- the blocks of these messages, and the status that goes with them
+abbrev pub IsDecoded : List (Option (List ℕ)) → Said → Type 0
+IsDecoded items said = (good : Bool) × Printed 1 items said.text good × (said.status ≡ decode_status good)
+
+abbrev pub IsDecodedParts : List (List ℕ) → Said → Type 0
+IsDecodedParts (text ∷ []) said = IsDecoded (map (λ line. Some line) (lines_of text)) said
+IsDecodedParts _ said = said ≡ parts_fault
+
+-- an answer of `decode` to an input of lines, or of frames; where memory was refused for a message, its block says so
+abbrev pub DecodeAnswers : Bool → List ℕ → Said → Type 0
+DecodeAnswers false input said = IsDecodedParts (parts_of input) said
+DecodeAnswers true input said = (items : List (Option (List ℕ))) × AreFrames input items × IsDecoded items said

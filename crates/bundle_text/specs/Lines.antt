@@ -1,7 +1,7 @@
 -- The printed lines of faults and verdicts.
 use Rattle.std.specs.Prelude.{ℕ, ◌+◌, List, [], ◌∷◌, ◌++◌, map, codes}
 use Rattle.std.specs.Fmt.{decimal}
-use Rattle.std.specs.List.{concat, join_with_byte}
+use Rattle.std.specs.List.{concat, flat_map, join_with_byte}
 use Rattle.std.specs.Option.{option_map_or}
 use Rattle.std.specs.Prelude.{slice_get}
 use Rattle.net_rows.specs.Network.{Network}
@@ -51,6 +51,10 @@ node_name t n = option_map_or (λ k. k.name) (slice_get t.nodes n) []
 
 abbrev pub link_name : Network → ℕ → Text
 link_name t l = option_map_or (λ k. k.name) (slice_get t.links l) []
+
+-- the line of a circle: nodes of these tables, round which cards of the class are sent
+abbrev pub circle_line : Network → List ℕ → List ℕ → Text
+circle_line t class nodes = concat (codes "circle " ∷ digits_text class ∷ flat_map (λ n. 32 ∷ node_name t n) nodes ∷ line_feed ∷ [])
 
 -- the line of a refusal of these tables
 abbrev pub refusal_line : Network → Refusal → Text

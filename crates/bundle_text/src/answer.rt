@@ -12,8 +12,12 @@ pub enum Status {
 }
 
 impl Status {
+    ghost use Rattle.bundle_text.specs.Answers.{status_code};
+
     /// The number that a process ends with.
-    pub fn code(self) -> u8 {
+    pub fn code(self) -> u8
+        ensures { result ≡ status_code self }
+    {
         match self {
             Status::Done => 0,
             Status::Refused => 1,

@@ -14,8 +14,8 @@ use rank_cert::{Cert, read_cert};
 use std::alloc::{AllocError, Global};
 use table_checker::check;
 
-/// A fault's line.
-fn fault(line: String) -> Answer
+/// The answer of a fault's line.
+pub(crate) fn fault(line: String) -> Answer
     ensures { result ≡ fault (string_bytes line) }
 {
     Answer::new(line.into_bytes(), Status::Fault)
@@ -47,6 +47,16 @@ ghost use Rattle.table_checker.specs.Rules.{first_refusal};
 
 use table_checker::Refusal;
 
+/// Another number of parts than the job takes.
+pub(crate) fn parts_fault(alloc: Global) -> Result<Answer, AllocError>
+    ensures { IfOk result (λ a. a ≡ parts_fault) }
+{
+    let line = String::from_str(alloc, "fault bundle 1 parts\n")?;
+    Ok(fault(line))
+}
+
+ghost use Rattle.bundle_text.specs.Answers.{parts_fault};
+
 /// The first fault of tables and ranks, or the verdict.
 fn check_both(alloc: Global, tables: &[u8], ranks: &[u8]) -> Result<Answer, AllocError>
     ensures { IfOk result (λ a. Answers a (check_read (tables_in tables.now) (cert_in ranks.now))) }
@@ -75,8 +85,7 @@ fn check_of(alloc: Global, parts: &[Vec<u8>]) -> Result<Answer, AllocError>
     ensures { IfOk result (λ a. Answers a (check_parts (map (λ p. p.items) parts.now))) }
 {
     if parts.len() != 2 {
-        let line = String::from_str(alloc, "fault bundle 1 parts\n")?;
-        return Ok(fault(line));
+        return parts_fault(alloc);
     }
     check_both(alloc, &parts[0], &parts[1])
 }

@@ -3,12 +3,16 @@
 
 mod answer;
 mod check_text;
+mod decode_text;
 mod faults;
 mod input_parts;
+mod make_text;
 mod refusals;
 
 pub use answer::{Answer, Status};
 pub use check_text::check_answer;
+pub use decode_text::decode_answer;
 pub use faults::{cert_fault_line, table_fault_line};
 pub use input_parts::parts;
+pub use make_text::make_answer;
 pub use refusals::refusal_line;

@@ -9,7 +9,7 @@ use std::alloc::{AllocError, Global};
 use table_checker::Refusal;
 
 /// The pieces, one behind the other.
-fn joined(alloc: Global, pieces: &[&[u8]]) -> Result<Vec<u8>, AllocError>
+pub(crate) fn joined(alloc: Global, pieces: &[&[u8]]) -> Result<Vec<u8>, AllocError>
     ensures { IfOk result (λ v. v.items ≡ concat (map (λ p. p.now) pieces.now)) }
 {
     let mut text = Vec::new(alloc);
@@ -20,7 +20,7 @@ fn joined(alloc: Global, pieces: &[&[u8]]) -> Result<Vec<u8>, AllocError>
 }
 
 /// The ASCII digits of a prefix.
-fn digits_text(alloc: Global, prefix: &Prefix) -> Result<Vec<u8>, AllocError>
+pub(crate) fn digits_text(alloc: Global, prefix: &Prefix) -> Result<Vec<u8>, AllocError>
     ensures { IfOk result (λ v. v.items ≡ digits_text prefix.now) }
 {
     let mut text = Vec::new(alloc);
@@ -30,7 +30,7 @@ fn digits_text(alloc: Global, prefix: &Prefix) -> Result<Vec<u8>, AllocError>
     Ok(text)
 }
 
-fn node_name(tables: &Tables, node: NodeNo) -> &[u8]
+pub(crate) fn node_name(tables: &Tables, node: NodeNo) -> &[u8]
     ensures { result.now ≡ node_name tables.now node }
 {
     match tables.nodes().get(node.place()) {
