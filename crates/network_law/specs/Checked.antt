@@ -3,19 +3,19 @@
 use Rattle.std.specs.Prelude.{ℕ, zero, suc, ◌+◌, ◌<◌, ◌≤◌, ◌≡◌, ◌≢◌, List, length, Contains, Option, Some, true}
 use Rattle.card_digits.specs.Numbers.{pad11}
 use Rattle.std.specs.Char.{is_ascii_digit}
-use Rattle.std.specs.List.{list_all}
-use Rattle.card_digits.specs.Digits.{IsDateLabel, IsId}
+use Rattle.std.specs.List.{list_all, AllByRecursion}
+use Rattle.card_digits.specs.Digits.{IsDateLabel}
 use Rattle.net_rows.specs.Network.{Network, issuer, other_end, day}
+use Rattle.net_rows.specs.Sound.{IsSound}
 use Rattle.net_rows.specs.declared.row.Issuer.{Issuer}
 use Rattle.network_law.specs.Cards.{Bytes}
 use Rattle.network_law.specs.Tables.{route_links, is_attached, node_id}
-use Rattle.network_law.specs.Traces.{IsIn}
 
--- the forms of dates and ids, distinct padded ids, and one gate for each acquirer
+-- the rows are sound, dates and ids are digits, padded ids are distinct, and an acquirer has one gate
 pub record IsChecked (t : Network) : Type 0 where
+  pub sound : IsSound t
   pub date : IsDateLabel t.settings.date
-  pub ids : (n : ℕ) → n < length t.nodes → IsId (node_id t n)
-  pub id_digits : (n : ℕ) → n < length t.nodes → list_all is_ascii_digit (node_id t n) ≡ true
+  pub id_digits : AllByRecursion (λ k. list_all is_ascii_digit k.id ≡ true) t.nodes
   pub single_ids : (n m : ℕ) → n < length t.nodes → m < length t.nodes → pad11 (node_id t n) ≡ pad11 (node_id t m) → n ≡ m
   pub single_gates : (acquirer : Bytes) (n m : ℕ) → is_attached t n acquirer ≡ true → is_attached t m acquirer ≡ true → n ≡ m
 
@@ -44,4 +44,4 @@ pub record Falls (low high : Option ℕ) : Type 0 where
 
 -- for every card with an issuer, and every node but its home: each link of the route row leads to a lower rank
 abbrev pub IsRanked : Network → Ranks → Type 0
-IsRanked t ranks = (card : List ℕ) (s : Issuer) (n l : ℕ) → issuer t card ≡ Some s → n < length t.nodes → n ≢ s.home → IsIn l (route_links t n card) → Falls (ranks (other_end t n l) card) (ranks n card)
+IsRanked t ranks = (card : List ℕ) (s : Issuer) (n : ℕ) → issuer t card ≡ Some s → n < length t.nodes → n ≢ s.home → AllByRecursion (λ l. Falls (ranks (other_end t n l) card) (ranks n card)) (route_links t n card)

@@ -51,7 +51,7 @@ abbrev pub IsIn : {X : Type 0} → X → List X → Type 0
 IsIn x [] = ⊥
 IsIn x (y ∷ ys) = (y ≡ x) ⊎ IsIn x ys
 
--- an event stands in a read_history
+-- an event stands in a history
 abbrev pub Has : Event → History → Type 0
 Has e h = IsIn e h
 
