@@ -5,3 +5,4 @@ pub mod Within
 pub mod Deepest
 pub mod Known
 pub mod Decimals
+pub mod Cuts

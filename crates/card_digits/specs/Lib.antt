@@ -4,3 +4,4 @@ pub mod Longest
 pub mod Reading
 pub mod Stream
 pub mod Numbers
+pub mod Cut

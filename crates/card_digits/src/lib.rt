@@ -3,6 +3,7 @@
 
 mod amount;
 mod card;
+mod cutting;
 mod date_label;
 mod key;
 mod name;
@@ -12,6 +13,7 @@ mod stream;
 
 pub use amount::{Amount, LinkNo, NodeNo};
 pub use card::{Card, DigitFault, begins, begins_class, luhn};
+pub use cutting::cut;
 pub use date_label::DateLabel;
 pub use key::{Key, pad11};
 pub use name::{Id, Name};

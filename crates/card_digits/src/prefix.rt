@@ -1,5 +1,5 @@
 //! Prefixes of card numbers.
-ghost use Rattle.std.specs.Prelude.{◌≡◌};
+ghost use Rattle.std.specs.Prelude.{◌≡◌, ◌<◌, All};
 
 use crate::card::{DigitFault, read};
 use crate::short_bytes::ShortBytes;
@@ -36,8 +36,10 @@ impl Prefix {
     }
 
     /// The digits in order, as numbers.
+    #[tactic(auto, using(crate::proofs::Within::all_below))]
     pub fn digits(&self) -> &[u8]
-        ensures { result.now ≡ self.now }
+        ensures digits { result.now ≡ self.now }
+        ensures below { All (λ d. d < 10) result.now }
     {
         self.digits.as_slice()
     }

@@ -1,5 +1,5 @@
 //! Elements, kept as places in one buffer.
-ghost use Rattle.std.specs.Prelude.{◌≡◌, ◌≤◌, [], ◌∷◌, ◌++◌, length, map, OnOk, OnErr, IfOk, MatchOption, MatchResult, slice_set, insert, ◌<◌};
+ghost use Rattle.std.specs.Prelude.{◌≡◌, ◌≤◌, [], ◌∷◌, ◌++◌, length, map, OnOk, OnErr, IfOk, MatchOption, MatchResult, slice_set, insert, drop, ◌<◌, ◌+◌};
 ghost use Rattle.iso_message.specs.Finding.{find_element, put, without};
 ghost use Rattle.iso_message.specs.Made.{kept};
 ghost use Rattle.iso_message.specs.Spelling.{Ascends, AreGood, bits, low_numbers, high_numbers, pieces};
@@ -76,6 +76,20 @@ impl Elements {
         ensures { MatchOption result (find_element number self.now ≡ None) (λ v. find_element number self.now ≡ Some v.now) }
     {
         value_of(&self.spans, &self.values, number)
+    }
+
+    pub(crate) fn len(&self) -> usize
+        ensures { result ≡ length self.now }
+    {
+        self.spans.len()
+    }
+
+    /// The element at a place.
+    pub(crate) fn at(&self, place: usize) -> (u8, &[u8])
+        requires { place < length self.now }
+        ensures { drop place self.now ≡ (result.0, result.1.now) ∷ drop (place + 1) self.now }
+    {
+        element_at(&self.spans, &self.values, place)
     }
 
     /// Adds the element in its place, instead of one of its number.
@@ -177,6 +191,16 @@ fn value_of<'a>(spans: &[Span], values: &'a [u8], number: u8) -> Option<&'a [u8]
         }
     }
     None
+}
+
+/// The element that the span at a place shows.
+fn element_at<'a>(spans: &[Span], values: &'a [u8], place: usize) -> (u8, &'a [u8])
+    requires within { AreWithin values.now spans.now }
+    requires bound { place < length spans.now }
+    ensures { drop place (seen values.now spans.now) ≡ (result.0, result.1.now) ∷ drop (place + 1) (seen values.now spans.now) }
+{
+    let span = spans[place];
+    (span.number, &values[span.start..span.end])
 }
 
 /// Adds the values of the spans with these numbers.

@@ -48,6 +48,14 @@ fn array_at<const N: usize>(bytes: &[u8], from: usize) -> [u8; N]
     array
 }
 
+/// Whether the elements of a request's key are there.
+#[tactic(auto, unfolding(crate::specs::Keys::has_own_key))]
+pub fn has_own_key(message: &Message) -> bool
+    ensures { result ≡ has_own_key message.now }
+{
+    message.has(32) && message.has(11) && message.has(7)
+}
+
 /// The padded element 32, element 11 and element 7.
 fn own_key(message: &Message) -> Option<Key>
     ensures { result ≡ when (has_own_key message.now) (own_key message.now) }

@@ -18,10 +18,7 @@ pub use code::Code;
 pub use fault::DecodeFault;
 pub use frame::{FrameFault, read_frame, write_frame};
 pub use form::{Class, Form};
-pub use keys::{AdviceId, AdviceKind, advice_id, code_of, key_of, original_key, same_content};
+pub use keys::{AdviceId, AdviceKind, advice_id, code_of, has_own_key, key_of, original_key, same_content};
 pub use kind::{Group, Kind};
-pub use message::{Message, encode};
+pub use message::{Message, encode, value_fault};
 pub use reading::decode;
-
-#[cfg(test)]
-mod tests;

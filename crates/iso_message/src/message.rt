@@ -1,12 +1,12 @@
 //! Messages.
-ghost use Rattle.std.specs.Prelude.{◌≡◌, ◌⊎◌, ◌<◌, ◌^◌, ◌++◌, [], Some, None, IfOk, OnOk, OnErr, IfErr};
+ghost use Rattle.std.specs.Prelude.{◌≡◌, ◌↔◌, ◌⊎◌, ◌<◌, ◌+◌, ◌^◌, ◌++◌, ◌∷◌, [], length, drop, IsTrue, Some, None, IfOk, OnOk, OnErr, IfErr};
 ghost use Rattle.std.specs.Option.{option_copied};
 ghost use Rattle.iso_message.specs.declared.fault.DecodeFault.TheVariants.{Memory};
 ghost use Rattle.iso_message.specs.Elements.{set_fault};
 ghost use Rattle.iso_message.specs.Table.{form_of};
 ghost use Rattle.iso_message.specs.Grammar.{Spells};
 ghost use Rattle.iso_message.specs.Spelling.{IsMessage, spelling, two_maps};
-ghost use Rattle.iso_message.specs.Fields.{get, set_element, remove_element, as_kind};
+ghost use Rattle.iso_message.specs.Fields.{get, has, set_element, remove_element, as_kind};
 
 use crate::elements::Elements;
 use crate::fault::DecodeFault;
@@ -69,6 +69,34 @@ impl Message {
         self.elements.get(number)
     }
 
+    /// The number of elements.
+    pub fn len(&self) -> usize
+        ensures { result ≡ length self.now.elements }
+    {
+        self.elements.len()
+    }
+
+    pub fn is_empty(&self) -> bool
+        ensures { IsTrue result ↔ (self.now.elements ≡ []) }
+    {
+        self.elements.len() == 0
+    }
+
+    /// The number and the bytes of the element at a place in ascending order.
+    pub fn at(&self, place: usize) -> (u8, &[u8])
+        requires { place < length self.now.elements }
+        ensures { drop place self.now.elements ≡ (result.0, result.1.now) ∷ drop (place + 1) self.now.elements }
+    {
+        self.elements.at(place)
+    }
+
+    /// Whether an element is there.
+    pub fn has(&self, number: u8) -> bool
+        ensures { result ≡ has self.now number }
+    {
+        self.get(number).is_some()
+    }
+
     /// Sets an element, in place of the value that it has. `Element` names a number that is not in the table, `Length` a
     /// value of a length that the element doesn't take, `Character` one with a byte of another class; they are tested in
     /// this order, and the message is unchanged after each, and where memory was refused.
@@ -78,7 +106,7 @@ impl Message {
         ensures fault { IfErr result (λ e. (e ≡ Memory) ⊎ (set_fault (form_of number) number value.now ≡ Some e)) }
         ensures err { OnErr result (self.new ≡ self.old) }
     {
-        match fault_of(number, value) {
+        match value_fault(number, value) {
             Some(fault) => Err(fault),
             None => {
                 self.elements.put(number, value)?;
@@ -147,8 +175,8 @@ fn push_maps(out: &mut Vec<u8>, low: u64, high: u64) -> Result<(), AllocError>
     Ok(())
 }
 
-/// What is wrong with a value for an element.
-fn fault_of(number: u8, value: &[u8]) -> Option<DecodeFault>
+/// What is wrong with a value for an element: the fault that `set` answers, none where it sets the value.
+pub fn value_fault(number: u8, value: &[u8]) -> Option<DecodeFault>
     ensures { result ≡ set_fault (form_of number) number value.now }
 {
     let (class, long) = match form_at(number) {

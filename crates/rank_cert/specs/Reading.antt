@@ -11,11 +11,6 @@ use Rattle.rank_cert.specs.declared.fault.CertFault.{CertFault}
 use Rattle.rank_cert.specs.declared.fault.CertFault.TheVariants.{Header, Line, Twice, NoEnd, AfterEnd, Memory}
 use Rattle.rank_cert.specs.Ranks.{rank_of}
 
--- the bytes are cut at the first byte of that value
-pub record IsCut (end : ℕ) (bytes front behind : List ℕ) : Type 0 where
-  pub none : All (λ b. (b == end) ≡ false) front
-  pub whole : bytes ≡ front ++ end ∷ behind
-
 -- the lines of a text: a line feed ends each, and the last may lack it
 abbrev pub lines : List ℕ → List (List ℕ)
 lines [] = []

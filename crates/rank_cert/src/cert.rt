@@ -67,9 +67,12 @@ impl Cert {
 
     /// The rows in the order in which they were added.
     pub fn rows(&self) -> &[Rank]
-        ensures { result.now ≡ self.now }
+        ensures rows { result.now ≡ self.now }
+        // No two rows have the same pair.
+        ensures good { IsCert self.now }
+        ensures each { All IsRow self.now }
     {
-        self.rows.as_slice()
+        &self.rows
     }
 
     /// The rank of a name at a prefix.
@@ -85,15 +88,6 @@ impl Cert {
 }
 
 impl Cert {
-    /// The rows, of which no two have the same pair.
-    pub(crate) fn good_rows(&self) -> &[Rank]
-        ensures rows { result.now ≡ self.now }
-        ensures good { IsCert self.now }
-        ensures each { All IsRow self.now }
-    {
-        &self.rows
-    }
-
     /// Adds a row at the end, but not where its pair is there.
     pub(crate) fn add_row(&mut self, row: Rank) -> Result<bool, AllocError>
         requires { IsRow row }

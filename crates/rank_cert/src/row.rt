@@ -7,8 +7,7 @@ ghost use Rattle.rank_cert.specs.Ranks.{IsRow};
 ghost use Rattle.rank_cert.specs.Reading.{fields, three, row_of, number_of};
 
 use crate::cert::Rank;
-use crate::parts::cut;
-use card_digits::{Name, Prefix, all_digits};
+use card_digits::{Name, Prefix, all_digits, cut};
 
 /// The fields of a line, as text.
 #[derive(Clone, Copy, Debug)]

@@ -18,7 +18,7 @@ pub fn write_cert(alloc: Global, cert: &Cert) -> Result<Vec<u8>, AllocError>
 {
     let mut text = Vec::new(alloc);
     text.extend_from_slice(b"RANKS 1\n")?;
-    write_rows(alloc, cert.good_rows(), &mut text)?;
+    write_rows(alloc, cert.rows(), &mut text)?;
     text.extend_from_slice(b"END\n")?;
     Ok(text)
 }

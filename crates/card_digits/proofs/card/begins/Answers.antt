@@ -3,4 +3,4 @@ use Rattle.card_digits.proofs.Fronts.{begins-starts_with}
 use Rattle.card_digits.proofs.card.begins.Goals as goal
 
 pub returns : goal.returns
-returns c = c.starts_with.ensures.value ∙ rw (c.digits.ensures.digits, c.digits-2.ensures) (begins-starts_with c.args.prefix.now c.args.card.now)
+returns c = c.starts_with.ensures.value ∙ rw (c.digits.ensures.digits, c.digits-2.ensures.digits) (begins-starts_with c.args.prefix.now c.args.card.now)

@@ -7,4 +7,4 @@ use Rattle.rank_cert.proofs.write.write_cert.Goals as goal
 pub returns-clause-read_again : goal.returns-clause-read_again
 returns-clause-read_again c =
     let text : c.extend_from_slice-2.new.self.items ≡ text_of c.args.cert.now = grind (arith, common_steps) in
-    rw text (text_again c.args.cert.now c.good_rows.ensures.good)
+    rw text (text_again c.args.cert.now c.rows.ensures.good)

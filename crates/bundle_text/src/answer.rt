@@ -1,0 +1,59 @@
+//! What the program answers.
+ghost use Rattle.std.specs.Prelude.{◌≡◌};
+
+use std::marker::Model;
+
+/// The exit status: 0 where the job is done, 1 where the tables are refused, 2 for any fault.
+#[derive(Clone, Copy, Debug, PartialEq, Eq)]
+pub enum Status {
+    Done,
+    Refused,
+    Fault,
+}
+
+impl Status {
+    /// The number that a process ends with.
+    pub fn code(self) -> u8 {
+        match self {
+            Status::Done => 0,
+            Status::Refused => 1,
+            Status::Fault => 2,
+        }
+    }
+}
+
+/// A printed text, and the status that goes with it.
+#[derive(Debug, Drop)]
+pub struct Answer {
+    text: Vec<u8>,
+    status: Status,
+}
+
+impl Model for Answer {
+    ghost use Rattle.bundle_text.specs.Answers.{Said};
+
+    ghost Value = { Said };
+
+    ghost view = { λ a. record { text = a.text.items; status = a.status } };
+}
+
+impl Answer {
+    pub fn new(text: Vec<u8>, status: Status) -> Answer
+        ensures { result ≡ record { text = text.items; status = status } }
+    {
+        Answer { text, status }
+    }
+
+    /// The bytes to print.
+    pub fn text(&self) -> &[u8]
+        ensures { result.now ≡ self.now.text }
+    {
+        &self.text
+    }
+
+    pub fn status(&self) -> Status
+        ensures { result ≡ self.now.status }
+    {
+        self.status
+    }
+}

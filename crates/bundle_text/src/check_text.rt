@@ -1,0 +1,82 @@
+//! The answer of `check`.
+ghost use Rattle.std.specs.Prelude.{◌≡◌, IfOk, map};
+ghost use Rattle.bundle_text.specs.Answers.{Said, Answers, check_parts, check_read, check_said, fault, verdict};
+ghost use Rattle.net_tables.specs.Reading.{tables_in};
+ghost use Rattle.rank_cert.specs.Reading.{cert_in};
+
+use crate::answer::{Answer, Status};
+use crate::faults::{cert_fault_line, table_fault_line};
+use crate::input_parts::parts;
+use crate::refusals::refusal_line;
+use net_rows::Tables;
+use net_tables::read_tables;
+use rank_cert::{Cert, read_cert};
+use std::alloc::{AllocError, Global};
+use table_checker::check;
+
+/// A fault's line.
+fn fault(line: String) -> Answer
+    ensures { result ≡ fault (string_bytes line) }
+{
+    Answer::new(line.into_bytes(), Status::Fault)
+}
+
+ghost use Rattle.std.specs.Prelude.{string_bytes};
+
+/// The verdict on tables.
+fn verdict(alloc: Global, tables: &Tables, cert: &Cert) -> Result<Answer, AllocError>
+    ensures { IfOk result (λ a. Answers a (verdict tables.now (first_refusal tables.now cert.now))) }
+{
+    match check(alloc, tables, cert) {
+        Ok(_) => {
+            let line = String::from_str(alloc, "accepted\n")?;
+            Ok(Answer::new(line.into_bytes(), Status::Done))
+        }
+        Err(Refusal::Memory) => {
+            let line = String::from_str(alloc, "fault check 9 memory\n")?;
+            Ok(fault(line))
+        }
+        Err(refusal) => {
+            let line = refusal_line(alloc, tables, &refusal)?;
+            Ok(Answer::new(line, Status::Refused))
+        }
+    }
+}
+
+ghost use Rattle.table_checker.specs.Rules.{first_refusal};
+
+use table_checker::Refusal;
+
+/// The first fault of tables and ranks, or the verdict.
+fn check_both(alloc: Global, tables: &[u8], ranks: &[u8]) -> Result<Answer, AllocError>
+    ensures { IfOk result (λ a. Answers a (check_read (tables_in tables.now) (cert_in ranks.now))) }
+{
+    let tables = match read_tables(alloc, tables) {
+        Ok(tables) => tables,
+        Err(e) => return Ok(fault(table_fault_line(alloc, e)?)),
+    };
+    let cert = match read_cert(alloc, ranks) {
+        Ok(cert) => cert,
+        Err(e) => return Ok(fault(cert_fault_line(alloc, e)?)),
+    };
+    verdict(alloc, &tables, &cert)
+}
+
+/// The answer of `check` to an input of two parts, the tables and the ranks: a verdict or the first fault.
+pub fn check_answer(alloc: Global, input: &[u8]) -> Result<Answer, AllocError>
+    ensures { IfOk result (λ a. Answers a (check_said input.now)) }
+{
+    let parts = parts(alloc, input)?;
+    check_of(alloc, &parts)
+}
+
+#[tactic(auto, using(crate::proofs::Pairs::not_two, crate::proofs::Pairs::two))]
+fn check_of(alloc: Global, parts: &[Vec<u8>]) -> Result<Answer, AllocError>
+    ensures { IfOk result (λ a. Answers a (check_parts (map (λ p. p.items) parts.now))) }
+{
+    if parts.len() != 2 {
+        let line = String::from_str(alloc, "fault bundle 1 parts\n")?;
+        return Ok(fault(line));
+    }
+    check_both(alloc, &parts[0], &parts[1])
+}

@@ -1,0 +1,73 @@
+-- What is printed for a message, and for all messages of an input.
+use Rattle.std.specs.Prelude.{◌≡◌, ℕ, suc, ◌==◌, ◌||◌, ◌&&◌, ◌⊎◌, Bool, true, is_ok, if◌then◌else◌, List, [], ◌∷◌, ◌++◌, codes, decimal, Option, Some, None, Result, Ok, Err}
+use Rattle.std.specs.List.{flat_map}
+use Rattle.hex.specs.Hex.{encode_upper}
+use Rattle.iso_message.specs.declared.fault.DecodeFault.{DecodeFault}
+use Rattle.iso_message.specs.declared.fault.DecodeFault.TheVariants as faults
+use Rattle.iso_message.specs.Types.{kind_text}
+use Rattle.iso_message.specs.Fields.{Fields}
+use Rattle.iso_message.specs.Messages.{read}
+
+-- an element of eight bytes
+abbrev pub is_binary : ℕ → Bool
+is_binary n = n == 52 || n == 64 || n == 128
+
+abbrev pub value_text : ℕ → List ℕ → List ℕ
+value_text n value = if is_binary n then encode_upper value else value
+
+unfoldable pub element_line : ℕ × List ℕ → List ℕ
+element_line e = decimal e.0 ++ (codes " " ++ (value_text e.0 e.1 ++ codes "\n"))
+
+abbrev pub element_lines : List (ℕ × List ℕ) → List ℕ
+element_lines elements = flat_map element_line elements
+
+unfoldable pub message_lines : Fields → List ℕ
+unfolding element_line
+message_lines m = codes "type " ++ (kind_text m.kind ++ (codes "\n" ++ element_lines m.elements))
+
+abbrev pub fault_words : DecodeFault → List ℕ
+fault_words faults.Short = codes "1 short"
+fault_words faults.BadType = codes "2 type"
+fault_words faults.BitMap = codes "3 bit map"
+fault_words (faults.Element n) = codes "4 element " ++ decimal n
+fault_words (faults.Length n) = codes "5 length " ++ decimal n
+fault_words (faults.Character n) = codes "6 character " ++ decimal n
+fault_words faults.Trailing = codes "7 trailing"
+fault_words faults.Memory = codes "8 memory"
+
+unfoldable pub fault_line : DecodeFault → List ℕ
+fault_line fault = codes "fault message " ++ (fault_words fault ++ codes "\n")
+
+abbrev pub answer_lines : Result Fields DecodeFault → List ℕ
+answer_lines (Ok m) = message_lines m
+answer_lines (Err fault) = fault_line fault
+
+unfoldable pub heading : ℕ → List ℕ
+heading number = codes "message " ++ (decimal number ++ codes "\n")
+
+-- the lines of the message of this number
+abbrev pub block : ℕ → Result Fields DecodeFault → List ℕ
+block number answer = heading number ++ answer_lines answer
+
+-- what is read of a message; a frame that is cut is too short
+abbrev pub reading : Option (List ℕ) → Result Fields DecodeFault
+reading (Some bytes) = read bytes
+reading None = Err faults.Short
+
+-- what is read, or that memory was refused
+abbrev pub IsAnswer : Option (List ℕ) → Result Fields DecodeFault → Type 0
+IsAnswer item answer = (answer ≡ reading item) ⊎ (answer ≡ Err faults.Memory)
+
+-- a text grows by the block of a message
+abbrev pub PrintsBlock : ℕ → Option (List ℕ) → List ℕ → List ℕ → Bool → Type 0
+PrintsBlock number item old new good = (answer : Result Fields DecodeFault) × IsAnswer item answer × (new ≡ old ++ block number answer) × (good ≡ is_ok answer)
+
+-- the block of each message from this number on, and whether none has a fault
+abbrev pub Printed : ℕ → List (Option (List ℕ)) → List ℕ → Bool → Type 0
+Printed number [] text good = (text ≡ []) × (good ≡ true)
+Printed number (item ∷ items) text good =
+    (answer : Result Fields DecodeFault) × (later : List ℕ) × (rest : Bool) × IsAnswer item answer × (text ≡ block number answer ++ later) × (good ≡ (is_ok answer && rest))
+    × Printed (suc number) items later rest
+
+abbrev pub status_of : Bool → ℕ
+status_of good = if good then 0 else 2

@@ -1,0 +1,146 @@
+//! The printed form of a message.
+ghost use Rattle.std.specs.Prelude.{◌≡◌, ◌++◌, ◌∷◌, ◌<◌, ◌^◌, [], drop, codes, decimal, is_ok, IfOk, OnOk, Some, Ok, Err};
+ghost use Rattle.iso_message.specs.Fields.{Fields};
+ghost use Rattle.iso_message.specs.Types.{kind_text};
+ghost use Rattle.iso_message.specs.declared.fault.DecodeFault.{DecodeFault};
+ghost use Rattle.message_text.specs.Printed.{value_text, element_line, element_lines, message_lines, fault_words, fault_line, heading, PrintsBlock};
+
+use iso_message::{DecodeFault, Kind, Message, decode};
+use std::alloc::{AllocError, Global};
+
+fn push_number(out: &mut Vec<u8>, number: u64) -> Result<(), AllocError>
+    ensures { OnOk result (out.new.items ≡ out.old.items ++ decimal number) }
+{
+    let text = format!(in *out.allocator(); "{number}")?;
+    out.extend_from_slice(text.as_bytes())?;
+    Ok(())
+}
+
+/// Writes the bytes, for an element of eight bytes as hexadecimal digits.
+fn push_value(out: &mut Vec<u8>, number: u8, value: &[u8]) -> Result<(), AllocError>
+    ensures { OnOk result (out.new.items ≡ out.old.items ++ value_text number value.now) }
+{
+    if number == 52 || number == 64 || number == 128 {
+        let text = hex::encode_upper(*out.allocator(), value)?;
+        out.extend_from_slice(text.as_bytes())?;
+    } else {
+        out.extend_from_slice(value)?;
+    }
+    Ok(())
+}
+
+/// Writes the line of an element.
+#[tactic(auto, unfolding(crate::specs::Printed::element_line))]
+fn push_element(out: &mut Vec<u8>, number: u8, value: &[u8]) -> Result<(), AllocError>
+    ensures { OnOk result (out.new.items ≡ out.old.items ++ element_line (number, value.now)) }
+{
+    push_number(out, number as u64)?;
+    out.extend_from_slice(b" ")?;
+    push_value(out, number, value)?;
+    out.extend_from_slice(b"\n")?;
+    Ok(())
+}
+
+fn push_elements(out: &mut Vec<u8>, message: &Message) -> Result<(), AllocError>
+    ensures { OnOk result (out.new.items ≡ out.old.items ++ element_lines message.now.elements) }
+{
+    for place in 0..message.len() {
+        let (number, value) = message.at(place);
+        push_element(out, number, value)?;
+    }
+    Ok(())
+}
+
+fn kind_text(kind: Kind) -> &'static [u8]
+    ensures { result.now ≡ kind_text kind }
+{
+    match kind {
+        Kind::K0100 => b"0100",
+        Kind::K0101 => b"0101",
+        Kind::K0110 => b"0110",
+        Kind::K0120 => b"0120",
+        Kind::K0121 => b"0121",
+        Kind::K0130 => b"0130",
+        Kind::K0400 => b"0400",
+        Kind::K0401 => b"0401",
+        Kind::K0410 => b"0410",
+        Kind::K0420 => b"0420",
+        Kind::K0421 => b"0421",
+        Kind::K0430 => b"0430",
+    }
+}
+
+/// Writes the line of the type, and a line for each element.
+#[tactic(auto, unfolding(crate::specs::Printed::message_lines))]
+fn push_message(out: &mut Vec<u8>, message: &Message) -> Result<(), AllocError>
+    ensures { OnOk result (out.new.items ≡ out.old.items ++ message_lines message.now) }
+{
+    out.extend_from_slice(b"type ")?;
+    out.extend_from_slice(kind_text(message.kind()))?;
+    out.extend_from_slice(b"\n")?;
+    push_elements(out, message)
+}
+
+/// Writes the number and words of a fault, with the element that it names.
+fn push_fault_words(out: &mut Vec<u8>, fault: DecodeFault) -> Result<(), AllocError>
+    ensures { OnOk result (out.new.items ≡ out.old.items ++ fault_words fault) }
+{
+    match fault {
+        DecodeFault::Short => out.extend_from_slice(b"1 short"),
+        DecodeFault::BadType => out.extend_from_slice(b"2 type"),
+        DecodeFault::BitMap => out.extend_from_slice(b"3 bit map"),
+        DecodeFault::Element(number) => push_named(out, b"4 element ", number),
+        DecodeFault::Length(number) => push_named(out, b"5 length ", number),
+        DecodeFault::Character(number) => push_named(out, b"6 character ", number),
+        DecodeFault::Trailing => out.extend_from_slice(b"7 trailing"),
+        DecodeFault::Memory => out.extend_from_slice(b"8 memory"),
+    }
+}
+
+fn push_named(out: &mut Vec<u8>, words: &[u8], number: u8) -> Result<(), AllocError>
+    ensures { OnOk result (out.new.items ≡ out.old.items ++ words.now ++ decimal number) }
+{
+    out.extend_from_slice(words)?;
+    push_number(out, number as u64)
+}
+
+/// Writes the line of a fault.
+#[tactic(auto, unfolding(crate::specs::Printed::fault_line))]
+pub(crate) fn push_fault(out: &mut Vec<u8>, fault: DecodeFault) -> Result<(), AllocError>
+    ensures { OnOk result (out.new.items ≡ out.old.items ++ fault_line fault) }
+{
+    out.extend_from_slice(b"fault message ")?;
+    push_fault_words(out, fault)?;
+    out.extend_from_slice(b"\n")?;
+    Ok(())
+}
+
+/// Writes the line with a message's number.
+#[tactic(auto, unfolding(crate::specs::Printed::heading))]
+pub(crate) fn push_heading(out: &mut Vec<u8>, number: u64) -> Result<(), AllocError>
+    ensures { OnOk result (out.new.items ≡ out.old.items ++ heading number) }
+{
+    out.extend_from_slice(b"message ")?;
+    push_number(out, number)?;
+    out.extend_from_slice(b"\n")?;
+    Ok(())
+}
+
+/// Writes the lines of the message that the bytes are, or of its fault, and says whether it has none. Where memory is refused
+/// while the message is read, the line of that fault stands in place of the message's; where it is refused for the text, an
+/// error is returned, and the text may have grown by a part of the lines.
+pub fn push_block(out: &mut Vec<u8>, number: u64, bytes: &[u8]) -> Result<bool, AllocError>
+    ensures { IfOk result (λ good. PrintsBlock number (Some bytes.now) out.old.items out.new.items good) }
+{
+    push_heading(out, number)?;
+    match decode(*out.allocator(), bytes) {
+        Ok(message) => {
+            push_message(out, &message)?;
+            Ok(true)
+        }
+        Err(fault) => {
+            push_fault(out, fault)?;
+            Ok(false)
+        }
+    }
+}

@@ -1,0 +1,13 @@
+//! Makes ranks for routing tables, or finds a circle in them.
+#![tactic(auto)]
+
+mod circle;
+mod classes;
+mod maker;
+mod walk;
+
+pub use circle::is_circle;
+pub use maker::{Made, make};
+
+#[cfg(test)]
+mod tests;

@@ -1,0 +1,61 @@
+//! Ranks for all classes.
+use crate::classes::classes;
+use crate::walk::{MOST_NODES, Routes, Stop, Walk};
+use card_digits::{NodeNo, Prefix};
+use net_rows::Tables;
+use rank_cert::Cert;
+use std::alloc::{AllocError, Global};
+
+/// What was made of tables.
+#[derive(Debug, Drop)]
+pub enum Made {
+    /// A rank for each class with an issuer and each node.
+    Ranks(Cert),
+    /// Nodes along whose routes a card of the class is sent round, the first of them again at the end.
+    Circle(Prefix, Vec<NodeNo>),
+    /// No memory, or tables in which a name stands twice.
+    GaveUp,
+}
+
+/// Ranks that fall along all routes, or the first circle. A rank is the number of links of the longest walk from the node
+/// along routes; the home's own routes aren't followed. Classes are in ascending order, and nodes in that of the tables.
+///
+/// What is made is checked by others, so nothing is promised of it.
+pub fn make(alloc: Global, tables: &Tables) -> Made {
+    match ranks(alloc, tables) {
+        Ok(made) => made,
+        Err(_) => Made::GaveUp,
+    }
+}
+
+fn ranks(alloc: Global, tables: &Tables) -> Result<Made, AllocError> {
+    let mut cert = Cert::new(alloc);
+    for class in &classes(alloc, tables)? {
+        let Some(issuer) = tables.issuer_at(class) else {
+            continue;
+        };
+        let routes = Routes {
+            tables,
+            class: *class,
+            home: issuer.home,
+        };
+        match add_ranks(alloc, &routes, &mut cert) {
+            Ok(()) => {}
+            Err(Stop::Circle(nodes)) => return Ok(Made::Circle(*class, nodes)),
+            Err(Stop::GaveUp) => return Ok(Made::GaveUp),
+        }
+    }
+    Ok(Made::Ranks(cert))
+}
+
+/// Adds the ranks of a class.
+fn add_ranks(alloc: Global, routes: &Routes, cert: &mut Cert) -> Result<(), Stop> {
+    let mut walk = Walk::new(alloc);
+    for (i, row) in routes.tables.nodes().iter().enumerate() {
+        let rank = walk.rank(routes, NodeNo::new(i), MOST_NODES)?;
+        if !cert.add(row.name.as_slice(), routes.class, rank)? {
+            return Err(Stop::GaveUp);
+        }
+    }
+    Ok(())
+}

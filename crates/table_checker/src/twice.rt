@@ -1,0 +1,83 @@
+//! Ids that stand twice, and timers that run too long.
+ghost use Rattle.std.specs.Prelude.{◌≡◌, ◌<◌, length, map, nat_lt, IfOk, IfSome, option_map, Some};
+ghost use Rattle.std.specs.List.{position_from};
+ghost use Rattle.card_digits.specs.Numbers.{pad11};
+ghost use Rattle.table_checker.specs.Rules.{first_repeated, acquirer_twice, node_id_twice, timer_too_long};
+
+use crate::refusal::Refusal;
+use card_digits::{LinkNo, pad11};
+use net_rows::{Acquirer, Link, Node, Tables};
+use std::alloc::{AllocError, Global};
+
+fn acquirer_ids(alloc: Global, acquirers: &[Acquirer]) -> Result<Vec<[u8; 11]>, AllocError>
+    ensures { IfOk result (λ v. v.items ≡ map (λ a. pad11 a.id) acquirers.now) }
+{
+    let mut ids = Vec::new(alloc);
+    for acquirer in acquirers {
+        ids.push(pad11(acquirer.id.as_slice()))?;
+    }
+    Ok(ids)
+}
+
+fn node_ids(alloc: Global, nodes: &[Node]) -> Result<Vec<[u8; 11]>, AllocError>
+    ensures { IfOk result (λ v. v.items ≡ map (λ n. pad11 n.id) nodes.now) }
+{
+    let mut ids = Vec::new(alloc);
+    for node in nodes {
+        ids.push(pad11(node.id.as_slice()))?;
+    }
+    Ok(ids)
+}
+
+/// The first id that stands behind an equal one. There are at most 1,024 ids, so that each may be sought among those before it.
+fn first_repeated(ids: &[[u8; 11]]) -> Option<[u8; 11]>
+    ensures { result ≡ first_repeated ids.now }
+{
+    for (i, id) in ids.iter().enumerate() {
+        if ids[..i].contains(id) {
+            return Some(*id);
+        }
+    }
+    None
+}
+
+/// A second acquirer with the same padded id.
+pub(crate) fn acquirer_twice(alloc: Global, tables: &Tables) -> Result<Option<Refusal>, AllocError>
+    ensures { IfOk result (λ r. r ≡ acquirer_twice tables.now) }
+{
+    let ids = acquirer_ids(alloc, tables.acquirers())?;
+    match first_repeated(&ids) {
+        Some(id) => Ok(Some(Refusal::AcquirerTwice(id))),
+        None => Ok(None),
+    }
+}
+
+/// A second node with the same padded id.
+pub(crate) fn node_id_twice(alloc: Global, tables: &Tables) -> Result<Option<Refusal>, AllocError>
+    ensures { IfOk result (λ r. r ≡ node_id_twice tables.now) }
+{
+    let ids = node_ids(alloc, tables.nodes())?;
+    match first_repeated(&ids) {
+        Some(id) => Ok(Some(Refusal::NodeIdTwice(id))),
+        None => Ok(None),
+    }
+}
+
+const MOST_TICKS: u16 = 4_000;
+
+fn first_long(links: &[Link]) -> Option<usize>
+    ensures { result ≡ position_from (λ l. nat_lt 4000 l.ticks) 0 links.now }
+{
+    links.iter().position(|link| link.ticks > MOST_TICKS)
+}
+
+/// A link whose timer runs for more than 4,000 ticks.
+#[tactic(auto, using(crate::proofs::Repeats::position_within))]
+pub(crate) fn timer_too_long(tables: &Tables) -> Option<Refusal>
+    ensures { result ≡ timer_too_long tables.now }
+{
+    match first_long(tables.links()) {
+        Some(i) => Some(Refusal::TimerTooLong(LinkNo::new(i))),
+        None => None,
+    }
+}
