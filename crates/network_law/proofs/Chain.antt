@@ -6,13 +6,13 @@ use Rattle.std.specs.Option.{option_or}
 use Rattle.card_digits.specs.Digits.{digits_of}
 use Rattle.net_rows.specs.Network.{Network, issuer, other_end}
 use Rattle.net_rows.specs.declared.row.Issuer.{Issuer}
-use Rattle.network_law.specs.Tables.{route_links, is_home, is_attached, is_link_of}
+use Rattle.network_law.specs.Tables.{is_home, is_attached, is_link_of}
 use Rattle.network_law.specs.Traces.{ByLink, ReadInput, Take, ReadOutput, Put, Ask, In, Out, History, Opening, opening, forwarded, forwards, Has}
 use Rattle.network_law.specs.Entries.{ReadEntry, read_history}
 use Rattle.network_law.proofs.ReadRuns.{IsLegalRead, NamesOwnLink, IsReadRun}
 use Rattle.network_law.specs.Checked.{Ranks, Falls, IsRanked, IsChecked}
 use Rattle.network_law.specs.Claims.{IsForward, IsAsk, OnePath, OpenedByThatPut}
-use Rattle.network_law.proofs.Ends.{all_in, legal_at, is_node, not_home, back, histories}
+use Rattle.network_law.proofs.Ends.{legal_at, is_node, not_home, back, histories}
 use Rattle.network_law.proofs.Emits.{decide_keeps, key_eq_refl}
 use Rattle.network_law.proofs.Node.{NodeFacts, Sent, Opened, legal_facts, keeps_issuers, forwarded_has}
 use Rattle.iso_message.specs.Fields.{Fields, get, as_kind, el}
@@ -180,7 +180,7 @@ module _ (t : Network) (ranks : Ranks) (traces : ℕ → List ReadEntry) (run : 
 
   -- a request that stands on a link falls
   sent_falls : (n l : ℕ) (x : Fields) (sent : Sent t n (read_history (traces n)) l x) → n < length t.nodes → RankFalls ranks (card_of sent.op.message) (other_end t n l) n
-  sent_falls n l x sent less = falls ranks (card_of sent.op.message) (other_end t n l) n (all_in (λ j. Falls (ranks (other_end t n j) (card_of sent.op.message)) (ranks n (card_of sent.op.message))) (route_links t n (card_of sent.op.message)) l (ranked (card_of sent.op.message) sent.s n sent.issued less (not_home sent.s n sent.away)) sent.on_route)
+  sent_falls n l x sent less = falls ranks (card_of sent.op.message) (other_end t n l) n (ranked (card_of sent.op.message) sent.s n l sent.issued less (not_home sent.s n sent.away) sent.on_route)
 
   -- by induction on how far the rank is from the greatest
   stands_by : (fuel n : ℕ) (op : Opening) → opening t (read_history (traces n)) k ≡ Some op → highest < rank ranks (card_of op.message) n + fuel → Stands t traces k n op

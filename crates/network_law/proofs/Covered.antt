@@ -6,16 +6,16 @@ use mathlib.Core.List.{reverse-cons}
 use Rattle.card_digits.specs.Numbers.{pad11}
 use Rattle.net_rows.specs.Network.{Network, issuer, other_end}
 use Rattle.net_rows.specs.declared.row.Issuer.{Issuer}
-use Rattle.network_law.specs.Tables.{route_links, node_id, is_attached}
+use Rattle.network_law.specs.Tables.{node_id, is_attached}
 use Rattle.network_law.specs.Traces.{ReadInput, Put, In, Out, History, Opening, opening, Advice, advices, stored, is_at_home, home_is, is_advice_group, IsIn, Has}
 use Rattle.network_law.specs.Entries.{ReadEntry, read_history}
 use Rattle.network_law.proofs.ReadRuns.{IsReadRun}
-use Rattle.network_law.specs.Checked.{Falls, Ranks, IsRanked, IsChecked}
+use Rattle.network_law.specs.Checked.{Ranks, IsRanked, IsChecked}
 use Rattle.network_law.specs.Claims.{IsStored, IsPosted, post_count, AdvicesKept}
 use Rattle.network_law.proofs.Node.{Opened, legal_facts}
 use Rattle.network_law.proofs.Chain.{rank, highest, RankFalls, falls, legal_own}
 use Rattle.network_law.proofs.Ids.{no_zero_id}
-use Rattle.network_law.proofs.Ends.{all_in, legal_at, is_node, not_home, back, histories}
+use Rattle.network_law.proofs.Ends.{legal_at, is_node, not_home, back, histories}
 use Rattle.network_law.proofs.Reversals.{legal_sent}
 use Rattle.network_law.proofs.Provenance.{advice_04xx}
 use Rattle.network_law.proofs.Accounts.{Alike, alike_refl, alike_more, alike_card, alike_home, any_is, posted_some}
@@ -94,10 +94,10 @@ module _ (t : Network) (ranks : Ranks) (traces : ℕ → List ReadEntry) (run : 
       go : (b : Bool) → is_04xx x.kind ≡ b → RankFalls ranks (card_of x) (other_end t n l) n
       go true r =
           let q = legal_sent t n (traces n) (legal_at run n) i l s x has (advice_04xx x.kind g r).1 in
-          falls ranks (card_of x) (other_end t n l) n (all_in (λ j. Falls (ranks (other_end t n j) (card_of x)) (ranks n (card_of x))) (route_links t n (card_of x)) l (ranked (card_of x) q.s n q.issued (is_node run n (Out i (Put l s x)) has) (not_home q.s n q.away)) q.on_route)
+          falls ranks (card_of x) (other_end t n l) n (ranked (card_of x) q.s n l q.issued (is_node run n (Out i (Put l s x)) has) (not_home q.s n q.away) q.on_route)
       go false r =
           let q = (adv n).stands i l s x has g r in
-          falls ranks (card_of x) (other_end t n l) n (all_in (λ j. Falls (ranks (other_end t n j) (card_of x)) (ranks n (card_of x))) (route_links t n (card_of x)) l (ranked (card_of x) q.s n q.issued (is_node run n (Out i (Put l s x)) has) (not_home q.s n q.away)) q.on_route)
+          falls ranks (card_of x) (other_end t n l) n (ranked (card_of x) q.s n l q.issued (is_node run n (Out i (Put l s x)) has) (not_home q.s n q.away) q.on_route)
 
   -- a node with an open key is one of the tables
   live : (n : ℕ) (k : Key) (op : Opening) → opening t (read_history (traces n)) k ≡ Some op → n < length t.nodes

@@ -1,13 +1,12 @@
 -- The nodes of a run, and the ends of links.
-use Rattle.std.proofs.Common.{◌≡◌, ℕ, ◌≤◌, ◌<◌, List, Option, Some, None, Bool, true, false, cond, ◌||◌, refl, sym, ◌∙◌, subst, inl, inr, ⊎_elim, ◌⊎◌, arith, eqb, length, [], ◌∷◌}
+use Rattle.std.proofs.Common.{◌≡◌, ℕ, ◌≤◌, ◌<◌, List, Option, Some, None, Bool, true, false, cond, ◌||◌, refl, sym, ◌∙◌, subst, inl, inr, ⊎_elim, ◌⊎◌, arith, eqb, length}
 use Rattle.std.proofs.lemmas.Bool.{or_cases, eqb-true, eq-eqb, cases_lt}
-use Rattle.std.specs.List.{AllByRecursion}
 use Rattle.std.specs.Prelude.{slice_get}
 use Rattle.net_rows.specs.Network.{Network, other_end}
 use Rattle.net_rows.specs.declared.row.Issuer.{Issuer}
 use Rattle.net_rows.specs.declared.row.Link.{Link}
 use Rattle.network_law.specs.Tables.{is_home, is_link_of}
-use Rattle.network_law.specs.Traces.{IsIn, History, Event, Has}
+use Rattle.network_law.specs.Traces.{History, Event, Has}
 use Rattle.network_law.specs.Entries.{ReadEntry, read_history}
 use Rattle.network_law.proofs.ReadRuns.{IsLegalRead, IsReadRun}
 
@@ -26,11 +25,6 @@ is_node {t} {traces} run n e has = ⊎_elim (λ less. less) (λ more. absurd (no
   where
     none : length t.nodes ≤ n → ⊥
     none more = subst (λ es. Has e (read_history es)) (run.no_others n more) has
-
--- what holds of all holds of one that is among them
-pub all_in : {X : Type 0} (P : X → Type 0) (xs : List X) (x : X) → AllByRecursion P xs → IsIn x xs → P x
-all_in P [] x all m = absurd m
-all_in P (y ∷ ys) x all m = ⊎_elim (λ e. subst P e all.0) (λ r. all_in P ys x all.1 r) m
 
 pub not_home : (s : Issuer) (n : ℕ) → is_home s n ≡ false → n ≡ s.home → ⊥
 not_home s n e same = no (sym (eq-eqb s.home n (sym same)) ∙ e)

@@ -11,13 +11,13 @@ use Rattle.network_law.specs.Decision.{decide, reply_output, sent_kind, standin_
 use Rattle.network_law.specs.Refusals.{refusal}
 use Rattle.network_law.specs.Entries.{ReadEntry, read_history}
 use Rattle.network_law.proofs.ReadRuns.{IsFormed, IsLegalRead, IsReadRun}
-use Rattle.network_law.specs.Checked.{Falls, Ranks, IsRanked, IsChecked}
+use Rattle.network_law.specs.Checked.{Ranks, IsRanked, IsChecked}
 use Rattle.network_law.specs.Claims.{NoRepeatReply}
 use Rattle.network_law.proofs.Emits.{Allowed, forwarding, asking, standing_in, passing, declining, repeating, refusing, acking, sending, posting, Forwarding, Sending, Acking, StandingIn, OpenedFirst, Failed, Reversing, ViaLink, ViaHost, Kept, due, reversing, standing, accepting, handled_as, Issued, decide_keeps, key_eq_refl, key_eq_is, bytes_eq_refl, bytes_eq_is, stays_open, ask_key_asked, is_kept_group, is_link_is, found_is_in, via_ticks, IsGood, from_link, handled_no_timer, Accepts}
 use Rattle.network_law.proofs.Node.{NodeFacts, EntryFacts, Opened, OpensNow, opening_in_cases, legal_facts, facts_in, facts_out, keeps_issuers, answer_no_request, response_is_of_kind, response_no_request, forwarded_has, asked_has, Sent, el_dated, el_remove, put_parts, put_case}
 use Rattle.network_law.proofs.Elements.{response_key}
 use Rattle.network_law.proofs.Used.{reversed_more, acked_kind, sent_reply, reply_message}
-use Rattle.network_law.proofs.Ends.{all_in, legal_at, is_node, not_home, back, histories}
+use Rattle.network_law.proofs.Ends.{legal_at, is_node, not_home, back, histories}
 use Rattle.network_law.proofs.Chain.{rank, highest, RankFalls, falls, same_card, legal_own, chain, step_back, Stands, stands, same_everywhere}
 use Rattle.network_law.proofs.Codes.{legal_codes, no_request_refused, content_eq_refl}
 use Rattle.network_law.proofs.Late.{kept_reversal, handled_in, handled_out}
@@ -285,7 +285,7 @@ module _ (t : Network) (ranks : Ranks) (traces : ℕ → List ReadEntry) (run : 
   sent_at a l s i x has r = legal_sent t a (traces a) (legal_at run a) i l s x has r
 
   reversal_falls : (a l : ℕ) (x : Fields) → SentReversal t a (read_history (traces a)) l x → a < length t.nodes → RankFalls ranks (card_of x) (other_end t a l) a
-  reversal_falls a l x s less = falls ranks (card_of x) (other_end t a l) a (all_in (λ j. Falls (ranks (other_end t a j) (card_of x)) (ranks a (card_of x))) (route_links t a (card_of x)) l (ranked (card_of x) s.s a s.issued less (not_home s.s a s.away)) s.on_route)
+  reversal_falls a l x s less = falls ranks (card_of x) (other_end t a l) a (ranked (card_of x) s.s a l s.issued less (not_home s.s a s.away) s.on_route)
 
   -- the node that sent what was taken
   record Sender (n : ℕ) (l : ℕ) (x : Fields) : Type 0 where

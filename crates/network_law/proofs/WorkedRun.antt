@@ -1,7 +1,6 @@
 -- The worked networks are checked, and the worked run is one.
 use Rattle.std.proofs.Common.{◌≡◌, ℕ, zero, suc, ◌≤◌, ◌<◌, [], ◌∷◌, Some, Bool, true, false, refl, subst, inl, inr, ⊎_elim, arith, eqb, rules}
 use Rattle.std.proofs.lemmas.Bool.{eqb-true}
-use Rattle.std.specs.List.{AllByRecursion}
 use Rattle.std.specs.Prelude.{⊤}
 use Rattle.card_digits.specs.Longest.{begins}
 use Rattle.net_rows.specs.Network.{other_end}
@@ -27,16 +26,18 @@ diamond_checked = search rules
 
 pub base_ranked : IsRanked base base_ranks
 unfolding route_links
-base_ranked c s zero is less away = go (begins (4 ∷ []) c) refl
+base_ranked c s zero l is less away on = go (begins (4 ∷ []) c) refl on
   where
-    go : (b : Bool) → begins (4 ∷ []) c ≡ b → AllByRecursion (λ l. Falls (base_ranks (other_end base 0 l) c) (Some 1)) (route_links base 0 c)
-    go false at = rw at tt
-    go true at = rw at (record { from = 1; to = 0; is_from = refl; is_to = refl; less = omega arith; bound = omega arith }, tt)
-base_ranked c s (suc n) is less away = go (eqb 0 (suc n)) refl
+    go : (b : Bool) → begins (4 ∷ []) c ≡ b → IsIn l (route_links base 0 c) → Falls (base_ranks (other_end base 0 l) c) (Some 1)
+    go false at on = absurd (rw at at on)
+    go true at on =
+        let l0 : 0 ≡ l = ⊎_elim (λ e. e) (λ bad. absurd bad) (rw at at on) in
+        subst (λ k. Falls (base_ranks (other_end base 0 k) c) (Some 1)) l0 (record { from = 1; to = 0; is_from = refl; is_to = refl; less = omega arith; bound = omega arith })
+base_ranked c s (suc n) l is less away on = go (eqb 0 (suc n)) refl on
   where
-    go : (b : Bool) → eqb 0 (suc n) ≡ b → AllByRecursion (λ l. Falls (base_ranks (other_end base (suc n) l) c) (Some 0)) (route_links base (suc n) c)
-    go true at = let same : 0 ≡ suc n = eqb-true 0 (suc n) at in absurd (omega (arith, same))
-    go false at = rw at tt
+    go : (b : Bool) → eqb 0 (suc n) ≡ b → IsIn l (route_links base (suc n) c) → Falls (base_ranks (other_end base (suc n) l) c) (Some 0)
+    go true at on = let same : 0 ≡ suc n = eqb-true 0 (suc n) at in absurd (omega (arith, same))
+    go false at on = absurd (rw at at on)
 
 not_request : {A : Type 0} → false ≡ true → A
 not_request p = cc

@@ -9,6 +9,7 @@ use Rattle.net_rows.specs.Network.{Network, issuer, other_end, day}
 use Rattle.net_rows.specs.Sound.{IsSound}
 use Rattle.net_rows.specs.declared.row.Issuer.{Issuer}
 use Rattle.network_law.specs.Cards.{Bytes}
+use Rattle.network_law.specs.Traces.{IsIn}
 use Rattle.network_law.specs.Tables.{route_links, is_attached, node_id}
 
 -- the rows are sound, dates and ids are digits, padded ids are distinct, and an acquirer has one gate
@@ -44,4 +45,4 @@ pub record Falls (low high : Option ℕ) : Type 0 where
 
 -- for every card with an issuer, and every node but its home: each link of the route row leads to a lower rank
 abbrev pub IsRanked : Network → Ranks → Type 0
-IsRanked t ranks = (card : List ℕ) (s : Issuer) (n : ℕ) → issuer t card ≡ Some s → n < length t.nodes → n ≢ s.home → AllByRecursion (λ l. Falls (ranks (other_end t n l) card) (ranks n card)) (route_links t n card)
+IsRanked t ranks = (card : List ℕ) (s : Issuer) (n l : ℕ) → issuer t card ≡ Some s → n < length t.nodes → n ≢ s.home → IsIn l (route_links t n card) → Falls (ranks (other_end t n l) card) (ranks n card)
