@@ -1,5 +1,9 @@
-//! The safety of a network of nodes as a law over definitions: what its tables, a node's decision and its runs are, and what holds
-//! of every run.
+//! The law of the network, over definitions: what holds of every run of nodes that decide as `specs/Decision` says.
+//!
+//! A node's trace is a list of entries, the newest first; an entry is an input and the outputs that it gave, with the bytes of
+//! messages (`specs/Entries`). Read as messages it is a history (`specs/Traces`), by which the node refuses (`specs/Refusals`) and
+//! decides. A run is one legal trace for each node, in which each packet that was taken was put at the other end of its link
+//! (`specs/Runs`). What tables and ranks must keep stands in `specs/Checked`, and what is claimed in `specs/Claims`.
 #![tactic(auto)]
 
 mod fault;
