@@ -1,5 +1,6 @@
 -- Decimal digits, as numbers from 0 to 9.
-use Rattle.std.specs.Prelude.{◌≡◌, ℕ, ◌<◌, ◌≤◌, ◌-◌, ◌==◌, false, List, length, drop, map, replicate}
+use Rattle.std.specs.Prelude.{◌≡◌, ℕ, ◌<◌, ◌≤◌, ◌-◌, ◌==◌, true, false, List, length, drop, map, replicate}
+use Rattle.std.specs.Char.{is_ascii_digit}
 use Rattle.std.specs.List.{AllByRecursion, list_all}
 
 -- the numbers that ASCII digits write
@@ -27,6 +28,7 @@ IsDateLabel = AreDigitsWithin 4 4
 -- at most eleven ASCII digits, not all of them 0
 pub record IsId (text : List ℕ) : Type 0 where
   pub few : length text ≤ 11
+  pub digits : list_all is_ascii_digit text ≡ true
   pub not_zeros : list_all (λ b. b == 48) text ≡ false
 
 -- an array of n digits, of which those from len on are 0

@@ -1,5 +1,5 @@
 //! Settlement dates.
-ghost use Rattle.std.specs.Prelude.{◌≡◌};
+ghost use Rattle.std.specs.Prelude.{◌≡◌, IfOk};
 
 use crate::card::{DigitFault, read};
 use crate::short_bytes::ShortBytes;
@@ -25,11 +25,13 @@ impl Model for DateLabel {
 }
 
 impl DateLabel {
+    ghost use Rattle.card_digits.specs.Digits.{IsDateLabel};
     ghost use Rattle.card_digits.specs.Reading.{read_digits};
 
     /// The label that ASCII digits write. A byte that is no digit is reported before the length.
     pub fn read(text: &[u8]) -> Result<DateLabel, DigitFault>
-        ensures { result ≡ read_digits 4 4 text.now }
+        ensures value { result ≡ read_digits 4 4 text.now }
+        ensures form { IfOk result IsDateLabel }
     {
         let digits = read(text, 4)?;
         Ok(DateLabel { digits })

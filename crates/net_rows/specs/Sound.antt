@@ -1,7 +1,7 @@
 -- What holds of the rows of every network that is built: what they point to is there.
 use Rattle.std.specs.Prelude.{◌≡◌, ℕ, ◌<◌, ◌≤◌, List, length}
 use Rattle.std.specs.List.{AllByRecursion}
-use Rattle.card_digits.specs.Digits.{IsId}
+use Rattle.card_digits.specs.Digits.{IsDateLabel, IsId}
 use Rattle.net_rows.specs.declared.row.Node.{Node}
 use Rattle.net_rows.specs.declared.row.Link.{Link}
 use Rattle.net_rows.specs.declared.row.Acquirer.{Acquirer}
@@ -20,6 +20,7 @@ abbrev pub AreAtNodes : ℕ → List Acquirer → Type 0
 AreAtNodes nodes acquirers = AllByRecursion (λ a. a.node < nodes) acquirers
 
 pub record IsSound (t : Network) : Type 0 where
+  pub date : IsDateLabel t.settings.date
   pub few_nodes : length t.nodes ≤ 64
   pub few_links : length t.links ≤ 256
   pub ids : AllByRecursion (λ n. IsId n.id) t.nodes

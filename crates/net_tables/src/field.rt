@@ -19,7 +19,7 @@ pub(crate) struct Row<'a> {
 }
 
 impl<'a> Row<'a> {
-    ghost use Rattle.card_digits.specs.Digits.{IsId};
+    ghost use Rattle.card_digits.specs.Digits.{IsDateLabel, IsId};
     ghost use Rattle.net_tables.specs.Fields.{Lent, row_view, place_of, field_at, name_at, id_at, currency_at, date_at, whole_at, prefix_at, ends_at, no_other};
 
     pub fn place(&self, key: Key) -> Place
@@ -80,7 +80,8 @@ impl<'a> Row<'a> {
 
     #[tactic(auto, unfolding(crate::specs::Fields::form_at))]
     pub fn date(&self, key: Key) -> Result<DateLabel, TableFault>
-        ensures { result ≡ date_at (row_view self.now) key }
+        ensures value { result ≡ date_at (row_view self.now) key }
+        ensures form { IfOk result IsDateLabel }
     {
         date_of(self.field(key)?).ok_or(self.bad(key))
     }

@@ -2,7 +2,7 @@
 ghost use Rattle.std.specs.Prelude.{◌≡◌, ◌≤◌, ◌<◌, ◌^◌, length, IfSome};
 ghost use Rattle.std.specs.List.{list_all};
 ghost use Rattle.toml.specs.View.{view};
-ghost use Rattle.card_digits.specs.Digits.{IsId};
+ghost use Rattle.card_digits.specs.Digits.{IsDateLabel, IsId};
 ghost use Rattle.net_tables.specs.Values.{whole_in, name_in, id_in, prefix_in, currency_in, date_in, ends_in, is_printable};
 
 use card_digits::{DateLabel, Id, Name, Prefix, ShortBytes, all_digits};
@@ -93,7 +93,8 @@ pub(crate) fn currency_of(value: &Value) -> Option<ShortBytes<3>>
 
 /// Four digits.
 pub(crate) fn date_of(value: &Value) -> Option<DateLabel>
-    ensures { result ≡ date_in (view value.now) }
+    ensures value { result ≡ date_in (view value.now) }
+    ensures form { IfSome result IsDateLabel }
 {
     match value.as_str() {
         Some(text) => DateLabel::read(text.as_bytes()).ok(),

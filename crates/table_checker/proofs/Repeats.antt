@@ -16,7 +16,7 @@ use Rattle.net_rows.specs.declared.row.Acquirer.{Acquirer}
 use Rattle.net_rows.specs.Network.{Network}
 use Rattle.net_rows.specs.Sound as rows
 use Rattle.rank_cert.specs.declared.cert.Rank.{Rank}
-use Rattle.network_law.specs.Checked.{IsSound}
+use Rattle.network_law.specs.Checked.{IsChecked}
 use Rattle.network_law.specs.Tables.{is_attached, node_id}
 use Rattle.table_checker.specs.Rules.{repeated_behind, first_repeated, acquirer_twice, node_id_twice, timer_too_long, first_of_kind, first_refusal, kinds}
 use Rattle.table_checker.specs.declared.refusal.Refusal.{Refusal}
@@ -146,18 +146,10 @@ ids_single (k ∷ nodes) h zero (suc m) ln lm e = absurd (not_there (pad11 k.id)
 ids_single (k ∷ nodes) h (suc n) zero ln lm e = absurd (not_there (pad11 k.id) nodes h.0 n (omega arith) (sym e))
 ids_single (k ∷ nodes) h (suc n) (suc m) ln lm e = ap (λ (i : ℕ). suc i) (ids_single nodes h.1 n m (omega arith) (omega arith) e)
 
-zeros_behind : (xs ys : List ℕ) → list_all (λ b. b == 48) (xs ++ ys) ≡ true → list_all (λ b. b == 48) ys ≡ true
-zeros_behind xs ys h = (and_parts (list_all (λ b. b == 48) xs) (list_all (λ b. b == 48) ys) (sym (list_all-append (λ b. b == 48) xs ys) ∙ h)).1
-
-not_zeros : (id : List ℕ) → IsId id → pad11 id ≢ replicate 11 48
-not_zeros id h e =
-    let all : list_all (λ b. b == 48) (pad11 id) ≡ true = subst (λ (x : List ℕ). list_all (λ b. b == 48) x ≡ true) (sym e) refl in
-    false≢true (sym h.not_zeros ∙ zeros_behind (replicate (11 - length id) 48) id all)
-
-none_zeros : (nodes : List Node) → AllByRecursion (λ k. IsId k.id) nodes → (n : ℕ) → n < length nodes → pad11 (id_at nodes n) ≢ replicate 11 48
-none_zeros [] h n lt = absurd (omega arith)
-none_zeros (k ∷ nodes) h zero lt = not_zeros k.id h.0
-none_zeros (k ∷ nodes) h (suc n) lt = none_zeros nodes h.1 n (omega arith)
+each_id : (nodes : List Node) → AllByRecursion (λ k. IsId k.id) nodes → (n : ℕ) → n < length nodes → IsId (id_at nodes n)
+each_id [] h n lt = absurd (omega arith)
+each_id (k ∷ nodes) h zero lt = h.0
+each_id (k ∷ nodes) h (suc n) lt = each_id nodes h.1 n (omega arith)
 
 -- ---- accepted tables
 
@@ -173,13 +165,15 @@ others t cert none =
     let (second, third) = none_parts (node_id_twice t) (timer_too_long t) more in
     record { acquirers = first; nodes = second; timers = third }
 
-pub sound : (t : Network) (cert : List Rank) → first_refusal t cert ≡ None → rows.IsSound t → IsSound t
-sound t cert none kept =
+pub checked : (t : Network) (cert : List Rank) → first_refusal t cert ≡ None → rows.IsSound t → IsChecked t
+checked t cert none kept =
     let none_of = others t cert none in
     record {
-      single_gates = gates_single t.acquirers (once (map (λ a. pad11 a.id) t.acquirers) (unmapped AcquirerTwice (first_repeated (map (λ a. pad11 a.id) t.acquirers)) none_of.acquirers));
+      date = kept.date;
+      ids = each_id t.nodes kept.ids;
+      id_digits = λ n lt. (each_id t.nodes kept.ids n lt).digits;
       single_ids = ids_single t.nodes (once (map (λ k. pad11 k.id) t.nodes) (unmapped NodeIdTwice (first_repeated (map (λ k. pad11 k.id) t.nodes)) none_of.nodes));
-      no_zero_ids = none_zeros t.nodes kept.ids;
+      single_gates = gates_single t.acquirers (once (map (λ a. pad11 a.id) t.acquirers) (unmapped AcquirerTwice (first_repeated (map (λ a. pad11 a.id) t.acquirers)) none_of.acquirers));
     }
 
 few_ticks : (links : List Link) → AllByRecursion (λ l. nat_lt 4000 l.ticks ≡ false) links → AllByRecursion (λ l. l.ticks ≤ 4000) links
