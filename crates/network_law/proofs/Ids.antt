@@ -26,7 +26,7 @@ at_node P (k ∷ ks) (suc n) all less = at_node P ks n all.1 (omega (arith, less
 pub id_text : (t : Network) → IsChecked t → (n : ℕ) → n < length t.nodes → IsIdText (node_id t n)
 id_text t checked n less =
     let id : IsId (node_id t n) = at_node IsId t.nodes n checked.sound.ids less in
-    record { fits = IsId.few id; digits = at_node (λ bs. list_all is_ascii_digit bs ≡ true) t.nodes n checked.id_digits less; not_zeros = IsId.not_zeros id }
+    record { fits = IsId.few id; digits = IsId.digits id; not_zeros = IsId.not_zeros id }
 
 all_zeros : (n : ℕ) → list_all (λ b. eqb b 48) (replicate n 48) ≡ true
 all_zeros zero = refl

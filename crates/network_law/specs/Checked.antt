@@ -12,11 +12,9 @@ use Rattle.network_law.specs.Cards.{Bytes}
 use Rattle.network_law.specs.Traces.{IsIn}
 use Rattle.network_law.specs.Tables.{route_links, is_attached, node_id}
 
--- the rows are sound, dates and ids are digits, padded ids are distinct, and an acquirer has one gate
+-- the rows are sound, padded node ids are distinct, and an acquirer has one gate
 pub record IsChecked (t : Network) : Type 0 where
   pub sound : IsSound t
-  pub date : IsDateLabel t.settings.date
-  pub id_digits : AllByRecursion (λ k. list_all is_ascii_digit k.id ≡ true) t.nodes
   pub single_ids : (n m : ℕ) → n < length t.nodes → m < length t.nodes → pad11 (node_id t n) ≡ pad11 (node_id t m) → n ≡ m
   pub single_gates : (acquirer : Bytes) (n m : ℕ) → is_attached t n acquirer ≡ true → is_attached t m acquirer ≡ true → n ≡ m
 
