@@ -2,9 +2,6 @@
 -- prefixes of the rows gives no less, and for each card number it is what is said.
 use Rattle.std.specs.Prelude.{ℕ, zero, suc, ◌+◌, ◌<◌, ◌≤◌, ◌≡◌, ◌≢◌, List, length, Contains, Option, Some, true}
 use Rattle.card_digits.specs.Numbers.{pad11}
-use Rattle.std.specs.Char.{is_ascii_digit}
-use Rattle.std.specs.List.{list_all, AllByRecursion}
-use Rattle.card_digits.specs.Digits.{IsDateLabel}
 use Rattle.net_rows.specs.Network.{Network, issuer, other_end, day}
 use Rattle.net_rows.specs.Sound.{IsSound}
 use Rattle.net_rows.specs.declared.row.Issuer.{Issuer}

@@ -16,7 +16,7 @@ ghost use Rattle.network_law.specs.Checked.{IsChecked, IsBounded, IsRanked, Rank
 ghost use Rattle.network_law.specs.Entries.{Entry, history};
 ghost use Rattle.network_law.specs.Runs.{IsLegal, IsRun};
 ghost use Rattle.network_law.specs.Claims.{Safe, Covered, IsWithinLimits};
-ghost use Rattle.network_law.specs.Marks.{FailsAreMarked, FailsAreReversed};
+ghost use Rattle.network_law.specs.Legal.{FailsAreMarked, FailsAreReversed, IsReadAsDecided, ForwardsOnce};
 
 pub use fault::StepFault;
 pub use words::plain_words;
@@ -36,8 +36,11 @@ pub fn every_legal_trace_is_within_limits()
     ensures { (t : Network) (n : ℕ) (trace : List Entry) → IsChecked t → IsBounded t → n < length t.nodes → IsLegal t n trace → IsWithinLimits t n (history trace) }
 {}
 
-/// In every legal trace the mark of a failing key stands exactly where the key fails, and its reversal is made there.
-pub fn failing_is_marked()
+/// Of a legal trace alone: its entries are read as what was decided, and it forwards a request once. The mark of a failing key stands
+/// exactly where the key fails, and its reversal is made there.
+pub fn every_legal_trace_is_read()
+    ensures decided { (t : Network) → IsChecked t → IsReadAsDecided t }
+    ensures forwards_once { (t : Network) → IsChecked t → ForwardsOnce t }
     ensures marked { (t : Network) → IsChecked t → FailsAreMarked t }
     ensures reversed { (t : Network) → IsChecked t → FailsAreReversed t }
 {}
