@@ -1,6 +1,6 @@
 -- What changed messages show.
-use Rattle.std.proofs.Common.{◌≡◌, ℕ, List, [], ◌∷◌, Option, Some, None, Bool, true, false, eqb, ltb, refl, ap, ◌∙◌, sym, filter}
-use Rattle.std.proofs.lemmas.Bool.{lt-ltb, le-ltb, eq-eqb, ne_eqb, eqb-true, eqb-false, cases_lt, cases_eq, cases_Bool}
+use Rattle.std.proofs.Common.{◌≡◌, ℕ, List, [], ◌∷◌, Some, None, Bool, true, false, eqb, refl, ap, ◌∙◌, sym, filter}
+use Rattle.std.proofs.lemmas.Bool.{lt-ltb, le-ltb, eq-eqb, ne_eqb, eqb-false, cases_lt, cases_eq, cases_Bool}
 use Rattle.std.proofs.Common.{inl, inr, arith}
 use Rattle.iso_message.specs.Finding.{find_element, put, without}
 use Rattle.iso_message.specs.Fields.{Fields, get, set_element, remove_element}

@@ -1,5 +1,5 @@
 -- The tests of keys, contents and identities tell whether they are equal.
-use Rattle.std.proofs.Common.{◌≡◌, ℕ, List, Bool, true, false, ◌&&◌, bytes_eq, refl}
+use Rattle.std.proofs.Common.{◌≡◌, ℕ, List, true, ◌&&◌, bytes_eq, refl}
 use Rattle.std.proofs.lemmas.Bool.{and_parts}
 use Rattle.std.proofs.lemmas.Slice.Eq.{bytes_eq-Decides}
 use Rattle.card_digits.specs.declared.key.Key.{Key}

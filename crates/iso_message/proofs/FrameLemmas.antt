@@ -1,14 +1,11 @@
 -- Fronts of what is read and written in parts.
-use Rattle.std.proofs.Common.{◌≡◌, ℕ, ◌+◌, ◌*◌, ◌-◌, get_or, ◌<◌, ◌≤◌, List, [], ◌∷◌, ◌++◌, length, take, drop, min, refl, sym, ap, ◌∙◌, arith, Option, Some, None, inl, inr, subst}
+use Rattle.std.proofs.Common.{◌≡◌, ℕ, ◌+◌, ◌-◌, ◌≤◌, List, ◌++◌, length, take, drop, min, refl, sym, ap, ◌∙◌, arith, Option, subst}
 use borrow.Rule.Slice.PartMut.{put_mid, post_of}
 use Rattle.std.proofs.Math.Seq.{take-add}
-use Rattle.std.proofs.lemmas.Bool.{cases_lt}
-use Rattle.std.proofs.lemmas.List.{take_at, drop_at, take-take, take_all, length-append, length-take-le, take-append-le, take_min}
+use Rattle.std.proofs.lemmas.List.{take_at, drop_at, take-take, length-append, length-take-le, take-append-le, take_min}
 use Rattle.std.proofs.lemmas.Slice.{take-put_mid}
-use Rattle.std.specs.Io.KnownBytes.{Consumes, Appends, IsAtEnd}
-use Rattle.std.specs.Int.{w16, to_be_bytes}
-use Rattle.std.proofs.lemmas.Nat.{be_bytes_2}
-use Rattle.card_digits.proofs.Known.{Appends-trans, Consumes-trans}
+use Rattle.std.specs.Io.KnownBytes.{Appends}
+use Rattle.card_digits.proofs.Known.{Appends-trans}
 use Rattle.card_digits.specs.Stream.{AppendsFront}
 
 take_past : (p q : List ℕ) (a n : ℕ) → length p ≡ a → take (a + n) (p ++ q) ≡ p ++ take n q

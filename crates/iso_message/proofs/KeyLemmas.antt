@@ -1,12 +1,11 @@
 -- The elements that make up keys, and their lengths.
-use Rattle.std.proofs.Common.{◌≡◌, ℕ, ◌≤◌, ◌&&◌, Bool, true, false, cond, List, [], length, take, drop, get_or, Option, Some, None, is_some, refl, sym, ap, ◌∙◌, subst, arith, inl, inr, ◌⊎◌, ◌∷◌}
+use Rattle.std.proofs.Common.{◌≡◌, ℕ, ◌≤◌, ◌&&◌, Bool, true, false, List, [], length, Option, Some, None, is_some, refl, sym, ap, ◌∙◌, subst, arith, inl, inr, ◌⊎◌, ◌∷◌}
 use Rattle.std.specs.Prelude.{unwrap_or}
-use Rattle.std.proofs.lemmas.Bool.{and_left, and_right, eq-eqb, cases_eq, eqb-true, ne_eqb}
+use Rattle.std.proofs.lemmas.Bool.{and_left, and_right, eq-eqb, cases_eq, ne_eqb}
 use Rattle.std.proofs.lemmas.List.{take_all}
 use Rattle.card_digits.specs.Numbers.{pad11}
 use Rattle.card_digits.specs.declared.key.Key.{Key}
 use Rattle.iso_message.specs.declared.keys.AdviceKind.{AdviceKind}
-use Rattle.iso_message.specs.declared.keys.AdviceId.{AdviceId}
 use Rattle.iso_message.specs.Table.{table, form_of}
 use Rattle.iso_message.specs.Finding.{find_element}
 use Rattle.iso_message.specs.Fields.{Fields, get, has, el}

@@ -2,6 +2,7 @@ pub mod SpansMore
 pub mod Steps
 pub mod Pieces
 pub mod ReadingLaws
+pub mod FaultLaws
 pub mod Finding
 pub mod Canonical
 pub mod HexDigits

@@ -1,5 +1,5 @@
 -- What is set, taken out or kept leaves a message a message.
-use Rattle.std.specs.Prelude.{unwrap_or, is_some, OnOk, OnErr, codes}
+use Rattle.std.specs.Prelude.{unwrap_or, is_some, OnOk, OnErr}
 use Rattle.std.proofs.lemmas.List.Folds.{list_all-append}
 use Rattle.std.proofs.lemmas.List.{length-append, length-replicate}
 use Rattle.card_digits.specs.Numbers.{pad11}
@@ -9,10 +9,9 @@ use Rattle.iso_message.specs.Made.{original_data}
 use Rattle.iso_message.proofs.KeyLemmas.{here, good_found, id_length}
 use Rattle.std.proofs.Common.{◌-◌, ◌++◌, zero, suc, replicate, Result, Ok, Err, ◌+◌, get_or, drop, ◌≡◌, ℕ, ◌<◌, ◌≤◌, Bool, true, false, not, ◌&&◌, ltb, leb, eqb, List, [], ◌∷◌, length, map, filter, Option, Some, None, refl, sym, ap, ◌∙◌, arith, inl, inr, Bor, MatchOption}
 use Rattle.std.specs.List.{list_all}
-use Rattle.std.proofs.lemmas.Bool.{and_parts, and_from, and_right, and_left, ltb-true, leb-true, eqb-true, lt-ltb, le-ltb, le-leb, eq-eqb, ne_eqb, cases_lt, cases_eq, cases_Bool}
+use Rattle.std.proofs.lemmas.Bool.{and_parts, and_from, ltb-true, leb-true, eqb-true, lt-ltb, le-ltb, le-leb, eq-eqb, ne_eqb, cases_lt, cases_eq, cases_Bool}
 use Rattle.std.specs.Option.{option_copied}
 use Rattle.hex.specs.Hex.{IsBytes}
-use Rattle.iso_message.specs.declared.fault.DecodeFault.{DecodeFault}
 use Rattle.iso_message.specs.declared.fault.DecodeFault.TheVariants as faults
 use Rattle.iso_message.specs.declared.kind.Kind.{Kind}
 use Rattle.iso_message.specs.declared.form.Class.{Class}

@@ -18,7 +18,7 @@ use Rattle.iso_message.specs.Messages.{Fails, Gives, marks, typed, kind_at, mapp
 use Rattle.iso_message.specs.Grammar.{ArePieces, IsMap, AreMaps, announced, Spells, IsKind, IsFault, AtKind, AtFirst, AtSecond, AtElement, AtEnd}
 use Rattle.iso_message.proofs.Pieces.{bind_ok, guard_ok, pass_ok, front, field_takes, field_again}
 
-abbrev Elements : Type 0
+abbrev pub Elements : Type 0
 Elements = List (ℕ × List ℕ)
 
 done : {A : Type 0} (x y : A) → ◌≡◌ {A = Result A DecodeFault} (Ok x) (Ok y) → x ≡ y
@@ -57,7 +57,7 @@ all_takes (n ∷ ns) es bytes x e =
       pieces = (t.0, u.text, refl, t.2, u.pieces);
     }
 
-all_again : (new es : Elements) (text rest : List ℕ) → ArePieces new text → with_all es (map (λ e. e.0) new) (text ++ rest) ≡ Ok (es ++ new, rest)
+pub all_again : (new es : Elements) (text rest : List ℕ) → ArePieces new text → with_all es (map (λ e. e.0) new) (text ++ rest) ≡ Ok (es ++ new, rest)
 unfolding with_all with_next
 all_again [] es text rest p = ap (λ t. with_all es [] (t ++ rest)) p ∙ ap (λ (x : Elements). Ok (x, rest)) (sym (append-nil es))
 all_again (e ∷ new) es text rest p =
@@ -69,7 +69,7 @@ all_again (e ∷ new) es text rest p =
     ∙ ap (λ (x : Elements). Ok (x, rest)) (append_assoc es (e ∷ []) new)
 
 -- those of two lists of numbers, one after the other
-all-append : (ns ms : List ℕ) (es : Elements) (bytes : List ℕ) → with_all es (ns ++ ms) bytes ≡ (with_all es ns bytes >>= λ x. with_all x.0 ms x.1)
+pub all-append : (ns ms : List ℕ) (es : Elements) (bytes : List ℕ) → with_all es (ns ++ ms) bytes ≡ (with_all es ns bytes >>= λ x. with_all x.0 ms x.1)
 unfolding with_all
 all-append [] ms es bytes = refl
 all-append (n ∷ ns) ms es bytes = step (with_next es (form_of n) n bytes) (λ x. all-append ns ms x.0 x.1)
@@ -93,7 +93,7 @@ kind_takes bytes y e =
     let f = front 4 bytes (take 4 bytes) y.1 (ltb-false _ _ g.0) refl t.1 in
     (take 4 bytes, f.0, f.1, t.0)
 
-kind_again : (text rest : List ℕ) (k : Kind) → length text ≡ 4 → kind_of text ≡ Some k → kind_at (text ++ rest) ≡ Ok (k, rest)
+pub kind_again : (text rest : List ℕ) (k : Kind) → length text ≡ 4 → kind_of text ≡ Some k → kind_at (text ++ rest) ≡ Ok (k, rest)
 unfolding kind_at
 kind_again text rest k len e =
     let long : ltb (length (text ++ rest)) 4 ≡ false = le-ltb _ _ (omega (arith, length-append text rest)) in
@@ -111,7 +111,7 @@ map_takes bytes y e =
     let f = front 16 bytes (take 16 bytes) y.1 (ltb-false _ _ g.0) refl m.3 in
     (take 16 bytes, f.0, (m.0, m.1, m.2))
 
-map_again : (n : ℕ) (text rest : List ℕ) → IsMap n text → map_at (text ++ rest) ≡ Ok (n, rest)
+pub map_again : (n : ℕ) (text rest : List ℕ) → IsMap n text → map_at (text ++ rest) ≡ Ok (n, rest)
 unfolding map_at
 map_again n text rest p =
     let len : length text ≡ 16 = decode_sized-ok text 8 p.0 p.1 in
@@ -145,14 +145,14 @@ maps_take bytes p s e f =
 
 -- ---- messages
 
-abbrev ended : Kind → Elements × List ℕ → Result Fields DecodeFault
+abbrev pub ended : Kind → Elements × List ℕ → Result Fields DecodeFault
 ended kind x = cond (eqb (length x.1) 0) (Ok (record { kind = kind; elements = x.0 })) (Err faults.Trailing)
 
-abbrev after_maps : Kind → ℕ → ℕ × List ℕ → Result Fields DecodeFault
+abbrev pub after_maps : Kind → ℕ → ℕ × List ℕ → Result Fields DecodeFault
 after_maps kind first s = with_all [] (marks 64 64 (first % 2 ^ 63)) s.1 >>= λ low. with_all low.0 (marks 128 64 s.0) low.1 >>= λ high. ended kind high
 
 -- the same, of all numbers at once
-at_once : (kind : Kind) (first : ℕ) (s : ℕ × List ℕ) → after_maps kind first s ≡ (with_all [] (announced first s.0) s.1 >>= λ x. ended kind x)
+pub at_once : (kind : Kind) (first : ℕ) (s : ℕ × List ℕ) → after_maps kind first s ≡ (with_all [] (announced first s.0) s.1 >>= λ x. ended kind x)
 at_once kind first s = regroup (with_all [] (marks 64 64 (first % 2 ^ 63)) s.1) ∙ ap (λ r. r >>= λ x. ended kind x) (sym (all-append (marks 64 64 (first % 2 ^ 63)) (marks 128 64 s.0) [] s.1))
   where
     regroup : (r : Result (Elements × List ℕ) DecodeFault) → (r >>= λ low. with_all low.0 (marks 128 64 s.0) low.1 >>= λ x. ended kind x) ≡ ((r >>= λ low. with_all low.0 (marks 128 64 s.0) low.1) >>= λ x. ended kind x)
@@ -187,7 +187,7 @@ read_takes bytes m e =
     } in
     subst (λ (n : Fields). Spells bytes n) g.1 found
 
-maps_again : (first second : ℕ) (text rest : List ℕ) → AreMaps first second text → (p : ℕ × List ℕ) × (map_at (text ++ rest) ≡ Ok p) × (p.0 ≡ first) × (second_at p.0 p.1 ≡ Ok (second, rest))
+pub maps_again : (first second : ℕ) (text rest : List ℕ) → AreMaps first second text → (p : ℕ × List ℕ) × (map_at (text ++ rest) ≡ Ok p) × (p.0 ≡ first) × (second_at p.0 p.1 ≡ Ok (second, rest))
 unfolding second_at
 maps_again first second text rest h =
     elim h [

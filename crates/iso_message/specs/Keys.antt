@@ -1,8 +1,7 @@
 -- What a message is known by: its key, its content, and the identity of an advice.
-use Rattle.std.specs.Prelude.{◌≡◌, ℕ, Bool, true, false, ◌&&◌, ◌||◌, is_some, if◌then◌else◌, List, [], ◌∷◌, ◌++◌, length, take, drop, replicate, bytes_eq, codes, Option, Some, None}
+use Rattle.std.specs.Prelude.{ℕ, Bool, true, false, ◌&&◌, if◌then◌else◌, List, take, drop, replicate, bytes_eq, Option, Some, None}
 use Rattle.card_digits.specs.Numbers.{pad11}
 use Rattle.card_digits.specs.declared.key.Key.{Key}
-use Rattle.iso_message.specs.declared.kind.Kind.{Kind}
 use Rattle.iso_message.specs.declared.keys.AdviceKind.{AdviceKind}
 use Rattle.iso_message.specs.declared.keys.AdviceKind.TheVariants as advices
 use Rattle.iso_message.specs.declared.keys.AdviceId.{AdviceId}

@@ -91,11 +91,7 @@ fn body_of<R: Source>(
 }
 
 /// Reads until the buffer is full or the reader at its end, and says how many bytes were read.
-fn fill<R: Source>(
-    reader: &mut R,
-    buffer: &mut [u8],
-    turns: &mut u32,
-) -> Result<usize, FrameFault>
+fn fill<R: Source>(reader: &mut R, buffer: &mut [u8], turns: &mut u32) -> Result<usize, FrameFault>
     ensures bound { IfOk result (λ n. n ≤ length buffer.new) }
     ensures taken { IfOk result (λ n. Consumes (R.remaining reader.old) (R.remaining reader.new) (take n buffer.new)) }
     ensures end { IfOk result (λ n. n < length buffer.new → IsAtEnd (R.remaining reader.new)) }

@@ -7,13 +7,20 @@ ghost use Rattle.iso_message.specs.Table.{form_of};
 ghost use Rattle.iso_message.specs.Elements.{set_fault};
 ghost use Rattle.iso_message.specs.Fields.{Fields};
 ghost use Rattle.iso_message.specs.Messages.{read};
-ghost use Rattle.iso_message.specs.Grammar.{Spells, IsPiece};
+ghost use Rattle.iso_message.specs.Grammar.{Spells, IsPiece, IsFault};
+ghost use Rattle.iso_message.specs.declared.fault.DecodeFault.{DecodeFault};
 ghost use Rattle.iso_message.specs.Spelling.{spelling, IsMessage};
 ghost use Rattle.iso_message.specs.Keys.{Content, key_eq, content_eq, identity_eq};
 
 /// Bytes spell at most one message.
 pub fn one_message()
     ensures { (bytes : List ℕ) (m n : Fields) → Spells bytes m → Spells bytes n → m ≡ n }
+{}
+
+/// Bytes have at most one first fault, and none where they spell a message.
+pub fn one_fault()
+    ensures one { (bytes : List ℕ) (e d : DecodeFault) → IsFault bytes e → IsFault bytes d → e ≡ d }
+    ensures none { (bytes : List ℕ) (m : Fields) (e : DecodeFault) → Spells bytes m → IsFault bytes e → ⊥ }
 {}
 
 /// Every message of good values in ascending order has the canonical spelling.

@@ -4,8 +4,8 @@
 mod code;
 mod elements;
 mod fault;
-mod frame;
 mod form;
+mod frame;
 mod keys;
 mod kind;
 pub mod laws;
@@ -16,9 +16,11 @@ mod writing;
 
 pub use code::Code;
 pub use fault::DecodeFault;
-pub use frame::{FrameFault, read_frame, write_frame};
 pub use form::{Class, Form};
-pub use keys::{AdviceId, AdviceKind, advice_id, code_of, has_own_key, key_of, original_key, same_content};
+pub use frame::{FrameFault, read_frame, write_frame};
+pub use keys::{
+    AdviceId, AdviceKind, advice_id, code_of, has_own_key, key_of, original_key, same_content,
+};
 pub use kind::{Group, Kind};
 pub use message::{Message, encode, value_fault};
 pub use reading::decode;

@@ -15,7 +15,7 @@ struct Slow<'a> {
 }
 
 impl<'a> Source for Slow<'a> {
-    ghost remaining = { λ s. Some s.left.now };
+    ghost remaining = { λ _. None };
 
     ghost failures = { λ s. 1 };
 
@@ -85,7 +85,10 @@ fn frames(rt: HostRuntime) -> Result<(), Fail> {
     assert!(rt; writer.bytes.starts_with(&[0x00, 0x53]));
     let long = vec![in rt.alloc(); b'0'; 65_536]?;
     let before = writer.bytes.len();
-    assert_eq!(rt; write_frame(&mut writer, &long).err(), Some(FrameFault::Long));
+    assert_eq!(rt;
+        write_frame(&mut writer, &long).err(),
+        Some(FrameFault::Long)
+    );
     assert_eq!(rt; writer.bytes.len(), before);
     write_frame(&mut writer, b"")?;
     let mut reader = Slow {
@@ -105,15 +108,24 @@ fn frames(rt: HostRuntime) -> Result<(), Fail> {
 fn broken_frames(rt: HostRuntime) -> Result<(), Fail> {
     for bytes in [[0x00, 0x53].as_slice(), &[0x00], &[0x00, 0x02, 0x30]] {
         let mut reader = Counted::new(bytes);
-        assert_eq!(rt; read_frame(rt.alloc(), &mut reader).err(), Some(FrameFault::Short));
+        assert_eq!(rt;
+            read_frame(rt.alloc(), &mut reader).err(),
+            Some(FrameFault::Short)
+        );
         let mut failing = Slow {
             left: bytes,
             gives: false,
             fails: true,
         };
-        assert_eq!(rt; read_frame(rt.alloc(), &mut failing).err(), Some(FrameFault::Read));
+        assert_eq!(rt;
+            read_frame(rt.alloc(), &mut failing).err(),
+            Some(FrameFault::Read)
+        );
     }
-    assert_eq!(rt; read_frame(rt.alloc(), &mut Stuck {}).err(), Some(FrameFault::Read));
+    assert_eq!(rt;
+        read_frame(rt.alloc(), &mut Stuck {}).err(),
+        Some(FrameFault::Read)
+    );
     let largest = vec![in rt.alloc(); 0xFF; 65_537]?;
     let mut slow = Slow {
         left: &largest,

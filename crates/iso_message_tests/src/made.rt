@@ -3,8 +3,8 @@
 use crate::fixtures::{M, is_spelled, read};
 use card_digits::Key;
 use iso_message::{
-    AdviceId, AdviceKind, Code, Kind, advice_id, code_of, has_own_key, key_of, original_key, same_content,
-    value_fault,
+    AdviceId, AdviceKind, Code, Kind, advice_id, code_of, has_own_key, key_of, original_key,
+    same_content, value_fault,
 };
 use std::test::*;
 
@@ -59,7 +59,13 @@ fn response(rt: HostRuntime) -> Result<(), Fail> {
     let mut request = read(&rt, M)?;
     request.set(15, b"0314")?;
     let response = request.response(Code::new(*b"00"))?;
-    assert!(rt; is_spelled(&rt, &response, b"01107222000102008000164111111111111111000000000000001000031409153000000103140640000100840")?);
+    assert!(rt;
+        is_spelled(
+            &rt,
+            &response,
+            b"01107222000102008000164111111111111111000000000000001000031409153000000103140640000100840"
+        )?
+    );
     assert!(rt; code_of(&response).is_some());
     Ok(())
 }
@@ -71,9 +77,21 @@ fn advices(rt: HostRuntime) -> Result<(), Fail> {
     assert!(rt; has_own_key(&request));
     assert!(rt; value_fault(33, b"1001").is_none());
     let advice = request.made_stand_in(b"1001")?;
-    assert!(rt; is_spelled(&rt, &advice, b"01207222000182008000164111111111111111000000000000001000031409153000000103140640000104100100840")?);
+    assert!(rt;
+        is_spelled(
+            &rt,
+            &advice,
+            b"01207222000182008000164111111111111111000000000000001000031409153000000103140640000104100100840"
+        )?
+    );
     let reversal = request.made_reversal(b"1001")?;
-    assert!(rt; is_spelled(&rt, &reversal, b"0420F2220001820080000000004000000000164111111111111111000000000000001000031409153000000103140640000104100168840010000000103140915300000040000100000000000")?);
+    assert!(rt;
+        is_spelled(
+            &rt,
+            &reversal,
+            b"0420F2220001820080000000004000000000164111111111111111000000000000001000031409153000000103140640000104100168840010000000103140915300000040000100000000000"
+        )?
+    );
     Ok(())
 }
 

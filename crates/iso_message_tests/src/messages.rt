@@ -20,7 +20,10 @@ fn request(rt: HostRuntime) -> Result<(), Fail> {
 #[test]
 fn fronts(rt: HostRuntime) {
     for end in 0..M.len() {
-        assert!(rt; fault_of(&rt, &M[..end]) == Some(DecodeFault::Short), "{end} bytes");
+        assert!(rt;
+            fault_of(&rt, &M[..end]) == Some(DecodeFault::Short),
+            "{end} bytes"
+        );
     }
 }
 
@@ -126,6 +129,12 @@ fn alone_above_64(rt: HostRuntime) -> Result<(), Fail> {
     let mut message = Message::new(rt.alloc(), Kind::K0400);
     message.set(90, b"010000000103140915300000040000100000000000")?;
     message.set_kind(Kind::K0420);
-    assert!(rt; is_spelled(&rt, &message, b"042080000000000000000000004000000000010000000103140915300000040000100000000000")?);
+    assert!(rt;
+        is_spelled(
+            &rt,
+            &message,
+            b"042080000000000000000000004000000000010000000103140915300000040000100000000000"
+        )?
+    );
     Ok(())
 }

@@ -41,40 +41,40 @@ fn text(first: u8, last: u8, width: u8, size: usize) -> Row {
 /// The table of the format, but for the binary elements 52, 64 and 128.
 fn rows() -> [Row; 34] {
     [
-    digits(2, 2, 2, 19),
-    digits(3, 3, 0, 6),
-    digits(4, 6, 0, 12),
-    digits(7, 7, 0, 10),
-    digits(8, 10, 0, 8),
-    digits(11, 12, 0, 6),
-    digits(13, 18, 0, 4),
-    digits(19, 24, 0, 3),
-    digits(25, 26, 0, 2),
-    digits(27, 27, 0, 1),
-    text(28, 31, 0, 9),
-    digits(32, 33, 2, 11),
-    text(34, 34, 2, 28),
-    text(35, 35, 2, 37),
-    text(36, 36, 3, 104),
-    text(37, 37, 0, 12),
-    text(38, 38, 0, 6),
-    text(39, 39, 0, 2),
-    text(40, 40, 0, 3),
-    text(41, 41, 0, 8),
-    text(42, 42, 0, 15),
-    text(43, 43, 0, 40),
-    text(44, 44, 2, 25),
-    text(45, 45, 2, 76),
-    text(46, 48, 3, 999),
-    text(49, 51, 0, 3),
-    digits(53, 53, 0, 16),
-    text(54, 54, 3, 120),
-    text(55, 63, 3, 999),
-    digits(70, 70, 0, 3),
-    digits(90, 90, 0, 42),
-    text(95, 95, 0, 42),
-    digits(100, 100, 2, 11),
-    text(102, 103, 2, 28),
+        digits(2, 2, 2, 19),
+        digits(3, 3, 0, 6),
+        digits(4, 6, 0, 12),
+        digits(7, 7, 0, 10),
+        digits(8, 10, 0, 8),
+        digits(11, 12, 0, 6),
+        digits(13, 18, 0, 4),
+        digits(19, 24, 0, 3),
+        digits(25, 26, 0, 2),
+        digits(27, 27, 0, 1),
+        text(28, 31, 0, 9),
+        digits(32, 33, 2, 11),
+        text(34, 34, 2, 28),
+        text(35, 35, 2, 37),
+        text(36, 36, 3, 104),
+        text(37, 37, 0, 12),
+        text(38, 38, 0, 6),
+        text(39, 39, 0, 2),
+        text(40, 40, 0, 3),
+        text(41, 41, 0, 8),
+        text(42, 42, 0, 15),
+        text(43, 43, 0, 40),
+        text(44, 44, 2, 25),
+        text(45, 45, 2, 76),
+        text(46, 48, 3, 999),
+        text(49, 51, 0, 3),
+        digits(53, 53, 0, 16),
+        text(54, 54, 3, 120),
+        text(55, 63, 3, 999),
+        digits(70, 70, 0, 3),
+        digits(90, 90, 0, 42),
+        text(95, 95, 0, 42),
+        digits(100, 100, 2, 11),
+        text(102, 103, 2, 28),
     ]
 }
 
@@ -119,10 +119,12 @@ fn has_only(
     let message = read(rt, bytes)?;
     let value = message.get(number).ok_or("the element is there")?;
     let again = encode(rt.alloc(), &message)?;
-    Ok(message.kind() == Kind::K0400
-        && value.len() == size
-        && value.iter().all(|b| *b == byte)
-        && again.as_slice() == bytes)
+    Ok(
+        message.kind() == Kind::K0400
+            && value.len() == size
+            && value.iter().all(|b| *b == byte)
+            && again.as_slice() == bytes,
+    )
 }
 
 /// Whether an element of the row is read and written, full and empty.
@@ -169,9 +171,15 @@ fn binary_elements(rt: HostRuntime) -> Result<(), Fail> {
         let bytes = message_of(&rt, number, 0, 16, b'B')?;
         assert!(rt; has_only(&rt, &bytes, number, 8, 0xBB)?, "{number}");
         let short = message_of(&rt, number, 0, 15, b'0')?;
-        assert!(rt; fault_of(&rt, &short) == Some(DecodeFault::Short), "{number}");
+        assert!(rt;
+            fault_of(&rt, &short) == Some(DecodeFault::Short),
+            "{number}"
+        );
         let wrong = message_of(&rt, number, 0, 16, b'G')?;
-        assert!(rt; fault_of(&rt, &wrong) == Some(DecodeFault::Character(number)), "{number}");
+        assert!(rt;
+            fault_of(&rt, &wrong) == Some(DecodeFault::Character(number)),
+            "{number}"
+        );
     }
     Ok(())
 }
@@ -184,7 +192,10 @@ fn elements_beside_the_table(rt: HostRuntime) -> Result<(), Fail> {
             .any(|row| row.first <= number && number <= row.last);
         if !listed {
             let bytes = message_of(&rt, number, 0, 0, b'0')?;
-            assert!(rt; fault_of(&rt, &bytes) == Some(DecodeFault::Element(number)), "{number}");
+            assert!(rt;
+                fault_of(&rt, &bytes) == Some(DecodeFault::Element(number)),
+                "{number}"
+            );
         }
     }
     Ok(())

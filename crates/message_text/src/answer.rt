@@ -1,5 +1,5 @@
 //! The answer of a decode job.
-ghost use Rattle.std.specs.Prelude.{◌≡◌, ℕ, ◌×◌, List, Some, map, Option, IfOk};
+ghost use Rattle.std.specs.Prelude.{◌≡◌, ℕ, List, Some, map, Option, IfOk};
 ghost use Rattle.message_text.specs.Parts.{lines_of, AreFrames};
 ghost use Rattle.message_text.specs.Printed.{Printed, status_of};
 
@@ -36,7 +36,7 @@ pub fn decode_lines(alloc: Global, input: &[u8]) -> Result<Answer, AllocError>
         let (line, later) = first_line(rest);
         number += 1;
         let fine = push_block(&mut text, number, line)?;
-        good = good && fine;
+        good &= fine;
         rest = later;
     }
     Ok(Answer { text, good })
@@ -55,7 +55,7 @@ pub fn decode_frames(alloc: Global, input: &[u8]) -> Result<Answer, AllocError>
         match first_frame(rest) {
             Some((bytes, later)) => {
                 let fine = push_block(&mut text, number, bytes)?;
-                good = good && fine;
+                good &= fine;
                 rest = later;
             }
             None => {

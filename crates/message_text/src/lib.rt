@@ -7,3 +7,6 @@ mod parts;
 
 pub use answer::{Answer, decode_frames, decode_lines};
 pub use block::push_block;
+
+#[cfg(test)]
+mod tests;

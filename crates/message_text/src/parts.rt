@@ -1,5 +1,6 @@
 //! The messages of an input.
-ghost use Rattle.std.specs.Prelude.{◌≡◌, ◌<◌, ◌++◌, ◌∷◌, [], length, MatchOption};
+ghost use Rattle.std.specs.Prelude.{◌≡◌, ◌==◌, ◌<◌, ◌++◌, ◌∷◌, [], length, MatchOption, IfSome};
+ghost use Rattle.std.specs.List.{position_from};
 ghost use Rattle.iso_message.specs.Frames.{frame, IsCut};
 ghost use Rattle.message_text.specs.Parts.{lines_of};
 
@@ -11,10 +12,18 @@ pub(crate) fn first_line(input: &[u8]) -> (&[u8], &[u8])
     ensures lines { lines_of input.now ≡ result.0.now ∷ lines_of result.1.now }
     ensures shorter { length result.1.now < length input.now }
 {
-    match input.iter().position(|byte| *byte == b'\n') {
+    match line_end(input) {
         Some(end) => (&input[..end], &input[end + 1..]),
         None => (input, &[]),
     }
+}
+
+/// Where the first line feed stands.
+fn line_end(input: &[u8]) -> Option<usize>
+    ensures place { result ≡ position_from (λ b. b == 10) 0 input.now }
+    ensures bound { IfSome result (λ end. end < length input.now) }
+{
+    input.iter().position(|byte| *byte == b'\n')
 }
 
 /// The bytes of the first frame, and what stands behind it; none where the frame is cut.

@@ -20,7 +20,7 @@ loop-span-preserved c =
           record {
             within = within.1;
             so_far = rw (w.elements-is, w.in_ok-push.ensures.ok)
-              (append_assoc c.loop-span.elements (shown values (get_or spans i any) ∷ []) later ∙ ap (λ es. c.loop-span.elements ++ es) (sym at) ∙ c.loop-span.invariant.so_far);
+                (append_assoc c.loop-span.elements (shown values (get_or spans i any) ∷ []) later ∙ ap (λ es. c.loop-span.elements ++ es) (sym at) ∙ c.loop-span.invariant.so_far);
           }
       | else-contains w ↦
           let at = passed_at numbers values spans i c.loop-span-test.true (sym c.contains.ensures.value ∙ w.if-contains.false) in

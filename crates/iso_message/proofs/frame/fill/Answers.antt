@@ -1,6 +1,4 @@
-use Rattle.std.proofs.Common.{◌≡◌, ◌≤◌, ◌+◌, ◌-◌, length, take, arith, rules, ap, length-append}
-use borrow.Rule.Slice.PartMut.{put_mid}
-use Rattle.std.proofs.lemmas.Slice.{take-put_mid}
+use Rattle.std.proofs.Common.{◌≡◌, ◌≤◌, ◌-◌, length, rules}
 use Rattle.card_digits.proofs.Known.{Consumes-trans}
 use Rattle.iso_message.proofs.FrameLemmas.{read_part, part_within}
 use Rattle.iso_message.proofs.frame.fill.Goals as goal

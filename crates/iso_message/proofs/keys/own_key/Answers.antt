@@ -1,4 +1,4 @@
-use Rattle.std.proofs.Common.{sym, ◌∙◌, refl, inl, inr, arith}
+use Rattle.std.proofs.Common.{sym, refl, inl, inr, arith}
 use Rattle.iso_message.proofs.KeyLemmas.{own_some, own_none, id_length, trace_length, time_length}
 use Rattle.iso_message.proofs.keys.own_key.Goals as goal
 

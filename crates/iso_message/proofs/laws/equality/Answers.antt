@@ -1,7 +1,3 @@
-use Rattle.std.proofs.Common.{◌≡◌, true, ap, ◌∙◌, sym, Bool}
-use Rattle.card_digits.specs.declared.key.Key.{Key}
-use Rattle.iso_message.specs.declared.keys.AdviceId.{AdviceId}
-use Rattle.iso_message.specs.Keys.{Content, key_eq, content_eq, identity_eq}
 use Rattle.iso_message.proofs.Equality.{key_eq_refl, key_eq_is, content_eq_refl, content_eq_is, identity_eq_refl, identity_eq_is}
 use Rattle.iso_message.proofs.laws.equality.Goals as goal
 

@@ -2,7 +2,7 @@ use Rattle.std.proofs.Common.{◌≡◌, ◌++◌, rules, ap, sym, subst, ◌∙
 use Rattle.iso_message.specs.Types.{kind_text}
 use Rattle.iso_message.specs.Fields.{Fields}
 use Rattle.iso_message.specs.Grammar.{Spells}
-use Rattle.iso_message.specs.Spelling.{numbers_of, IsMessage, two_maps, pieces, spelling}
+use Rattle.iso_message.specs.Spelling.{numbers_of, two_maps, pieces, spelling}
 use Rattle.iso_message.proofs.Maps.{low_fits, written}
 use Rattle.iso_message.proofs.Canonical.{spells}
 use Rattle.iso_message.proofs.message.encode.Goals as goal

@@ -1,4 +1,4 @@
-use Rattle.std.proofs.Common.{◌≡◌, rules, filter, not, eqb, ap, ◌∙◌, sym}
+use Rattle.std.proofs.Common.{◌≡◌, rules, filter, not, eqb, ap, ◌∙◌}
 use Rattle.std.proofs.lemmas.Fn.{filter_same}
 use Rattle.iso_message.specs.declared.elements.Span.{Span}
 use Rattle.iso_message.specs.Spans.{seen}

@@ -1,4 +1,3 @@
-use Rattle.std.proofs.Common.{◌∙◌}
 use Rattle.iso_message.proofs.MessageLemmas.{original_fits}
 use Rattle.iso_message.proofs.message.Message.made_reversal.Goals as goal
 

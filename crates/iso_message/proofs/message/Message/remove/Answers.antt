@@ -1,6 +1,5 @@
-use Rattle.std.proofs.Common.{◌≡◌, rules, sym, ap, ◌∙◌, not, eqb}
+use Rattle.std.proofs.Common.{ap, ◌∙◌, not, eqb}
 use Rattle.iso_message.specs.Fields.{Fields, remove_element}
-use Rattle.iso_message.specs.Finding.{without}
 use Rattle.iso_message.proofs.MessageLemmas.{without_is, ascends_kept, good_kept}
 use Rattle.iso_message.proofs.message.Message.remove.Goals as goal
 

@@ -1,4 +1,4 @@
-use Rattle.std.proofs.Common.{◌≡◌, sym, ap, ◌∙◌, None}
+use Rattle.std.proofs.Common.{◌≡◌, sym, ap, None}
 use Rattle.std.proofs.Math.Facts.{Fits-lt-pow}
 use Rattle.iso_message.specs.Table.{form_of}
 use Rattle.iso_message.specs.Elements.{set_fault}

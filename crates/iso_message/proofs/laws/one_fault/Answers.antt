@@ -1,0 +1,8 @@
+use Rattle.iso_message.proofs.FaultLaws.{one_fault, no_fault}
+use Rattle.iso_message.proofs.laws.one_fault.Goals as goal
+
+pub returns-clause-one : goal.returns-clause-one
+returns-clause-one c = one_fault
+
+pub returns-clause-none : goal.returns-clause-none
+returns-clause-none c = no_fault
