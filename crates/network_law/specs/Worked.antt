@@ -72,6 +72,10 @@ entered_in currency trace amount = record { kind = K0100; elements = (2, card) �
 abbrev pub entered : List ℕ → List ℕ → Fields
 entered = entered_in (codes "840")
 
+-- with another card number, with further elements behind, and under another type
+abbrev pub entered_with : Kind → List ℕ → List (ℕ × List ℕ) → Fields
+entered_with kind card behind = record { kind = kind; elements = (2, card) ∷ (3, codes "000000") ∷ (4, codes "000000001000") ∷ (7, time) ∷ (11, codes "000001") ∷ behind }
+
 -- as it is forwarded
 abbrev pub forwarded : List ℕ → List ℕ → Fields
 forwarded trace amount = record { kind = K0100; elements = (2, card) ∷ (3, codes "000000") ∷ (4, amount) ∷ (7, time) ∷ (11, trace) ∷ (15, codes "0314") ∷ (32, codes "400001") ∷ (49, codes "840") ∷ [] }
@@ -122,6 +126,9 @@ four = codes "000004"
 abbrev pub ten_dollars : List ℕ
 ten_dollars = codes "000000001000"
 
+abbrev pub twenty_dollars : List ℕ
+twenty_dollars = codes "000000002000"
+
 abbrev pub six_dollars : List ℕ
 six_dollars = codes "000000000600"
 
@@ -164,6 +171,14 @@ next_alternate =
     entry (LinkDown 0) (Put 1 1 (forwarded one ten_dollars) ∷ [])
     ∷ entry (Enter (entered one ten_dollars)) (Put 0 1 (forwarded one ten_dollars) ∷ [])
     ∷ []
+
+-- and after a time-out
+abbrev pub next_alternate_in_time : List ReadEntry
+next_alternate_in_time =
+    entry Tick (Put 1 1 (forwarded one ten_dollars) ∷ [])
+    ∷ quiet_ticks 2 (
+    entry (Enter (entered one ten_dollars)) (Put 0 1 (forwarded one ten_dollars) ∷ [])
+    ∷ [])
 
 -- a request that was reversed while it was pending is stood in for when its time is over
 abbrev pub stood_in_though_reversed : List ReadEntry

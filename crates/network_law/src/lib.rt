@@ -21,7 +21,8 @@ ghost use Rattle.network_law.specs.Legal.{FailsAreMarked, FailsAreReversed, IsRe
 pub use fault::StepFault;
 pub use words::plain_words;
 pub use worked::{
-    worked_answers, worked_limits, worked_reversals, worked_run, wrong_traces_are_not_legal,
+    worked_answers, worked_limits, worked_refusals, worked_reversals, worked_run,
+    wrong_traces_are_not_legal,
 };
 
 /// Where the tables are sound, ranks fall along each route and limits stay within ceilings, every run is safe and nothing in it is

@@ -10,6 +10,10 @@ pub returns-clause-above : goal.returns-clause-above
 unfolding outputs_after
 returns-clause-above c = refl
 
+pub returns-clause-reversed_twice : goal.returns-clause-reversed_twice
+unfolding outputs_after
+returns-clause-reversed_twice c = refl
+
 pub returns-clause-given_back : goal.returns-clause-given_back
 unfolding outputs_after
 returns-clause-given_back c = refl
