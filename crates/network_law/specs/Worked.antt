@@ -1,5 +1,5 @@
 -- Small networks, messages and traces, by which the definitions are tried.
-use Rattle.std.specs.Prelude.{ℕ, zero, suc, List, [], ◌∷◌, ◌++◌, codes, Option, Some}
+use Rattle.std.specs.Prelude.{ℕ, zero, suc, List, [], ◌∷◌, ◌++◌, replicate, codes, Option, Some}
 use Rattle.iso_message.specs.declared.kind.Kind.{Kind}
 use Rattle.iso_message.specs.declared.kind.Kind.TheVariants.{K0100, K0110, K0120, K0400, K0410, K0420, K0430}
 use Rattle.iso_message.specs.Fields.{Fields}
@@ -61,6 +61,10 @@ diamond = record {
 
 abbrev card : List ℕ
 card = codes "4111111111111111"
+
+-- its digits
+abbrev pub card_number : List ℕ
+card_number = 4 ∷ replicate 15 1
 
 abbrev time : List ℕ
 time = codes "0314091530"

@@ -1,13 +1,13 @@
 //! Steps, traces and a run that are worked by hand: the definitions say what they should.
 ghost use Rattle.std.specs.Prelude.{◌≡◌, ℕ, List, [], ◌∷◌, codes, Some, None};
 ghost use Rattle.iso_message.specs.declared.kind.Kind.TheVariants.{K0100, K0400, K0420, K0421};
-ghost use Rattle.network_law.specs.Traces.{Enter, Take, LinkDown, Tick, HostAnswer, Put, Answer, Ask, Post};
+ghost use Rattle.network_law.specs.Traces.{used, Enter, Take, LinkDown, Tick, HostAnswer, NewDate, Put, Answer, Ask, Post};
 ghost use Rattle.network_law.specs.declared.fault.StepFault.TheVariants.{ForeignAcquirer, Missing, TypeNotForGate, UnknownAsk, Replacement};
 ghost use Rattle.network_law.specs.Refusals.{refusal};
 ghost use Rattle.network_law.specs.Entries.{spelled_trace};
 ghost use Rattle.network_law.specs.Checked.{IsChecked, IsRanked, IsBounded};
 ghost use Rattle.network_law.specs.Runs.{IsLegal, IsRun};
-ghost use Rattle.network_law.specs.Worked.{next_alternate_in_time, twenty_dollars, entered_with, base, limited, diamond, entered, entered_in, forwarded, answered, answered_in, reversal, reversal_as, acknowledged, stand_in, reversal_by_acquirer, reversal_reply, one, two, three, four, ten_dollars, six_dollars, four_dollars, one_cent, outputs_after, ticks, next_alternate, stood_in_though_reversed, late_approval_dropped, same_tick_not_counted, advice_dropped_when_sent, own_reversal_frees, reversed_run, base_ranks};
+ghost use Rattle.network_law.specs.Worked.{next_alternate_in_time, twenty_dollars, entered_with, base, limited, diamond, entered, entered_in, forwarded, answered, answered_in, reversal, reversal_as, acknowledged, stand_in, reversal_by_acquirer, reversal_reply, one, two, three, four, ten_dollars, six_dollars, four_dollars, one_cent, history_after, outputs_after, card_number, ticks, next_alternate, stood_in_though_reversed, late_approval_dropped, same_tick_not_counted, advice_dropped_when_sent, own_reversal_frees, reversed_run, base_ranks};
 
 /// A request is forwarded with its settlement date, asked of the host, and answered; a repeat gets the same answer, and the answer
 /// again gives nothing.
@@ -45,6 +45,10 @@ pub fn worked_limits()
     ensures reversed_twice { outputs_after limited 0 (Enter (reversal_by_acquirer K0400 one six_dollars) ∷ Enter (reversal_by_acquirer K0400 one six_dollars) ∷ Enter (entered one six_dollars) ∷ LinkDown 0 ∷ []) ≡ Answer (reversal_reply one six_dollars) ∷ [] }
     ensures given_back { outputs_after limited 0 (Enter (entered three six_dollars) ∷ Enter (reversal_by_acquirer K0400 one six_dollars) ∷ Enter (reversal_by_acquirer K0400 one six_dollars) ∷ Enter (entered two four_dollars) ∷ Enter (entered one six_dollars) ∷ LinkDown 0 ∷ []) ≡ Answer (answered three six_dollars (codes "00")) ∷ [] }
     ensures given_back_once { outputs_after limited 0 (Enter (entered four one_cent) ∷ Enter (entered three six_dollars) ∷ Enter (reversal_by_acquirer K0400 one six_dollars) ∷ Enter (reversal_by_acquirer K0400 one six_dollars) ∷ Enter (entered two four_dollars) ∷ Enter (entered one six_dollars) ∷ LinkDown 0 ∷ []) ≡ Answer (answered four one_cent (codes "61")) ∷ [] }
+    ensures used { used limited 0 (history_after limited 0 (Enter (entered one six_dollars) ∷ LinkDown 0 ∷ [])) card_number (0 ∷ 3 ∷ 1 ∷ 4 ∷ []) ≡ 600 }
+    ensures used_on_another_date { used limited 0 (history_after limited 0 (Enter (entered one six_dollars) ∷ LinkDown 0 ∷ [])) card_number (0 ∷ 3 ∷ 1 ∷ 5 ∷ []) ≡ 0 }
+    ensures used_no_more { used limited 0 (history_after limited 0 (Enter (reversal_by_acquirer K0400 one six_dollars) ∷ Enter (entered one six_dollars) ∷ LinkDown 0 ∷ [])) card_number (0 ∷ 3 ∷ 1 ∷ 4 ∷ []) ≡ 0 }
+    ensures new_date { outputs_after base 0 (Enter (entered one ten_dollars) ∷ NewDate (0 ∷ 3 ∷ 1 ∷ 4 ∷ []) ∷ NewDate (0 ∷ 3 ∷ 1 ∷ 5 ∷ []) ∷ []) ≡ Put 0 1 (forwarded one ten_dollars) ∷ [] }
     ensures other_currency { outputs_after limited 0 (Enter (entered_in (codes "978") one one_cent) ∷ LinkDown 0 ∷ []) ≡ Answer (answered_in (codes "978") one one_cent (codes "57")) ∷ [] }
     ensures same_tick { outputs_after limited 0 (ticks 3 (Enter (entered two six_dollars) ∷ Enter (entered one six_dollars) ∷ [])) ≡ Put 0 3 (reversal one six_dollars) ∷ Answer (answered one six_dollars (codes "00")) ∷ Put 0 4 (stand_in one six_dollars) ∷ Put 0 5 (reversal two six_dollars) ∷ Answer (answered two six_dollars (codes "61")) ∷ [] }
 {}
