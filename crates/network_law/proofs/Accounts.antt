@@ -4,7 +4,7 @@ use Rattle.std.proofs.lemmas.Bool.{or_cases, cond_both}
 use Rattle.std.specs.List.{list_any}
 use Rattle.net_rows.specs.Network.{Network, issuer}
 use Rattle.network_law.specs.Traces.{ReadInput, Enter, Take, LinkUp, LinkDown, Tick, HostAnswer, NewDate, Advice, has_identity, add_advice, acked_by, home_is, is_at_home, IsIn}
-use Rattle.network_law.proofs.Reversals.{in_acked, any_in}
+use Rattle.network_law.proofs.Provenance.{in_acked, any_in}
 use Rattle.network_law.proofs.Chain.{same_card}
 use Rattle.iso_message.proofs.Equality.{identity_eq_refl, identity_eq_is}
 use Rattle.iso_message.specs.Fields.{Fields}

@@ -16,9 +16,11 @@ use Rattle.network_law.proofs.Node.{Opened, legal_facts}
 use Rattle.network_law.proofs.Chain.{rank, highest, RankFalls, falls, legal_own}
 use Rattle.network_law.proofs.Ids.{no_zero_id}
 use Rattle.network_law.proofs.Ends.{legal_at, is_node, not_home, back, histories}
-use Rattle.network_law.proofs.Reversals.{legal_sent, advice_04xx}
+use Rattle.network_law.proofs.Reversals.{legal_sent}
+use Rattle.network_law.proofs.Provenance.{advice_04xx}
 use Rattle.network_law.proofs.Accounts.{Alike, alike_refl, alike_more, alike_card, alike_home, any_is, posted_some}
-use Rattle.network_law.proofs.Posts.{Acc, posts, legal_acc, post_has, post_counted, put_is_sent}
+use Rattle.network_law.proofs.Posts.{legal_acc, post_has, post_counted, put_is_sent}
+use Rattle.network_law.proofs.AdviceMarks.{Acc, posts}
 use Rattle.network_law.proofs.Origins.{Made, TakenAs, Entered, AdviceFacts, legal_advices}
 use Rattle.iso_message.specs.Fields.{Fields}
 use Rattle.iso_message.specs.Groups.{group, is_04xx}

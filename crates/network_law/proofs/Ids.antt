@@ -1,7 +1,10 @@
 -- The ids of nodes.
-use Rattle.std.proofs.Common.{◌≡◌, ℕ, zero, suc, ◌-◌, ◌<◌, ◌≤◌, List, length, replicate, drop, true, false, refl, sym, ap, ◌∙◌, arith, eqb}
+use Rattle.std.proofs.Common.{◌≡◌, ℕ, zero, suc, ◌-◌, ◌<◌, ◌≤◌, List, length, replicate, drop, true, false, refl, sym, ap, ◌∙◌, arith, eqb, [], ◌∷◌}
 use Rattle.std.proofs.lemmas.List.{drop_at, length-replicate}
-use Rattle.std.specs.List.{list_all}
+use Rattle.std.specs.List.{list_all, AllByRecursion}
+use Rattle.std.specs.Option.{option_map_or}
+use Rattle.std.specs.Prelude.{slice_get}
+use Rattle.net_rows.specs.declared.row.Node.{Node}
 use Rattle.std.specs.Char.{is_ascii_digit}
 use Rattle.card_digits.specs.Numbers.{pad11}
 use Rattle.card_digits.specs.Digits.{IsId}
@@ -15,8 +18,15 @@ pub record IsIdText (bs : List ℕ) : Type 0 where
   pub digits : list_all is_ascii_digit bs ≡ true
   pub not_zeros : list_all (λ b. eqb b 48) bs ≡ false
 
+at_node : (P : List ℕ → Type 0) (ks : List Node) (n : ℕ) → AllByRecursion (λ k. P k.id) ks → n < length ks → P (option_map_or (λ k. k.id) (slice_get ks n) [])
+at_node P [] n all less = absurd (omega (arith, less))
+at_node P (k ∷ ks) zero all less = all.0
+at_node P (k ∷ ks) (suc n) all less = at_node P ks n all.1 (omega (arith, less))
+
 pub id_text : (t : Network) → IsChecked t → (n : ℕ) → n < length t.nodes → IsIdText (node_id t n)
-id_text t sound n less = record { fits = IsId.few (sound.ids n less); digits = sound.id_digits n less; not_zeros = IsId.not_zeros (sound.ids n less) }
+id_text t checked n less =
+    let id : IsId (node_id t n) = at_node IsId t.nodes n checked.sound.ids less in
+    record { fits = IsId.few id; digits = IsId.digits id; not_zeros = IsId.not_zeros id }
 
 all_zeros : (n : ℕ) → list_all (λ b. eqb b 48) (replicate n 48) ≡ true
 all_zeros zero = refl

@@ -11,10 +11,12 @@ pub mod Used
 pub mod Codes
 pub mod Approvals
 pub mod Late
+pub mod Provenance
 pub mod Reversals
 pub mod Books
 pub mod Fails
 pub mod Accounts
+pub mod AdviceMarks
 pub mod Posts
 pub mod Origins
 pub mod Covered

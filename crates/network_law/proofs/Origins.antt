@@ -20,11 +20,12 @@ use Rattle.network_law.proofs.Elements.{own_key_response, el_response, carried, 
 use Rattle.network_law.proofs.Used.{OwnFacts, own_in_entry, own_case, has_00_more, brings_more, reply_message, response_code, add_made_keeps, add_accepted_keeps}
 use Rattle.network_law.proofs.Late.{handled_in, handled_out}
 use Rattle.network_law.proofs.Codes.{reply_put, same_out}
-use Rattle.network_law.proofs.Reversals.{in_add, opened_of_key, identity_acked, ack_case, ok_ack_parts, request_no_ack, answer_no_ack, advice_no_ack, entered_reversal, home_is_not}
+use Rattle.network_law.proofs.Reversals.{home_is_not}
+use Rattle.network_law.proofs.Provenance.{in_add, opened_of_key, identity_acked, ack_case, ok_ack_parts, request_no_ack, answer_no_ack, advice_no_ack, entered_reversal}
 use Rattle.network_law.proofs.Chain.{same_card}
 use Rattle.network_law.proofs.Accounts.{Alike, alike_sym, alike_card}
 use Rattle.iso_message.proofs.Equality.{identity_eq_refl}
-use Rattle.network_law.proofs.Posts.{kept_alike, kept_is_advice, sent_alike, advice_kind_04xx, content_made_stand_in}
+use Rattle.network_law.proofs.AdviceMarks.{kept_alike, kept_is_advice, sent_alike, advice_kind_04xx, content_made_stand_in}
 use Rattle.network_law.specs.Cards.{Bytes, card_of}
 use Rattle.iso_message.proofs.Changes.{get_set, get_set_same, get_remove_same, find_kept}
 use Rattle.iso_message.specs.Fields.{Fields, get, set_element, remove_element, as_kind}

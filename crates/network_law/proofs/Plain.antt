@@ -1,9 +1,9 @@
 -- The plain words say the same.
-use Rattle.std.proofs.Common.{◌≡◌, ℕ, ◌+◌, List, [], ◌∷◌, ◌++◌, map, filter, find, fold, sum, reverse, length, Option, Some, None, is_some, is_none, Bool, true, false, cond, not, ◌&&◌, refl, sym, ap, ◌∙◌, subst, inl, inr, ⊎_elim, bytes_eq, arith}
+use Rattle.std.proofs.Common.{◌≡◌, ℕ, ◌+◌, List, [], ◌∷◌, ◌++◌, map, filter, find, fold, sum, reverse, length, Option, Some, None, is_some, is_none, Bool, true, false, cond, not, ◌&&◌, refl, sym, ap, ◌∙◌, subst, inl, inr, ⊎_elim, bytes_eq, arith, eqb}
 use Rattle.std.proofs.lemmas.Bool.{and_parts}
 use Rattle.std.proofs.lemmas.Option.{same_Some}
 use Rattle.std.proofs.lemmas.List.{append-nil, length-append, reverse-append}
-use Rattle.std.specs.Option.{option_or, option_map, option_and_then}
+use Rattle.std.specs.Option.{option_map_or, option_or, option_map, option_and_then}
 use Rattle.card_digits.specs.Numbers.{decimal}
 use Rattle.card_digits.specs.declared.key.Key.{Key}
 use Rattle.iso_message.specs.Fields.{Fields, el}
@@ -18,9 +18,9 @@ use Rattle.std.specs.List.{list_any}
 use Rattle.iso_message.specs.declared.kind.Group.TheVariants as groups
 use Rattle.network_law.specs.Tables.{node_id}
 use Rattle.network_law.specs.Cards.{card_of, label_of, Bytes}
-use Rattle.network_law.specs.Traces.{ReadInput, Enter, Take, LinkUp, LinkDown, Tick, HostAnswer, NewDate, ReadOutput, Put, Answer, Ask, Post, In, Out, History, IsIn, count_of, ticks_in, Handled, handled, Opening, opening, opened_by, opened, key_handled, with_new, answer, answers, sent, forwarded, forwards, fails, approvals, reversed, used, added, Advice, advices, comes_late, code_is_not_00, reverses_key, pending, late_key, is_link, ask_key}
+use Rattle.network_law.specs.Traces.{key_asked, ask_count, asks_in, put_count, puts_on, up_after, is_up, date_after, date_of, ReadInput, Enter, Take, LinkUp, LinkDown, Tick, HostAnswer, NewDate, ReadOutput, Put, Answer, Ask, Post, In, Out, History, IsIn, count_of, ticks_in, Handled, handled, Opening, opening, opened_by, opened, key_handled, with_new, answer, answers, sent, forwarded, forwards, fails, approvals, reversed, used, added, Advice, advices, comes_late, code_is_not_00, reverses_key, pending, late_key, is_link, ask_key}
 use Rattle.network_law.specs.Decision.{failing, decide, keep, on_code, on_answer, on_host}
-use Rattle.network_law.specs.Plain.{inputs, requests, request_of, openings, opened_key, OpenedByFirst, OpenedOnce, EachIsOfItsKey, FailInOpeningOrder, is_answer_of, said_in, said, AnsweredByFirst, OnLink, put_in, puts, ForwardedByFirst, is_tick, CountsTicks, UsedIsSum, LateIsReversed}
+use Rattle.network_law.specs.Plain.{Asked, asked_in, all_asked, AskedByNumber, CountsAsks, CountsPuts, sets_link, sets_up, UpByLast, sets_date, date_in, DatedByLast, inputs, requests, request_of, openings, opened_key, OpenedByFirst, OpenedOnce, EachIsOfItsKey, FailInOpeningOrder, is_answer_of, said_in, said, AnsweredByFirst, OnLink, put_in, puts, ForwardedByFirst, is_tick, CountsTicks, UsedIsSum, LateIsReversed}
 use Rattle.network_law.proofs.Emits.{key_eq_is, key_eq_refl, in_append}
 
 find_append : {X : Type 0} (p : X → Bool) (xs ys : List X) → find p (xs ++ ys) ≡ option_or (find p xs) (find p ys)
@@ -206,6 +206,104 @@ filter_append p (x ∷ xs) ys = go (p x) refl (filter_append p xs ys)
     go : (b : Bool) → p x ≡ b → filter p (xs ++ ys) ≡ filter p xs ++ filter p ys → cond (p x) (x ∷ filter p (xs ++ ys)) (filter p (xs ++ ys)) ≡ cond (p x) (x ∷ filter p xs) (filter p xs) ++ filter p ys
     go true at ih = rw at (ap (λ z. x ∷ z) ih)
     go false at ih = rw at ih
+
+-- asks and serials
+
+asked_found : (a : ℕ) (o : ReadOutput) → key_asked a o ≡ option_map (λ (p : Asked). key_of p.message) (find (λ (p : Asked). eqb a p.ask) (asked_in o))
+asked_found a (Ask b m) = go (eqb a b) refl
+  where
+    go : (c : Bool) → eqb a b ≡ c → cond (eqb a b) (Some (key_of m)) None ≡ option_map (λ (p : Asked). key_of p.message) (cond (eqb a b) (Some (record { ask = b; message = m })) None)
+    go true at = rw at refl
+    go false at = rw at refl
+asked_found a (Put l s m) = refl
+asked_found a (Answer m) = refl
+asked_found a (Post m) = refl
+
+pub asked_by_number : AskedByNumber
+unfolding ask_key all_asked
+asked_by_number [] a = refl
+asked_by_number (In i ∷ h) a = asked_by_number h a
+asked_by_number (Out i o ∷ h) a =
+    or_same (ask_key h a) (key_asked a o) _ _ (asked_by_number h a) (asked_found a o)
+    ∙ (sym (map_or (λ (p : Asked). key_of p.message) (find (λ (p : Asked). eqb a p.ask) (all_asked h)) (find (λ (p : Asked). eqb a p.ask) (asked_in o)))
+    ∙ ap (option_map (λ (p : Asked). key_of p.message)) (sym (find_append (λ (p : Asked). eqb a p.ask) (all_asked h) (asked_in o))))
+
+one_ask : (o : ReadOutput) → asks_in o ≡ length (asked_in o)
+one_ask (Ask a m) = refl
+one_ask (Put l s m) = refl
+one_ask (Answer m) = refl
+one_ask (Post m) = refl
+
+pub counts_asks : CountsAsks
+unfolding ask_count all_asked
+counts_asks [] = refl
+counts_asks (In i ∷ h) = counts_asks h
+counts_asks (Out i o ∷ h) =
+    let a = counts_asks h in
+    let b = length-append (all_asked h) (asked_in o) in
+    let c = one_ask o in
+    omega (arith, a, b, c)
+
+one_put_on : (l : ℕ) (o : ReadOutput) → puts_on l o ≡ length (filter (λ (p : OnLink). eqb p.link l) (put_in o))
+one_put_on l (Put k s m) = go (eqb k l) refl
+  where
+    go : (c : Bool) → eqb k l ≡ c → cond (eqb k l) 1 0 ≡ length {A = OnLink} (cond (eqb k l) (record { link = k; message = m } ∷ []) [])
+    go true at = rw at refl
+    go false at = rw at refl
+one_put_on l (Answer m) = refl
+one_put_on l (Ask a m) = refl
+one_put_on l (Post m) = refl
+
+pub counts_puts : CountsPuts
+unfolding put_count puts
+counts_puts [] l = refl
+counts_puts (In i ∷ h) l = counts_puts h l
+counts_puts (Out i o ∷ h) l =
+    let a = counts_puts h l in
+    let b = ap length (filter_append (λ (p : OnLink). eqb p.link l) (puts h) (put_in o)) in
+    let c = length-append (filter (λ (p : OnLink). eqb p.link l) (puts h)) (filter (λ (p : OnLink). eqb p.link l) (put_in o)) in
+    let d = one_put_on l o in
+    omega (arith, a, b, c, d)
+
+-- links and dates
+
+up_last : (i : ReadInput) (l : ℕ) (is : List ReadInput) (old : Bool) → old ≡ option_map_or sets_up (find (sets_link l) is) true → up_after i l old ≡ option_map_or sets_up (find (sets_link l) (i ∷ is)) true
+up_last (LinkUp k) l is old e = go (eqb k l) refl
+  where
+    go : (c : Bool) → eqb k l ≡ c → cond (eqb k l) true old ≡ option_map_or sets_up (cond (eqb k l) (Some (LinkUp k)) (find (sets_link l) is)) true
+    go true at = rw at refl
+    go false at = rw at e
+up_last (LinkDown k) l is old e = go (eqb k l) refl
+  where
+    go : (c : Bool) → eqb k l ≡ c → cond (eqb k l) false old ≡ option_map_or sets_up (cond (eqb k l) (Some (LinkDown k)) (find (sets_link l) is)) true
+    go true at = rw at refl
+    go false at = rw at e
+up_last (Enter m) l is old e = e
+up_last (Take k s m) l is old e = e
+up_last Tick l is old e = e
+up_last (HostAnswer a c) l is old e = e
+up_last (NewDate d) l is old e = e
+
+pub up_by_last : UpByLast
+unfolding is_up inputs
+up_by_last [] l = refl
+up_by_last (In i ∷ h) l = up_last i l (reverse (inputs h)) (is_up h l) (up_by_last h l) ∙ ap (λ is. option_map_or sets_up (find (sets_link l) is) true) (sym (reverse-append (inputs h) (i ∷ [])))
+up_by_last (Out i o ∷ h) l = up_by_last h l
+
+date_last : (i : ReadInput) (is : List ReadInput) (first old : List ℕ) → old ≡ option_map_or date_in (find sets_date is) first → date_after i old ≡ option_map_or date_in (find sets_date (i ∷ is)) first
+date_last (NewDate d) is first old e = refl
+date_last (Enter m) is first old e = e
+date_last (Take k s m) is first old e = e
+date_last (LinkUp k) is first old e = e
+date_last (LinkDown k) is first old e = e
+date_last Tick is first old e = e
+date_last (HostAnswer a c) is first old e = e
+
+pub dated_by_last : DatedByLast
+unfolding date_of inputs
+dated_by_last t [] = refl
+dated_by_last t (In i ∷ h) = date_last i (reverse (inputs h)) t.settings.date (date_of t h) (dated_by_last t h) ∙ ap (λ is. option_map_or date_in (find sets_date is) t.settings.date) (sym (reverse-append (inputs h) (i ∷ [])))
+dated_by_last t (Out i o ∷ h) = dated_by_last t h
 
 one_tick : (i : ReadInput) → ticks_in i ≡ length (filter is_tick (i ∷ []))
 one_tick Tick = refl

@@ -191,11 +191,11 @@ pub record Legible (t : Network) (n : ℕ) (es : List Entry) : Type 0 where
 
 pub legible : (t : Network) (n : ℕ) → IsChecked t → n < length t.nodes → (es : List Entry) → IsLegal t n es → Legible t n es
 unfolding history read_history read_trace
-legible t n sound less [] l = record { legal = omega arith; written = tt }
-legible t n sound less (e ∷ es) l = more (has_reading t n es e l.1) (legible t n sound less es l.0)
+legible t n checked less [] l = record { legal = omega arith; written = tt }
+legible t n checked less (e ∷ es) l = more (has_reading t n es e l.1) (legible t n checked less es l.0)
   where
     id : IsIdText (node_id t n)
-    id = id_text t sound n less
+    id = id_text t checked n less
 
     more : HasReading t n es e → Legible t n es → Legible t n (e ∷ es)
     more r before =
@@ -203,7 +203,7 @@ legible t n sound less (e ∷ es) l = more (has_reading t n es e l.1) (legible t
         let past : History = history es in
         let good = input_read t n past e.input i (HasReading.is r) l.1.own l.1.typed (HasReading.accepted r) in
         let keeps = keeps_issuers t n past (legal_facts t n (read_trace es) (Legible.legal before)) in
-        let after : AreWritten (decide t n past i) = decide_written t n sound.date id past i (Legible.written before) good.0 (HasReading.accepted r) keeps in
+        let after : AreWritten (decide t n past i) = decide_written t n checked.sound.date id past i (Legible.written before) good.0 (HasReading.accepted r) keeps in
         let outs : read_outputs e.outputs ≡ newest_outputs (decide t n past i) = ap read_outputs (HasReading.outputs r) ∙ read_all (newest_outputs (decide t n past i)) (outputs_written [] (decide t n past i) tt after) in
         let whole : put_out i (read_outputs e.outputs) (In i ∷ past) ≡ decide t n past i = ap (λ os. put_out i os (In i ∷ past)) outs ∙ decide_is_outputs t n past i keeps in
         let here : read_trace (e ∷ es) ≡ record { input = i; outputs = read_outputs e.outputs } ∷ read_trace es = read_trace_more e es i (HasReading.is r) in
@@ -319,8 +319,8 @@ in_messages traces n = read_trace (traces n)
 
 pub read_run : (t : Network) (traces : ℕ → List Entry) → IsChecked t → IsRun t traces → IsReadRun t (in_messages traces)
 unfolding read_trace
-read_run t traces sound run = record {
-  legal = λ n less. Legible.legal (legible t n sound less (traces n) (run.legal n less));
+read_run t traces checked run = record {
+  legal = λ n less. Legible.legal (legible t n checked less (traces n) (run.legal n less));
   no_others = λ n more. ap read_trace (run.no_others n more);
   linked = linked';
 }
@@ -342,6 +342,6 @@ pub record EntryRead (t : Network) (n : ℕ) (e : Entry) (es : List Entry) (i : 
   pub legal : IsLegalRead t n (record { input = i; outputs = outputs } ∷ read_trace es)
 
 pub entry_read : (t : Network) (n : ℕ) (e : Entry) (es : List Entry) (i : ReadInput) → IsChecked t → n < length t.nodes → IsLegal t n (e ∷ es) → read_input e.input ≡ Ok i → EntryRead t n e es i
-entry_read t n e es i sound less legal at =
+entry_read t n e es i checked less legal at =
     let here = read_trace_more e es i at in
-    record { outputs = read_outputs e.outputs; is = here; legal = subst (IsLegalRead t n) here (Legible.legal (legible t n sound less (e ∷ es) legal)) }
+    record { outputs = read_outputs e.outputs; is = here; legal = subst (IsLegalRead t n) here (Legible.legal (legible t n checked less (e ∷ es) legal)) }

@@ -28,7 +28,7 @@ use Rattle.network_law.proofs.ReadRuns.{HasLengths}
 use Rattle.network_law.proofs.Refused.{TakenFacts, taken_facts, IsWhole, is_there}
 use Rattle.network_law.proofs.Emits.{Allowed, forwarding, asking, standing_in, passing, declining, repeating, refusing, acking, sending, posting, Brought, by_link, by_host, Kept, due, reversing, standing, accepting, decide_keeps, KeepsIssuers}
 use Rattle.network_law.proofs.Node.{el_dated, el_remove, dated_kind}
-use Rattle.network_law.proofs.Reversals.{in_made, in_accepted, in_acked, opened_of_key}
+use Rattle.network_law.proofs.Provenance.{in_made, in_accepted, in_acked, opened_of_key}
 
 -- what an input and an output have of messages
 

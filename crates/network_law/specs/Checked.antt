@@ -2,20 +2,16 @@
 -- prefixes of the rows gives no less, and for each card number it is what is said.
 use Rattle.std.specs.Prelude.{ℕ, zero, suc, ◌+◌, ◌<◌, ◌≤◌, ◌≡◌, ◌≢◌, List, length, Contains, Option, Some, true}
 use Rattle.card_digits.specs.Numbers.{pad11}
-use Rattle.std.specs.Char.{is_ascii_digit}
-use Rattle.std.specs.List.{list_all}
-use Rattle.card_digits.specs.Digits.{IsDateLabel, IsId}
 use Rattle.net_rows.specs.Network.{Network, issuer, other_end, day}
+use Rattle.net_rows.specs.Sound.{IsSound}
 use Rattle.net_rows.specs.declared.row.Issuer.{Issuer}
 use Rattle.network_law.specs.Cards.{Bytes}
-use Rattle.network_law.specs.Tables.{route_links, is_attached, node_id}
 use Rattle.network_law.specs.Traces.{IsIn}
+use Rattle.network_law.specs.Tables.{route_links, is_attached, node_id}
 
--- the forms of dates and ids, distinct padded ids, and one gate for each acquirer
+-- the rows are sound, padded node ids are distinct, and an acquirer has one gate
 pub record IsChecked (t : Network) : Type 0 where
-  pub date : IsDateLabel t.settings.date
-  pub ids : (n : ℕ) → n < length t.nodes → IsId (node_id t n)
-  pub id_digits : (n : ℕ) → n < length t.nodes → list_all is_ascii_digit (node_id t n) ≡ true
+  pub sound : IsSound t
   pub single_ids : (n m : ℕ) → n < length t.nodes → m < length t.nodes → pad11 (node_id t n) ≡ pad11 (node_id t m) → n ≡ m
   pub single_gates : (acquirer : Bytes) (n m : ℕ) → is_attached t n acquirer ≡ true → is_attached t m acquirer ≡ true → n ≡ m
 

@@ -1,6 +1,5 @@
--- The decision: what a node puts out for an input. Each part adds outputs to the history; terms are read at the
--- trace before the input (past), but for used amounts, serials, asks, the count and the links, which are read at the
--- history so far.
+-- The decision: what a node puts out for an input. Each part adds outputs to the history h. Terms are read at the history before the
+-- input (past), but for used amounts, serials, asks, whether an advice was put before, and the links, which are read at h.
 use Rattle.std.specs.Prelude.{ℕ, suc, ◌+◌, ◌-◌, ◌%◌, List, [], ◌∷◌, filter, reverse, find, Bool, true, false, ◌&&◌, not, if◌then◌else◌, ◌==◌, nat_lt, bytes_eq, Option, Some, None, is_none}
 use Rattle.card_digits.specs.Numbers.{decimal}
 use Rattle.net_rows.specs.Network.{Network, issuer, day}
@@ -44,10 +43,12 @@ first_up h links = find (is_up h) links
 
 -- advices
 
+-- the way of an advice: a reversal goes where its request went, else the first link of the route that is up is taken
 abbrev pub own_way : Network → ℕ → History → Fields → Option ℕ → Option ℕ
 own_way t n h x None = first_up h (route_links t n (card_of x))
 own_way t n h x (Some l) = if is_reversal x.kind && is_up h l then Some l else first_up h (route_links t n (card_of x))
 
+-- the type of a reversal or stand-in advice, put before or not
 abbrev pub sent_kind : Bool → Bool → Kind
 sent_kind true true = K0421
 sent_kind true false = K0420
@@ -58,10 +59,12 @@ abbrev pub send_by : ReadInput → Fields → Option ℕ → History → History
 send_by i x None h = h
 send_by i x (Some l) h = put_on i l (as_kind (sent_kind (is_04xx x.kind) (was_put h (identity_of x))) x) h
 
+-- an advice goes out, where a link is up
 unfoldable pub send : Network → ℕ → ReadInput → Fields → History → History
 unfolding was_put identity_of el card_of key_of forwarded is_up put_count route_links
 send t n i x h = send_by i x (own_way t n h x (forwarded h (key_of x))) h
 
+-- an advice that isn't known is posted at the home of its card, and elsewhere stored and sent
 unfoldable pub keep : Network → ℕ → History → ReadInput → Fields → History → History
 unfolding send known identity_of card_of
 keep t n past i x h = if known t n past (identity_of x) then h else if is_at_home t n x then emit i (Post x) h else send t n i x h
@@ -87,10 +90,12 @@ standin_by t n past i op c h =
     then keep t n past i (made_stand_in op.message (node_id t n)) (reply i op.source (response op.message c) h)
     else reply i op.source (response op.message c) h
 
+-- the node answers an opened request by its own limits
 unfoldable pub standin : Network → ℕ → History → ReadInput → Opening → History → History
 unfolding standin_code keep response made_stand_in put_count
 standin t n past i op h = standin_by t n past i op (standin_code t n h op.message) h
 
+-- a request fails: its reversal is kept, and then the node stands in
 unfoldable pub fail : Network → ℕ → History → ReadInput → Option Opening → History → History
 unfolding standin keep made_reversal
 fail t n past i None h = h
@@ -104,7 +109,7 @@ fail_all t n past i (k ∷ ks) h = fail_all t n past i ks (fail t n past i (open
 unfoldable pub send_all : Network → ℕ → ReadInput → List Advice → History → History
 unfolding send
 send_all t n i [] h = h
-send_all t n i (a ∷ as') h = send_all t n i as' (send t n i a.message h)
+send_all t n i (a ∷ others) h = send_all t n i others (send t n i a.message h)
 
 -- the keys that fail at an input, in opening order
 unfoldable pub failing : Network → History → ReadInput → List Key
@@ -127,10 +132,12 @@ same_source (ByLink a) (ByLink b) = a == b
 same_source Gate (ByLink b) = false
 same_source (ByLink a) Gate = false
 
+-- away from the home: put on the first link that is up, or stood in for
 abbrev pub on_forward : Network → ℕ → History → ReadInput → Fields → Source → Option ℕ → History
 on_forward t n past i m src None = standin t n past i (record { message = m; source = src; count = count_of past; input = i }) (In i ∷ past)
 on_forward t n past i m src (Some l) = put_on i l (as_kind K0100 m) (In i ∷ past)
 
+-- of a card with an issuer: asked of the host at its home
 abbrev pub on_issuer : Network → ℕ → History → ReadInput → Fields → Source → Option Issuer → History
 on_issuer t n past i m src None = reply i src (response m code_92) (In i ∷ past)
 on_issuer t n past i m src (Some s) =
@@ -142,6 +149,7 @@ abbrev pub on_repeat : ReadInput → Source → Option Fields → History → Hi
 on_repeat i src None h = h
 on_repeat i src (Some a) h = reply i src a h
 
+-- a request, with the opening of its key
 unfoldable pub on_request : Network → ℕ → History → ReadInput → Fields → Source → Option Opening → History
 unfolding standin put_count response load ask_count is_good_card reversed answer content key_of el card_of is_up route_links count_of
 on_request t n past i m src (Some op) =
@@ -155,6 +163,7 @@ on_request t n past i m src None =
 
 -- reversals and stand-in advices
 
+-- the key is open with other content
 abbrev pub other_content : Option Opening → Fields → Bool
 other_content None m = false
 other_content (Some op) m = not (content_eq (content op.message) (content m))
@@ -193,6 +202,7 @@ on_code t n past i k c other (Some op) =
     else if bytes_eq c code_00 && comes_late past (advices t n past) k then keep t n past i (made_reversal op.message (node_id t n)) (In i ∷ past)
     else In i ∷ past
 
+-- an answer counts on the link on which its key was forwarded
 unfoldable pub on_answer : Network → ℕ → History → ReadInput → Fields → Source → History
 unfolding key_of code_of opening answer forwarded put_count response keep advices made_reversal
 on_answer t n past i m Gate = In i ∷ past

@@ -1,6 +1,6 @@
 -- The terms of a history once more, in plain words: as lists in the order of time, of which they are the first, the last or a sum.
-use Rattle.std.specs.Prelude.{ℕ, ◌≡◌, List, [], ◌∷◌, ◌++◌, map, filter, find, sum, length, Bool, true, false, not, ◌&&◌, if◌then◌else◌, bytes_eq, Option, Some, None, is_none}
-use Rattle.std.specs.Option.{option_map}
+use Rattle.std.specs.Prelude.{ℕ, ◌≡◌, List, [], ◌∷◌, ◌++◌, map, filter, find, sum, length, Bool, true, false, not, ◌&&◌, if◌then◌else◌, bytes_eq, Option, Some, None, is_none, ◌==◌, reverse}
+use Rattle.std.specs.Option.{option_map, option_map_or}
 use Rattle.card_digits.specs.Numbers.{decimal}
 use Rattle.card_digits.specs.declared.key.Key.{Key}
 use Rattle.iso_message.specs.Fields.{Fields, el}
@@ -11,7 +11,7 @@ use Rattle.iso_message.specs.Made.{made_reversal}
 use Rattle.net_rows.specs.Network.{Network}
 use Rattle.network_law.specs.Cards.{card_of, label_of}
 use Rattle.network_law.specs.Tables.{node_id}
-use Rattle.network_law.specs.Traces.{ReadInput, Tick, ReadOutput, Put, Answer, Ask, Post, In, Out, History, IsIn, count_of, Handled, handled, Opening, opening, answer, forwarded, fails, approvals, reversed, used, advices, late_key}
+use Rattle.network_law.specs.Traces.{LinkUp, LinkDown, NewDate, is_up, date_of, ask_count, put_count, ReadInput, Tick, ReadOutput, Put, Answer, Ask, Post, In, Out, History, IsIn, count_of, Handled, handled, Opening, opening, answer, forwarded, fails, approvals, reversed, used, advices, late_key, ask_key}
 use Rattle.network_law.specs.Decision.{failing, decide, keep}
 
 -- the inputs and the outputs, the oldest first
@@ -100,6 +100,59 @@ puts (Out i o ∷ h) = puts h ++ put_in o
 -- a key is forwarded on the link of the first put of a request of it
 abbrev pub ForwardedByFirst : Type 0
 ForwardedByFirst = (h : History) (k : Key) → forwarded h k ≡ option_map (λ p. p.link) (find (λ p. is_request p.message.kind && key_eq (key_of p.message) k) (puts h))
+
+-- asks and serials
+
+pub record Asked : Type 0 where
+  pub ask : ℕ
+  pub message : Fields
+
+abbrev pub asked_in : ReadOutput → List Asked
+asked_in (Ask a m) = record { ask = a; message = m } ∷ []
+asked_in _ = []
+
+unfoldable pub all_asked : History → List Asked
+all_asked [] = []
+all_asked (In i ∷ h) = all_asked h
+all_asked (Out i o ∷ h) = all_asked h ++ asked_in o
+
+-- a number is that of the key that was asked by it
+abbrev pub AskedByNumber : Type 0
+AskedByNumber = (h : History) (a : ℕ) → ask_key h a ≡ option_map (λ p. key_of p.message) (find (λ p. a == p.ask) (all_asked h))
+
+-- asks and serials count what was put out
+abbrev pub CountsAsks : Type 0
+CountsAsks = (h : History) → ask_count h ≡ length (all_asked h)
+
+abbrev pub CountsPuts : Type 0
+CountsPuts = (h : History) (l : ℕ) → put_count h l ≡ length (filter (λ p. p.link == l) (puts h))
+
+-- links and dates
+
+abbrev pub sets_link : ℕ → ReadInput → Bool
+sets_link l (LinkUp k) = k == l
+sets_link l (LinkDown k) = k == l
+sets_link l _ = false
+
+abbrev pub sets_up : ReadInput → Bool
+sets_up (LinkDown k) = false
+sets_up _ = true
+
+-- a link is down where its last link input is LinkDown
+abbrev pub UpByLast : Type 0
+UpByLast = (h : History) (l : ℕ) → is_up h l ≡ option_map_or sets_up (find (sets_link l) (reverse (inputs h))) true
+
+abbrev pub sets_date : ReadInput → Bool
+sets_date (NewDate date) = true
+sets_date _ = false
+
+abbrev pub date_in : ReadInput → List ℕ
+date_in (NewDate date) = date
+date_in _ = []
+
+-- the date is that of the last NewDate, else the network's
+abbrev pub DatedByLast : Type 0
+DatedByLast = (t : Network) (h : History) → date_of t h ≡ option_map_or date_in (find sets_date (reverse (inputs h))) t.settings.date
 
 -- the count
 

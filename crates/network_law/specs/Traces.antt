@@ -1,5 +1,6 @@
--- What follows from a node's trace. A history is a trace read from its newest event: each entry is its input,
--- and then its outputs, each with the input that it came from. So an entry that is decided in part has a history too.
+-- What follows from a node's trace. A history is a trace as a list of events, the newest first: each entry is its input, and then its
+-- outputs, each with the input that it came from. So an entry that is decided in part has a history too, and each part of a decision
+-- counts the parts before it.
 use Rattle.std.specs.Prelude.{ℕ, suc, ◌≡◌, ◌⊎◌, ◌+◌, ◌*◌, List, [], ◌∷◌, ◌++◌, length, map, filter, reverse, count_by, Bool, true, false, cond, ◌&&◌, ◌||◌, not, if◌then◌else◌, ◌==◌, bytes_eq, Option, Some, None, is_some, is_none}
 use Rattle.std.specs.Option.{option_or, option_and_then}
 use Rattle.std.specs.List.{list_any}
@@ -16,14 +17,16 @@ use Rattle.card_digits.specs.declared.key.Key.{Key}
 use Rattle.iso_message.specs.Keys.{key_eq, key_of, identity_of, identity_eq, own_key, original_key, content}
 use Rattle.iso_message.specs.declared.keys.AdviceId.{AdviceId}
 use Rattle.iso_message.specs.Codes.{code_of, code_00, code_94}
-use Rattle.iso_message.specs.Made.{made_reversal, made_stand_in, response, made_from}
+use Rattle.iso_message.specs.Made.{with_date, without_forwarder, made_reversal, made_stand_in, response, made_from}
 use Rattle.iso_message.specs.Finding.{find_element, without, put}
 use Rattle.iso_message.specs.declared.kind.Group.TheVariants as groups
 
+-- where a message came from: the acquirers at the gate, or a link
 pub data Source : Type 0 where
   Gate : Source
   ByLink : (link : ℕ) → Source
 
+-- inputs and outputs, their messages read
 pub data ReadInput : Type 0 where
   Enter : (message : Fields) → ReadInput
   Take : (link serial : ℕ) (message : Fields) → ReadInput
@@ -51,7 +54,7 @@ abbrev pub IsIn : {X : Type 0} → X → List X → Type 0
 IsIn x [] = ⊥
 IsIn x (y ∷ ys) = (y ≡ x) ⊎ IsIn x ys
 
--- an event stands in a read_history
+-- an event stands in a history
 abbrev pub Has : Event → History → Type 0
 Has e h = IsIn e h
 
@@ -71,6 +74,7 @@ abbrev pub ticks_in : ReadInput → ℕ
 ticks_in Tick = 1
 ticks_in _ = 0
 
+-- the number of ticks
 unfoldable pub count_of : History → ℕ
 count_of [] = 0
 count_of (In i ∷ h) = ticks_in i + count_of h
@@ -81,6 +85,7 @@ up_after (LinkUp k) l old = cond (k == l) true old
 up_after (LinkDown k) l old = cond (k == l) false old
 up_after _ l old = old
 
+-- a link is down where its last input was LinkDown
 unfoldable pub is_up : History → ℕ → Bool
 is_up [] l = true
 is_up (In i ∷ h) l = up_after i l (is_up h l)
@@ -92,6 +97,7 @@ abbrev pub puts_on : ℕ → ReadOutput → ℕ
 puts_on l (Put k s m) = if k == l then 1 else 0
 puts_on l _ = 0
 
+-- how often the node put on a link
 unfoldable pub put_count : History → ℕ → ℕ
 put_count [] l = 0
 put_count (In i ∷ h) l = put_count h l
@@ -101,6 +107,7 @@ abbrev pub asks_in : ReadOutput → ℕ
 asks_in (Ask a m) = 1
 asks_in _ = 0
 
+-- how often it asked its host
 unfoldable pub ask_count : History → ℕ
 ask_count [] = 0
 ask_count (In i ∷ h) = ask_count h
@@ -117,18 +124,19 @@ ask_key [] a = None
 ask_key (In i ∷ h) a = ask_key h a
 ask_key (Out i o ∷ h) a = option_or (ask_key h a) (key_asked a o)
 
--- the message handled: entered, it lacks element 33, and a request has element 15 equal to the date
+-- the message that an input brings, as it is handled: entered, it lacks the forwarding institution, and a request gets the
+-- settlement date
 
 pub record Handled : Type 0 where
   pub message : Fields
   pub source : Source
 
 abbrev pub dated : List ℕ → Fields → Fields
-dated date m = if is_request m.kind then set_element m 15 (text_of date) else m
+dated date m = if is_request m.kind then with_date (text_of date) m else m
 
 unfoldable pub handled : Network → History → ReadInput → Option Handled
 unfolding date_of remove_element set_element
-handled t h (Enter m) = Some (record { message = dated (date_of t h) (remove_element m 33); source = Gate })
+handled t h (Enter m) = Some (record { message = dated (date_of t h) (without_forwarder m); source = Gate })
 handled t h (Take l s m) = Some (record { message = m; source = ByLink l })
 handled t h _ = None
 
@@ -176,13 +184,14 @@ abbrev pub answers : Key → Option Fields → Option Fields
 answers k None = None
 answers k (Some m) = if is_answer m.kind && key_eq (key_of m) k && not (bytes_eq (code_of m) code_94) then Some m else None
 
--- the answer of a key: the first 0110 in the outputs whose code isn't 94
+-- the answer of a key: the first 0110 of it in the outputs whose code isn't 94
 unfoldable pub answer : History → Key → Option Fields
 unfolding key_of code_of
 answer [] k = None
 answer (In i ∷ h) k = answer h k
 answer (Out i o ∷ h) k = option_or (answer h k) (answers k (sent o))
 
+-- open, and not answered
 abbrev pub pending : Network → History → Key → Bool
 pending t h k = is_some (opening t h k) && is_none (answer h k)
 
@@ -191,6 +200,7 @@ abbrev pub forwards : Key → ReadOutput → Option ℕ
 forwards k (Put l s m) = if is_request m.kind && key_eq (key_of m) k then Some l else None
 forwards k _ = None
 
+-- the link on which a request of k was put
 unfoldable pub forwarded : History → Key → Option ℕ
 unfolding key_of
 forwarded [] k = None
@@ -201,13 +211,14 @@ abbrev pub asks : Key → ReadOutput → Bool
 asks k (Ask a m) = key_eq (key_of m) k
 asks k _ = false
 
+-- the host was asked about k
 unfoldable pub asked : History → Key → Bool
 unfolding key_of
 asked [] k = false
 asked (In i ∷ h) k = asked h k
 asked (Out i o ∷ h) k = asked h k || asks k o
 
--- how long it may be pending
+-- how many ticks a request may be pending: forwarded on a link, or asked of the host
 abbrev pub ticks_by : Network → Option ℕ → Bool → Option ℕ
 ticks_by t (Some l) asked = Some (link_ticks t l)
 ticks_by t None asked = if asked then Some t.settings.host_ticks else None
@@ -223,7 +234,7 @@ abbrev pub is_link : ℕ → Option ℕ → Bool
 is_link l None = false
 is_link l (Some k) = k == l
 
--- k fails at an input
+-- k fails at an input: its link goes down while it is pending, or its time is over
 abbrev pub fails : Network → History → ReadInput → Key → Bool
 fails t h (LinkDown l) k = pending t h k && is_link l (forwarded h k)
 fails t h Tick k = pending t h k && is_due t h (suc (count_of h)) k
@@ -309,11 +320,11 @@ acked_by (Take l s m) a = record { message = a.message; count = a.count; own = a
 acked_by _ a = a
 
 abbrev pub add_advice : Advice → List Advice → List Advice
-add_advice a as' = if list_any (has_identity (identity_of a.message)) as' then as' else a ∷ as'
+add_advice a others = if list_any (has_identity (identity_of a.message)) others then others else a ∷ others
 
 abbrev pub add_made : (Fields → Fields) → ℕ → Option Opening → List Advice → List Advice
-add_made make count None as' = as'
-add_made make count (Some op) as' = add_advice (record { message = make op.message; count = count; own = true; acked = false }) as'
+add_made make count None others = others
+add_made make count (Some op) others = add_advice (record { message = make op.message; count = count; own = true; acked = false }) others
 
 abbrev pub code_is_not_00 : Option Fields → Bool
 code_is_not_00 None = false
@@ -321,12 +332,13 @@ code_is_not_00 (Some m) = not (bytes_eq (code_of m) code_00)
 
 -- a 00 came for k, which is answered otherwise, and no reversal of k was made or accepted
 abbrev pub comes_late : History → List Advice → Key → Bool
-comes_late h as' k = code_is_not_00 (answer h k) && not (list_any (reverses_key k) as')
+comes_late h others k = code_is_not_00 (answer h k) && not (list_any (reverses_key k) others)
 
+-- the key of such a 00
 abbrev pub late_key : History → List Advice → ReadInput → Option Key
-late_key h as' (Take l s m) = if is_answer m.kind && bytes_eq (code_of m) code_00 && is_link l (forwarded h (key_of m)) && comes_late h as' (key_of m) then Some (key_of m) else None
-late_key h as' (HostAnswer a c) = option_and_then (λ k. if bytes_eq c code_00 && comes_late h as' k then Some k else None) (ask_key h a)
-late_key h as' _ = None
+late_key h others (Take l s m) = if is_answer m.kind && bytes_eq (code_of m) code_00 && is_link l (forwarded h (key_of m)) && comes_late h others (key_of m) then Some (key_of m) else None
+late_key h others (HostAnswer a c) = option_and_then (λ k. if bytes_eq c code_00 && comes_late h others k then Some k else None) (ask_key h a)
+late_key h others _ = None
 
 abbrev pub is_timer : ReadInput → Bool
 is_timer (LinkDown l) = true
@@ -352,14 +364,16 @@ abbrev pub is_ok_ack : Option Fields → Bool
 is_ok_ack None = false
 is_ok_ack (Some m) = is_ack_kind (group m.kind) && bytes_eq (code_of m) code_00
 
+-- the type under which an advice is kept
 abbrev pub as_kept : Fields → Fields
 as_kept m = as_kind (if is_04xx m.kind then K0420 else K0120) m
 
 abbrev pub add_accepted : ℕ → Bool → Option Handled → List Advice → List Advice
-add_accepted count true (Some x) as' = if is_advice_group (group x.message.kind) then add_advice (record { message = as_kept x.message; count = count; own = false; acked = false }) as' else as'
-add_accepted count _ _ as' = as'
+add_accepted count true (Some x) others = if is_advice_group (group x.message.kind) then add_advice (record { message = as_kept x.message; count = count; own = false; acked = false }) others else others
+add_accepted count _ _ others = others
 
--- all advices that were made or accepted, the newest first
+-- all advices that were made or accepted, each identity once, the newest first: a reversal for a late 00; at an output a reversal for
+-- the key that fails, a stand-in advice for the key that the node approved itself, and the advice that is acknowledged
 unfoldable pub advices : Network → ℕ → History → List Advice
 unfolding opening answer forwarded asked ask_key handled count_of has_00 get find_element el put without set_element remove_element own_key original_key key_of content identity_of code_of response made_from made_stand_in made_reversal
 advices t n [] = []
@@ -370,11 +384,12 @@ advices t n (Out i o ∷ h) =
     (add_made (λ m. made_reversal m (node_id t n)) (count_of h) (option_and_then (opening t h) (failed_key t h i (sent o)))
     (advices t n h)))
 
+-- an advice of the identity was made or accepted
 unfoldable pub known : Network → ℕ → History → AdviceId → Bool
 unfolding advices
 known t n h id = list_any (has_identity id) (advices t n h)
 
--- reversed: a reversal was accepted
+-- a reversal of k was accepted; one that the node made itself doesn't count
 unfoldable pub reversed : Network → ℕ → History → Key → Bool
 unfolding advices
 reversed t n h k = list_any (λ a. not a.own && reverses_key k a) (advices t n h)
@@ -386,11 +401,12 @@ home_is n (Some s) = is_home s n
 abbrev pub is_at_home : Network → ℕ → Fields → Bool
 is_at_home t n m = home_is n (issuer t (card_of m))
 
--- the store, oldest first
+-- the store, oldest first: what isn't acknowledged, where this node isn't the home of its card
 unfoldable pub stored : Network → ℕ → History → List Advice
 unfolding advices card_of
 stored t n h = reverse (filter (λ a. not a.acked && not (is_at_home t n a.message)) (advices t n h))
 
+-- the places taken: one by each stored advice, two by each pending request
 unfoldable pub load : Network → ℕ → History → ℕ
 unfolding stored opened opening answer
 load t n h = length (stored t n h) + 2 * count_by (pending t h) (opened t h)
@@ -406,7 +422,7 @@ was_put [] id = false
 was_put (In i ∷ h) id = was_put h id
 was_put (Out i o ∷ h) id = was_put h id || is_put_of id o
 
--- used: the amounts of own approvals of the card and date, of keys that aren't reversed
+-- used of a card and date: the amounts of the own approvals whose keys aren't reversed
 abbrev pub counted : Network → ℕ → History → List ℕ → List ℕ → Approval → ℕ
 counted t n h card date a = if bytes_eq (card_of a.request) card && bytes_eq (label_of a.request) date && not (reversed t n h a.key) then decimal (el a.request 4) else 0
 

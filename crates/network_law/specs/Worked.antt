@@ -1,5 +1,5 @@
 -- Small networks, messages and traces, by which the definitions are tried.
-use Rattle.std.specs.Prelude.{ℕ, zero, suc, List, [], ◌∷◌, ◌++◌, codes, Option, Some}
+use Rattle.std.specs.Prelude.{ℕ, zero, suc, List, [], ◌∷◌, ◌++◌, replicate, codes, Option, Some}
 use Rattle.iso_message.specs.declared.kind.Kind.{Kind}
 use Rattle.iso_message.specs.declared.kind.Kind.TheVariants.{K0100, K0110, K0120, K0400, K0410, K0420, K0430}
 use Rattle.iso_message.specs.Fields.{Fields}
@@ -62,6 +62,10 @@ diamond = record {
 abbrev card : List ℕ
 card = codes "4111111111111111"
 
+-- its digits
+abbrev pub card_number : List ℕ
+card_number = 4 ∷ replicate 15 1
+
 abbrev time : List ℕ
 time = codes "0314091530"
 
@@ -71,6 +75,10 @@ entered_in currency trace amount = record { kind = K0100; elements = (2, card) �
 
 abbrev pub entered : List ℕ → List ℕ → Fields
 entered = entered_in (codes "840")
+
+-- with another card number, with further elements behind, and under another type
+abbrev pub entered_with : Kind → List ℕ → List (ℕ × List ℕ) → Fields
+entered_with kind card behind = record { kind = kind; elements = (2, card) ∷ (3, codes "000000") ∷ (4, codes "000000001000") ∷ (7, time) ∷ (11, codes "000001") ∷ behind }
 
 -- as it is forwarded
 abbrev pub forwarded : List ℕ → List ℕ → Fields
@@ -122,6 +130,9 @@ four = codes "000004"
 abbrev pub ten_dollars : List ℕ
 ten_dollars = codes "000000001000"
 
+abbrev pub twenty_dollars : List ℕ
+twenty_dollars = codes "000000002000"
+
 abbrev pub six_dollars : List ℕ
 six_dollars = codes "000000000600"
 
@@ -164,6 +175,14 @@ next_alternate =
     entry (LinkDown 0) (Put 1 1 (forwarded one ten_dollars) ∷ [])
     ∷ entry (Enter (entered one ten_dollars)) (Put 0 1 (forwarded one ten_dollars) ∷ [])
     ∷ []
+
+-- and after a time-out
+abbrev pub next_alternate_in_time : List ReadEntry
+next_alternate_in_time =
+    entry Tick (Put 1 1 (forwarded one ten_dollars) ∷ [])
+    ∷ quiet_ticks 2 (
+    entry (Enter (entered one ten_dollars)) (Put 0 1 (forwarded one ten_dollars) ∷ [])
+    ∷ [])
 
 -- a request that was reversed while it was pending is stood in for when its time is over
 abbrev pub stood_in_though_reversed : List ReadEntry

@@ -1,5 +1,9 @@
-//! The safety of a network of nodes as a law over definitions: what its tables, a node's decision and its runs are, and what holds
-//! of every run.
+//! The law of the network, over definitions: what holds of every run of nodes that decide as `specs/Decision` says.
+//!
+//! A node's trace is a list of entries, the newest first; an entry is an input and the outputs that it gave, with the bytes of
+//! messages (`specs/Entries`). Read as messages it is a history (`specs/Traces`), by which the node refuses (`specs/Refusals`) and
+//! decides. A run is one legal trace for each node, in which each packet that was taken was put at the other end of its link
+//! (`specs/Runs`). What tables and ranks must keep stands in `specs/Checked`, and what is claimed in `specs/Claims`.
 #![tactic(auto)]
 
 mod fault;
@@ -12,12 +16,13 @@ ghost use Rattle.network_law.specs.Checked.{IsChecked, IsBounded, IsRanked, Rank
 ghost use Rattle.network_law.specs.Entries.{Entry, history};
 ghost use Rattle.network_law.specs.Runs.{IsLegal, IsRun};
 ghost use Rattle.network_law.specs.Claims.{Safe, Covered, IsWithinLimits};
-ghost use Rattle.network_law.specs.Marks.{FailsAreMarked, FailsAreReversed};
+ghost use Rattle.network_law.specs.Legal.{FailsAreMarked, FailsAreReversed, IsReadAsDecided, ForwardsOnce};
 
 pub use fault::StepFault;
 pub use words::plain_words;
 pub use worked::{
-    worked_answers, worked_limits, worked_reversals, worked_run, wrong_traces_are_not_legal,
+    worked_answers, worked_limits, worked_refusals, worked_reversals, worked_run,
+    wrong_traces_are_not_legal,
 };
 
 /// Where the tables are sound, ranks fall along each route and limits stay within ceilings, every run is safe and nothing in it is
@@ -32,8 +37,11 @@ pub fn every_legal_trace_is_within_limits()
     ensures { (t : Network) (n : ℕ) (trace : List Entry) → IsChecked t → IsBounded t → n < length t.nodes → IsLegal t n trace → IsWithinLimits t n (history trace) }
 {}
 
-/// In every legal trace the mark of a failing key stands exactly where the key fails, and its reversal is made there.
-pub fn failing_is_marked()
+/// Of a legal trace alone: its entries are read as what was decided, and it forwards a request once. The mark of a failing key stands
+/// exactly where the key fails, and its reversal is made there.
+pub fn every_legal_trace_is_read()
+    ensures decided { (t : Network) → IsChecked t → IsReadAsDecided t }
+    ensures forwards_once { (t : Network) → IsChecked t → ForwardsOnce t }
     ensures marked { (t : Network) → IsChecked t → FailsAreMarked t }
     ensures reversed { (t : Network) → IsChecked t → FailsAreReversed t }
 {}

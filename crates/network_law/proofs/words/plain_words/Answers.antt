@@ -1,5 +1,5 @@
 use Rattle.network_law.proofs.words.plain_words.Goals as goal
-use Rattle.network_law.proofs.Plain.{opened_by_first, opened_once, each_of_its_key, fail_in_opening_order, answered_by_first, forwarded_by_first, counts_ticks, used_is_sum, late_is_reversed}
+use Rattle.network_law.proofs.Plain.{asked_by_number, counts_asks, counts_puts, up_by_last, dated_by_last, opened_by_first, opened_once, each_of_its_key, fail_in_opening_order, answered_by_first, forwarded_by_first, counts_ticks, used_is_sum, late_is_reversed}
 
 pub returns-clause-opened_by_first : goal.returns-clause-opened_by_first
 returns-clause-opened_by_first c = opened_by_first
@@ -27,3 +27,18 @@ returns-clause-used c = used_is_sum
 
 pub returns-clause-late : goal.returns-clause-late
 returns-clause-late c = late_is_reversed
+
+pub returns-clause-asked_by_number : goal.returns-clause-asked_by_number
+returns-clause-asked_by_number c = asked_by_number
+
+pub returns-clause-asks : goal.returns-clause-asks
+returns-clause-asks c = counts_asks
+
+pub returns-clause-serials : goal.returns-clause-serials
+returns-clause-serials c = counts_puts
+
+pub returns-clause-links : goal.returns-clause-links
+returns-clause-links c = up_by_last
+
+pub returns-clause-dates : goal.returns-clause-dates
+returns-clause-dates c = dated_by_last

@@ -22,6 +22,10 @@ pub returns-clause-repeated : goal.returns-clause-repeated
 unfolding outputs_after
 returns-clause-repeated c = refl
 
+pub returns-clause-other_content : goal.returns-clause-other_content
+unfolding outputs_after
+returns-clause-other_content c = refl
+
 pub returns-clause-answered_again : goal.returns-clause-answered_again
 unfolding outputs_after
 returns-clause-answered_again c = refl

@@ -22,6 +22,14 @@ pub returns-clause-late_approval : goal.returns-clause-late_approval
 unfolding outputs_after
 returns-clause-late_approval c = refl
 
+pub returns-clause-reversed_before : goal.returns-clause-reversed_before
+unfolding outputs_after
+returns-clause-reversed_before c = refl
+
+pub returns-clause-acknowledged : goal.returns-clause-acknowledged
+unfolding outputs_after
+returns-clause-acknowledged c = refl
+
 pub returns-clause-reversed_while_pending : goal.returns-clause-reversed_while_pending
 unfolding outputs_after
 returns-clause-reversed_while_pending c = refl

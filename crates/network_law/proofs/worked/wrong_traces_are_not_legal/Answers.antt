@@ -4,7 +4,7 @@ use Rattle.iso_message.specs.Codes.{code_of}
 use Rattle.network_law.specs.Traces.{Answer, Out, History}
 use Rattle.network_law.specs.Decision.{decide}
 use Rattle.network_law.specs.Entries.{read_history}
-use Rattle.network_law.specs.Worked.{base, limited, diamond, next_alternate, stood_in_though_reversed, late_approval_dropped, same_tick_not_counted, advice_dropped_when_sent, own_reversal_frees}
+use Rattle.network_law.specs.Worked.{next_alternate_in_time, base, limited, diamond, next_alternate, stood_in_though_reversed, late_approval_dropped, same_tick_not_counted, advice_dropped_when_sent, own_reversal_frees}
 use Rattle.network_law.proofs.Spelled.{trace_good, legal_in_messages}
 use Rattle.network_law.proofs.WorkedRun.{base_checked, limited_checked, diamond_checked}
 use Rattle.network_law.proofs.worked.wrong_traces_are_not_legal.Goals as goal
@@ -13,6 +13,12 @@ pub returns-clause-next_alternate : goal.returns-clause-next_alternate
 unfolding trace_good read_history decide
 returns-clause-next_alternate c l =
     let p : ◌≡◌ {A = ℕ} 4 6 = ap length ((legal_in_messages diamond 0 diamond_checked (omega arith) next_alternate refl l).1.outputs) in
+    omega (arith, p)
+
+pub returns-clause-next_alternate_in_time : goal.returns-clause-next_alternate_in_time
+unfolding trace_good read_history decide
+returns-clause-next_alternate_in_time c l =
+    let p : ◌≡◌ {A = ℕ} 6 8 = ap length ((legal_in_messages diamond 0 diamond_checked (omega arith) next_alternate_in_time refl l).1.outputs) in
     omega (arith, p)
 
 pub returns-clause-stood_in_though_reversed : goal.returns-clause-stood_in_though_reversed

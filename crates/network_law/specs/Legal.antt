@@ -1,13 +1,16 @@
--- Where a request fails, as a plain sentence of legal traces.
+-- What holds of every legal trace, whatever the other nodes do.
 use Rattle.std.specs.Prelude.{ℕ, ◌≡◌, ◌<◌, length, Ok, List, [], ◌∷◌, Bool, true, false, ◌||◌, Some}
 use Rattle.card_digits.specs.declared.key.Key.{Key}
 use Rattle.iso_message.specs.Keys.{key_of, identity_of}
 use Rattle.iso_message.specs.Made.{made_reversal}
 use Rattle.net_rows.specs.Network.{Network}
 use Rattle.network_law.specs.Tables.{node_id}
-use Rattle.network_law.specs.Traces.{ReadInput, In, Out, History, Opening, opening, answer, fails, is_key, failed_key, sent, known}
+use Rattle.network_law.specs.Traces.{ReadInput, Put, Has, In, Out, History, Opening, opening, answer, fails, is_key, failed_key, sent, known}
 use Rattle.network_law.specs.Entries.{Entry, read_input, history}
+use Rattle.network_law.specs.Decision.{decide}
 use Rattle.network_law.specs.Runs.{IsLegal}
+use Rattle.iso_message.specs.Fields.{Fields}
+use Rattle.iso_message.specs.Groups.{is_request}
 
 -- the newest entry marks k as failed: it is a LinkDown or a Tick, and a 0110 of the pending key is put out
 unfoldable pub marked_failed : Network → History → Key → Bool
@@ -23,3 +26,12 @@ FailsAreMarked t = (n : ℕ) (e : Entry) (es : List Entry) (i : ReadInput) (k : 
 -- where k fails its reversal is made, or was
 abbrev pub FailsAreReversed : Network → Type 0
 FailsAreReversed t = (n : ℕ) (e : Entry) (es : List Entry) (i : ReadInput) (k : Key) → n < length t.nodes → IsLegal t n (e ∷ es) → read_input e.input ≡ Ok i → fails t (history es) i k ≡ true → (op : Opening) × (opening t (history es) k ≡ Some op) × (known t n (history (e ∷ es)) (identity_of (made_reversal op.message (node_id t n))) ≡ true)
+
+-- an entry is read as the decision of its input: what a node puts out says to a reader what was decided
+abbrev pub IsReadAsDecided : Network → Type 0
+IsReadAsDecided t = (n : ℕ) (e : Entry) (es : List Entry) (i : ReadInput) → n < length t.nodes → IsLegal t n (e ∷ es) → read_input e.input ≡ Ok i → history (e ∷ es) ≡ decide t n (history es) i
+
+-- a request is put on a link once, and never again on that link or another
+abbrev pub ForwardsOnce : Network → Type 0
+ForwardsOnce t = (n : ℕ) (trace : List Entry) (i i' : ReadInput) (l s l' s' : ℕ) (x x' : Fields) → n < length t.nodes → IsLegal t n trace
+    → Has (Out i (Put l s x)) (history trace) → Has (Out i' (Put l' s' x')) (history trace) → is_request x.kind ≡ true → is_request x'.kind ≡ true → key_of x ≡ key_of x' → (l ≡ l') × (s ≡ s') × (x ≡ x')
