@@ -146,11 +146,6 @@ ids_single (k ∷ nodes) h zero (suc m) ln lm e = absurd (not_there (pad11 k.id)
 ids_single (k ∷ nodes) h (suc n) zero ln lm e = absurd (not_there (pad11 k.id) nodes h.0 n (omega arith) (sym e))
 ids_single (k ∷ nodes) h (suc n) (suc m) ln lm e = ap (λ (i : ℕ). suc i) (ids_single nodes h.1 n m (omega arith) (omega arith) e)
 
-each_id : (nodes : List Node) → AllByRecursion (λ k. IsId k.id) nodes → (n : ℕ) → n < length nodes → IsId (id_at nodes n)
-each_id [] h n lt = absurd (omega arith)
-each_id (k ∷ nodes) h zero lt = h.0
-each_id (k ∷ nodes) h (suc n) lt = each_id nodes h.1 n (omega arith)
-
 -- ---- accepted tables
 
 record OthersAreNone (t : Network) : Type 0 where
@@ -169,9 +164,7 @@ pub checked : (t : Network) (cert : List Rank) → first_refusal t cert ≡ None
 checked t cert none kept =
     let none_of = others t cert none in
     record {
-      date = kept.date;
-      ids = each_id t.nodes kept.ids;
-      id_digits = λ n lt. (each_id t.nodes kept.ids n lt).digits;
+      sound = kept;
       single_ids = ids_single t.nodes (once (map (λ k. pad11 k.id) t.nodes) (unmapped NodeIdTwice (first_repeated (map (λ k. pad11 k.id) t.nodes)) none_of.nodes));
       single_gates = gates_single t.acquirers (once (map (λ a. pad11 a.id) t.acquirers) (unmapped AcquirerTwice (first_repeated (map (λ a. pad11 a.id) t.acquirers)) none_of.acquirers));
     }

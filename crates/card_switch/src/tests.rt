@@ -1,0 +1,80 @@
+//! Whole inputs and what is printed for them.
+use crate::bundle::run_bundle;
+use crate::job::{Job, job_of};
+use card_digits::Counted;
+use std::alloc::{AllocError, Global};
+use std::test::Fail;
+
+mod base;
+mod faults;
+mod limits;
+mod worked;
+
+/// What is printed for an input, and the status.
+fn answer(alloc: Global, job: Job, input: &[u8]) -> Option<(Vec<u8>, u8)> {
+    let mut text: Vec<u8> = Vec::new(alloc);
+    let mut reader = Counted::new(input);
+    let mut writer = Counted::new(&mut text);
+    let ended = run_bundle(alloc, job, &mut reader, &mut writer);
+    match ended {
+        Ok(status) => Some((text, status)),
+        Err(_) => None,
+    }
+}
+
+/// Whether this is printed for an input, with this status.
+pub(crate) fn says(
+    alloc: Global,
+    job: Job,
+    input: &[u8],
+    want: &[u8],
+    status: u8,
+) -> Result<bool, AllocError> {
+    match answer(alloc, job, input) {
+        Some((text, ended)) => Ok(text.as_slice() == want && ended == status),
+        None => Ok(false),
+    }
+}
+
+/// Whether a fault is printed for the first network with one piece of its tables changed.
+pub(crate) fn says_of_changed(
+    alloc: Global,
+    old: &str,
+    new: &str,
+    want: &str,
+) -> Result<bool, AllocError> {
+    let Some((front, back)) = base::TABLES.split_once(old) else {
+        return Ok(false);
+    };
+    let ranks = base::RANKS;
+    let input = format!(in alloc; "{front}{new}{back}%%\n{ranks}")?;
+    says(alloc, Job::Check, input.as_bytes(), want.as_bytes(), 2)
+}
+
+#[test]
+fn the_first_network_is_accepted(rt: HostRuntime) -> Result<(), Fail> {
+    let tables = base::TABLES;
+    let ranks = base::RANKS;
+    let input = format!(in rt.alloc(); "{tables}%%\n{ranks}")?;
+    assert!(rt; says(rt.alloc(), Job::Check, input.as_bytes(), b"accepted\n", 0)?);
+    Ok(())
+}
+
+#[test]
+fn jobs_of_words(rt: HostRuntime) -> Result<(), Fail> {
+    let alloc = rt.alloc();
+    assert_eq!(rt; job_of(alloc, &["check"])?, Some(Job::Check));
+    assert_eq!(rt; job_of(alloc, &["make"])?, Some(Job::Make));
+    assert_eq!(rt;
+        job_of(alloc, &["decode"])?,
+        Some(Job::Decode { frames: false })
+    );
+    assert_eq!(rt;
+        job_of(alloc, &["decode", "--frames"])?,
+        Some(Job::Decode { frames: true })
+    );
+    assert_eq!(rt; job_of(alloc, &["check", "--"])?, None);
+    assert_eq!(rt; job_of(alloc, &["replay"])?, None);
+    assert_eq!(rt; job_of(alloc, &[])?, None);
+    Ok(())
+}
