@@ -77,10 +77,7 @@ impl<R: Prefixed + Drop> Rows<R> {
 }
 
 /// The place of the first row of each key.
-fn places_of<R: Prefixed>(
-    alloc: Global,
-    rows: &[R],
-) -> Result<BTreeMap<RowKey, usize>, AllocError>
+fn places_of<R: Prefixed>(alloc: Global, rows: &[R]) -> Result<BTreeMap<RowKey, usize>, AllocError>
     ensures { IfOk result (IsIndexed R.node_of R.prefix_of rows.now) }
 {
     let mut places = BTreeMap::new(alloc);
