@@ -32,6 +32,7 @@ impl Model for Card {
 }
 
 impl Card {
+    ghost use Rattle.card_digits.specs.Digits.{IsCard};
     ghost use Rattle.card_digits.specs.Reading.{read_digits};
 
     /// The card number that ASCII digits write. A byte that is no digit is reported before the length.
@@ -46,6 +47,7 @@ impl Card {
     pub fn digits(&self) -> &[u8]
         ensures digits { result.now ≡ self.now }
         ensures few { length result.now ≤ 19 }
+        ensures form { IsCard result.now }
     {
         self.digits.as_slice()
     }

@@ -1,7 +1,7 @@
 //! Prefixes of card numbers.
-ghost use Rattle.std.specs.Prelude.{◌≡◌, ◌<◌, All};
+ghost use Rattle.std.specs.Prelude.{◌≡◌, ◌<◌, ◌≤◌, length, take, All};
 
-use crate::card::{DigitFault, read};
+use crate::card::{Card, DigitFault, read};
 use crate::short_bytes::ShortBytes;
 use std::marker::Model;
 
@@ -25,6 +25,7 @@ impl Model for Prefix {
 }
 
 impl Prefix {
+    ghost use Rattle.card_digits.specs.Digits.{IsPrefix};
     ghost use Rattle.card_digits.specs.Reading.{read_digits};
 
     /// The prefix that ASCII digits write. A byte that is no digit is reported before the length.
@@ -40,7 +41,32 @@ impl Prefix {
     pub fn digits(&self) -> &[u8]
         ensures digits { result.now ≡ self.now }
         ensures below { All (λ d. d < 10) result.now }
+        ensures form { IsPrefix result.now }
     {
         self.digits.as_slice()
+    }
+
+    /// The first digits of a card, twelve or all of fewer: every prefix that begins the card is among its fronts.
+    #[tactic(auto, using(crate::proofs::Within::card_front))]
+    pub fn of(card: &Card) -> Prefix
+        ensures { result ≡ take 12 card.now }
+    {
+        let digits = card.digits();
+        let len = digits.len().min(12);
+        Prefix {
+            digits: ShortBytes::from_slice(&digits[..len]),
+        }
+    }
+
+    /// The prefix that the first digits are.
+    #[tactic(auto, using(crate::proofs::Within::front_within))]
+    pub fn front(&self, len: usize) -> Prefix
+        requires some { 1 ≤ len }
+        requires within { len ≤ length self.now }
+        ensures { result ≡ take len self.now }
+    {
+        Prefix {
+            digits: ShortBytes::from_slice(&self.digits()[..len]),
+        }
     }
 }

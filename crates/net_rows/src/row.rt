@@ -2,7 +2,7 @@
 ghost use Rattle.std.specs.Prelude.{◌≡◌, ◌==◌, if◌then◌else◌};
 
 use crate::lists::{Links, Nodes};
-use crate::longest::{AtNode, Prefixed};
+use crate::prefixed::Prefixed;
 use card_digits::{Amount, DateLabel, Id, LinkNo, Name, NodeNo, Prefix, ShortBytes};
 
 /// What holds for the whole network.
@@ -73,7 +73,15 @@ impl Link {
 }
 
 impl Prefixed for Issuer {
+    ghost use Rattle.std.specs.Prelude.{None};
+
+    ghost node_of = { λ r. None };
+
     ghost prefix_of = { λ r. r.prefix };
+
+    fn node(&self) -> Option<NodeNo> {
+        None
+    }
 
     fn prefix(&self) -> &Prefix {
         &self.prefix
@@ -81,33 +89,33 @@ impl Prefixed for Issuer {
 }
 
 impl Prefixed for Route {
+    ghost use Rattle.std.specs.Prelude.{Some};
+
+    ghost node_of = { λ r. Some r.node };
+
     ghost prefix_of = { λ r. r.prefix };
+
+    fn node(&self) -> Option<NodeNo> {
+        Some(self.node)
+    }
 
     fn prefix(&self) -> &Prefix {
         &self.prefix
-    }
-}
-
-impl AtNode for Route {
-    ghost node_of = { λ r. r.node };
-
-    fn node(&self) -> NodeNo {
-        self.node
     }
 }
 
 impl Prefixed for StandIn {
+    ghost use Rattle.std.specs.Prelude.{Some};
+
+    ghost node_of = { λ r. Some r.node };
+
     ghost prefix_of = { λ r. r.prefix };
+
+    fn node(&self) -> Option<NodeNo> {
+        Some(self.node)
+    }
 
     fn prefix(&self) -> &Prefix {
         &self.prefix
-    }
-}
-
-impl AtNode for StandIn {
-    ghost node_of = { λ r. r.node };
-
-    fn node(&self) -> NodeNo {
-        self.node
     }
 }

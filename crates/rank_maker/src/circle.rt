@@ -1,6 +1,5 @@
 //! Circles of routes.
 ghost use Rattle.std.specs.Prelude.{◌≡◌, ◌≤◌, ◌<◌, ◌↔◌, IsTrue, length};
-ghost use Rattle.net_rows.specs.Network.{other_end};
 ghost use Rattle.rank_maker.specs.Circle.{route_links, LeadsTo, IsAway, GoesOn, IsCircle};
 
 use card_digits::{LinkNo, NodeNo, Prefix};
@@ -44,7 +43,7 @@ fn leads_to(tables: &Tables, class: &Prefix, node: NodeNo, next: NodeNo) -> bool
 {
     route_links(tables, class, node)
         .iter()
-        .any(|link| other_end(tables, node, *link) == next)
+        .any(|link| tables.other_end(node, *link) == next)
 }
 
 /// The links of the node's route row for the class.
@@ -54,15 +53,5 @@ pub(crate) fn route_links<'t>(tables: &'t Tables, class: &Prefix, node: NodeNo) 
     match tables.route_at(node, class) {
         Some(row) => row.links.as_slice(),
         None => &[],
-    }
-}
-
-/// The other end of a link of the node.
-pub(crate) fn other_end(tables: &Tables, node: NodeNo, link: LinkNo) -> NodeNo
-    ensures { result ≡ other_end tables.now node link }
-{
-    match tables.links().get(link.place()) {
-        Some(row) => row.other_end(node),
-        None => node,
     }
 }

@@ -141,6 +141,7 @@ fn tables(
     let issuers = issuers_of(alloc, plan)?;
     let routes = routes_of(alloc, plan)?;
     Ok(Tables::new(
+        alloc,
         settings,
         nodes,
         links,
@@ -148,7 +149,7 @@ fn tables(
         issuers,
         routes,
         stand_ins,
-    ))
+    )?)
 }
 
 /// The text of the ranks that are made.

@@ -1,7 +1,7 @@
 //! Longest walks along the routes for a class.
 ghost use Rattle.std.specs.Prelude.{◌≤◌, length};
 
-use crate::circle::{other_end, route_links};
+use crate::circle::route_links;
 use card_digits::{LinkNo, NodeNo, Prefix};
 use net_rows::Tables;
 use std::alloc::{AllocError, AllocFailed, Global};
@@ -92,7 +92,7 @@ impl Walk {
         self.path.push(node)?;
         let mut rank = 0u16;
         for link in routes.links(node) {
-            let far = self.rank(routes, other_end(routes.tables, node, *link), depth - 1)?;
+            let far = self.rank(routes, routes.tables.other_end(node, *link), depth - 1)?;
             rank = rank.max(far.saturating_add(1));
         }
         self.path.pop();
