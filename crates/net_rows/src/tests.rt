@@ -57,139 +57,95 @@ fn links(alloc: Global) -> Result<Vec<Link>, Fail>
     Ok(links)
 }
 
+/// One issuer, for cards that begin with 4.
 fn issuers(alloc: Global) -> Result<Vec<Issuer>, Fail> {
-    let rows: [(&[u8], &[u8]); 3] = [(b"I", b"4"), (b"J", b"4"), (b"K", b"45")];
-    let mut issuers = Vec::new(alloc);
-    for (text, digits) in &rows {
-        issuers.push(Issuer {
-            name: name(text)?,
-            prefix: prefix(digits)?,
-            home: NodeNo::new(1),
-            named: Nodes::new(alloc),
-            ceiling: Amount::new(0),
-        })?;
-    }
-    Ok(issuers)
-}
-
-fn routes(alloc: Global) -> Result<Vec<Route>, Fail> {
-    let rows: [(NodeNo, &[u8]); 3] = [
-        (NodeNo::new(0), b"4"),
-        (NodeNo::new(1), b"45"),
-        (NodeNo::new(0), b"4512"),
-    ];
-    let mut routes = Vec::new(alloc);
-    for (node, digits) in &rows {
-        let mut links = Links::new(alloc);
-        links.push(LinkNo::new(0))?;
-        routes.push(Route {
-            node: *node,
-            prefix: prefix(digits)?,
-            links,
-        })?;
-    }
-    Ok(routes)
-}
-
-fn stand_ins(alloc: Global) -> Result<Vec<StandIn>, Fail> {
+    let (name, prefix) = (name(b"I")?, prefix(b"4")?);
     let mut rows = Vec::new(alloc);
-    rows.push(StandIn {
-        node: NodeNo::new(0),
-        prefix: prefix(b"4")?,
-        day: Amount::new(100),
-        single: Amount::new(10),
-    })?;
-    rows.push(StandIn {
-        node: NodeNo::new(0),
-        prefix: prefix(b"451234567890")?,
-        day: Amount::new(7),
-        single: Amount::new(1),
+    rows.push(Issuer {
+        name,
+        prefix,
+        home: NodeNo::new(1),
+        named: Nodes::new(alloc),
+        ceiling: Amount::new(0),
     })?;
     Ok(rows)
 }
 
-fn tables(alloc: Global) -> Result<Tables, Fail> {
-    let settings = Settings {
+/// A's route for cards that begin with 4, without a link.
+fn routes(alloc: Global) -> Result<Vec<Route>, Fail> {
+    let prefix = prefix(b"4")?;
+    let mut rows = Vec::new(alloc);
+    rows.push(Route {
+        node: NodeNo::new(0),
+        prefix,
+        links: Links::new(alloc),
+    })?;
+    Ok(rows)
+}
+
+/// What A may approve for cards that begin with 4.
+fn stand_ins(alloc: Global) -> Result<Vec<StandIn>, Fail> {
+    let prefix = prefix(b"4")?;
+    let mut rows = Vec::new(alloc);
+    rows.push(StandIn {
+        node: NodeNo::new(0),
+        prefix,
+        day: Amount::new(100),
+        single: Amount::new(10),
+    })?;
+    Ok(rows)
+}
+
+fn settings() -> Result<Settings, Fail> {
+    Ok(Settings {
         currency: ShortBytes::from_slice(b"840"),
         date: DateLabel::read(b"0314").ok().ok_or("date")?,
         host_ticks: 100,
         advice_ticks: 50,
-    };
+    })
+}
+
+fn tables(
+    alloc: Global,
+    issuers: Vec<Issuer>,
+    routes: Vec<Route>,
+    stand_ins: Vec<StandIn>,
+) -> Result<Tables, Fail> {
+    let settings = settings()?;
     let nodes = nodes(alloc)?;
     let links = links(alloc)?;
-    let issuers = issuers(alloc)?;
-    let routes = routes(alloc)?;
-    let stand_ins = stand_ins(alloc)?;
+    let acquirers = Vec::new(alloc);
     Ok(Tables::new(
-        alloc,
-        settings,
-        nodes,
-        links,
-        Vec::new(alloc),
-        issuers,
-        routes,
-        stand_ins,
+        alloc, settings, nodes, links, acquirers, issuers, routes, stand_ins,
     )?)
 }
 
 #[test]
-fn finds_the_issuer_with_the_longest_prefix(rt: HostRuntime) -> Result<(), Fail> {
-    let tables = tables(rt.alloc())?;
-    // Of two rows with one prefix the first is the issuer.
-    let cases: [(&[u8], Option<&[u8]>); 5] = [
-        (b"4", Some(b"I")),
-        (b"44", Some(b"I")),
-        (b"45", Some(b"K")),
-        (b"451234567890", Some(b"K")),
-        (b"54", None),
-    ];
-    for (class, want) in &cases {
-        let found = tables.issuer_at(&prefix(class)?);
-        assert!(rt; found.map(|row| row.name.as_slice()) == *want);
-    }
-    let of_card = tables.issuer(&card(b"4512345678901")?);
-    assert!(rt; of_card.map(|row| row.name.as_slice()) == Some(b"K".as_slice()));
-    assert!(rt; tables.issuer(&card(b"5412345678901")?).is_none());
+fn finds_the_issuer(rt: HostRuntime) -> Result<(), Fail> {
+    let (ours, other) = (card(b"4512345678901")?, card(b"5412345678901")?);
+    let alloc = rt.alloc();
+    let tables = tables(alloc, issuers(alloc)?, Vec::new(alloc), Vec::new(alloc))?;
+    assert!(rt; tables.issuer(&ours).is_some());
+    assert!(rt; tables.issuer(&other).is_none());
     Ok(())
 }
 
 #[test]
 fn finds_a_node_s_route_row(rt: HostRuntime) -> Result<(), Fail> {
-    let tables = tables(rt.alloc())?;
-    let (a, h) = (NodeNo::new(0), NodeNo::new(1));
-    let of_a = tables.route(a, &card(b"4512345678901")?);
-    assert!(rt; of_a.map(|row| row.prefix) == Some(prefix(b"4512")?));
-    let of_h = tables.route(h, &card(b"4512345678901")?);
-    assert!(rt; of_h.map(|row| row.prefix) == Some(prefix(b"45")?));
-    let shorter = tables.route_at(a, &prefix(b"451")?);
-    assert!(rt; shorter.map(|row| row.prefix) == Some(prefix(b"4")?));
-    assert!(rt; tables.route_at(h, &prefix(b"4")?).is_none());
+    let card = card(b"4512345678901")?;
+    let alloc = rt.alloc();
+    let tables = tables(alloc, Vec::new(alloc), routes(alloc)?, Vec::new(alloc))?;
+    assert!(rt; tables.route(NodeNo::new(0), &card).is_some());
+    assert!(rt; tables.route(NodeNo::new(1), &card).is_none());
     Ok(())
 }
 
 #[test]
 fn finds_a_node_s_stand_in_row(rt: HostRuntime) -> Result<(), Fail> {
-    let tables = tables(rt.alloc())?;
-    let (a, h) = (NodeNo::new(0), NodeNo::new(1));
-    let long = tables.stand_in(a, &card(b"4512345678901")?);
-    assert!(rt; long.map(|row| row.single.value()) == Some(1));
-    let short = tables.stand_in_at(a, &prefix(b"45123456789")?);
-    assert!(rt; short.map(|row| row.single.value()) == Some(10));
-    assert!(rt; tables.stand_in(h, &card(b"4512345678901")?).is_none());
-    assert!(rt; tables.day_at(a, &prefix(b"451234567890")?).value() == 7);
-    assert!(rt; tables.day_at(a, &prefix(b"4")?).value() == 100);
-    assert!(rt; tables.day_at(h, &prefix(b"4")?).value() == 0);
-    Ok(())
-}
-
-#[test]
-fn finds_nodes_and_ends(rt: HostRuntime) -> Result<(), Fail> {
-    let tables = tables(rt.alloc())?;
-    let (a, h) = (NodeNo::new(0), NodeNo::new(1));
-    assert!(rt; tables.node_of(b"H") == Some(h));
-    assert!(rt; tables.node_of(b"HA").is_none());
-    assert!(rt; tables.other_end(a, LinkNo::new(0)) == h);
-    assert!(rt; tables.other_end(h, LinkNo::new(0)) == a);
-    assert!(rt; tables.other_end(h, LinkNo::new(1)) == h);
+    let class = prefix(b"45")?;
+    let alloc = rt.alloc();
+    let tables = tables(alloc, Vec::new(alloc), Vec::new(alloc), stand_ins(alloc)?)?;
+    assert!(rt; tables.day_at(NodeNo::new(0), &class).value() == 100);
+    assert!(rt; tables.day_at(NodeNo::new(1), &class).value() == 0);
     Ok(())
 }
