@@ -12,6 +12,7 @@ struct Slow<'a> {
     left: &'a [u8],
     gives: bool,
     fails: bool,
+    calls: u64,
 }
 
 impl<'a> Source for Slow<'a> {
@@ -19,7 +20,10 @@ impl<'a> Source for Slow<'a> {
 
     ghost failures = { λ s. 1 };
 
+    ghost turns = { λ s. s.calls };
+
     fn read(&mut self, buffer: &mut [u8]) -> Result<usize, ReadFault> {
+        self.calls = self.calls.saturating_add(1);
         self.gives = !self.gives;
         if self.gives {
             return Err(ReadFault::Interrupted);
@@ -45,14 +49,19 @@ impl<'a> Source for Slow<'a> {
 
 /// Is interrupted at each turn.
 #[derive(Drop)]
-struct Stuck {}
+struct Stuck {
+    calls: u64,
+}
 
 impl Source for Stuck {
     ghost remaining = { λ _. None };
 
     ghost failures = { λ _. 0 };
 
+    ghost turns = { λ s. s.calls };
+
     fn read(&mut self, _buffer: &mut [u8]) -> Result<usize, ReadFault> {
+        self.calls = self.calls.saturating_add(1);
         Err(ReadFault::Interrupted)
     }
 }
@@ -95,6 +104,7 @@ fn frames(rt: HostRuntime) -> Result<(), Fail> {
         left: &writer.bytes,
         gives: false,
         fails: false,
+        calls: 0,
     };
     let first = read_frame(rt.alloc(), &mut reader)?.ok_or("a frame")?;
     assert_eq!(rt; first.as_slice(), M);
@@ -116,6 +126,7 @@ fn broken_frames(rt: HostRuntime) -> Result<(), Fail> {
             left: bytes,
             gives: false,
             fails: true,
+            calls: 0,
         };
         assert_eq!(rt;
             read_frame(rt.alloc(), &mut failing).err(),
@@ -123,7 +134,7 @@ fn broken_frames(rt: HostRuntime) -> Result<(), Fail> {
         );
     }
     assert_eq!(rt;
-        read_frame(rt.alloc(), &mut Stuck {}).err(),
+        read_frame(rt.alloc(), &mut Stuck { calls: 0 }).err(),
         Some(FrameFault::Read)
     );
     let largest = vec![in rt.alloc(); 0xFF; 65_537]?;
@@ -131,6 +142,7 @@ fn broken_frames(rt: HostRuntime) -> Result<(), Fail> {
         left: &largest,
         gives: false,
         fails: false,
+        calls: 0,
     };
     let bytes = read_frame(rt.alloc(), &mut slow)?.ok_or("a frame")?;
     assert_eq!(rt; bytes.len(), 65_535);
