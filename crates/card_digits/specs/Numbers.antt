@@ -1,5 +1,5 @@
 -- The numbers that digits write, padded institution ids, and the check digit of a card number (ISO/IEC 7812-1, annex B).
-use Rattle.std.specs.Prelude.{ℕ, ◌+◌, ◌-◌, ◌*◌, ◌/◌, ◌%◌, ◌==◌, nat_lt, not, Bool, List, [], ◌∷◌, ◌++◌, length, replicate, if◌then◌else◌, Result, Ok, Err}
+use Rattle.std.specs.Prelude.{ℕ, ◌+◌, ◌-◌, ◌*◌, ◌/◌, ◌%◌, ◌==◌, not, Bool, List, [], ◌∷◌, ◌++◌, length, replicate, if◌then◌else◌, Result, Ok, Err}
 use Rattle.std.specs.Char.{is_ascii_digit}
 use Rattle.std.specs.List.{list_all}
 use Rattle.card_digits.specs.declared.card.DigitFault.{DigitFault}

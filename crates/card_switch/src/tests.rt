@@ -8,13 +8,14 @@ use std::test::Fail;
 mod base;
 mod faults;
 mod limits;
+mod made;
 mod worked;
 
 /// What is printed for an input, and the status.
-fn answer(alloc: Global, job: Job, input: &[u8]) -> Option<(Vec<u8>, u8)> {
+pub(crate) fn answer(alloc: Global, job: Job, input: &[u8]) -> Option<(Vec<u8>, u8)> {
     let mut text: Vec<u8> = Vec::new(alloc);
-    let mut reader = Counted::new(input);
-    let mut writer = Counted::new(&mut text);
+    let mut reader = Counted::reader(input);
+    let mut writer = Counted::writer(&mut text);
     let ended = run_bundle(alloc, job, &mut reader, &mut writer);
     match ended {
         Ok(status) => Some((text, status)),

@@ -1,5 +1,5 @@
 -- Reading finds the fault that stands in the place of the first piece that isn't right.
-use Rattle.std.proofs.Common.{◌≡◌, ℕ, ◌<◌, ◌≤◌, ◌^◌, false, ltb, eqb, List, [], ◌∷◌, ◌++◌, length, map, Result, Ok, Err, refl, sym, ap, ◌∙◌}
+use Rattle.std.proofs.Common.{◌≡◌, ℕ, ◌^◌, false, ltb, eqb, List, [], ◌∷◌, ◌++◌, length, map, Result, Ok, Err, refl, sym, ap, ◌∙◌}
 use Rattle.std.proofs.lemmas.Bool.{le-ltb, ne_eqb}
 use Rattle.std.proofs.lemmas.List.{nil_from_length}
 use Rattle.iso_message.specs.declared.kind.Kind.{Kind}
@@ -9,7 +9,7 @@ use Rattle.iso_message.specs.Elements.{◌>>=◌, field_at, with_next, with_all}
 use Rattle.iso_message.specs.Table.{form_of}
 use Rattle.iso_message.specs.Fields.{Fields}
 use Rattle.iso_message.specs.Messages.{kind_at, map_at, second_at, read}
-use Rattle.iso_message.specs.Grammar.{ArePieces, IsMap, AreMaps, announced, Spells, IsKind, IsFault, AtKind, AtFirst, AtSecond, AtElement, AtEnd}
+use Rattle.iso_message.specs.Grammar.{ArePieces, AreMaps, announced, Spells, IsKind, IsFault, AtKind, AtFirst, AtSecond, AtElement, AtEnd}
 use Rattle.iso_message.proofs.ReadingLaws.{Elements, ended, after_maps, at_once, all_again, all-append, kind_again, map_again, maps_again, read_again}
 
 abbrev behind_kind : Kind × List ℕ → Result Fields DecodeFault

@@ -1,5 +1,5 @@
 //! Frames: a length of two bytes, the high one first, and so many bytes.
-ghost use Rattle.std.specs.Prelude.{◌≡◌, ◌≤◌, ◌<◌, ◌⊎◌, length, take, IfOk, OnOk, IfErr, option_map};
+ghost use Rattle.std.specs.Prelude.{◌≡◌, ◌≤◌, ◌<◌, ◌-◌, ◌⊎◌, length, take, IfOk, OnOk, IfErr, option_map};
 
 use byteorder::{BigEndian, ByteOrder};
 use card_digits::{ReadFault, Sink, Source, WriteFault, write_all};
@@ -45,7 +45,7 @@ impl From<WriteFault> for FrameFault {
 }
 
 ghost use Rattle.std.specs.Io.KnownBytes.{Consumes, IsAtEnd, Appends, Keeps};
-ghost use Rattle.card_digits.specs.Stream.{AppendsFront};
+ghost use Rattle.card_digits.specs.Stream.{AppendsFront, TookTurns};
 ghost use Rattle.iso_message.specs.Frames.{frame, ReadsFrame, FailsToWrite, FailsToRead, FailsInBody};
 ghost use Rattle.std.specs.Int.{w16, to_be_bytes};
 ghost use Rattle.iso_message.specs.declared.frame.FrameFault.TheVariants.{Read};
@@ -55,6 +55,7 @@ ghost use Rattle.iso_message.specs.declared.frame.FrameFault.TheVariants.{Read};
 pub fn read_frame<R: Source>(alloc: Global, reader: &mut R) -> Result<Option<Vec<u8>>, FrameFault>
     ensures ok { IfOk result (λ found. ReadsFrame (R.remaining reader.old) (R.remaining reader.new) (option_map (λ v. v.items) found)) }
     ensures fault { IfErr result (λ e. FailsToRead (R.remaining reader.old) e) }
+    ensures cause { IfErr result (λ e. e ≡ Read → (0 < R.failures reader.new) ⊎ TookTurns 131_074 (R.turns reader.old) (R.turns reader.new)) }
 {
     let mut turns = MOST_TURNS;
     let mut head = [0; 2];
@@ -80,6 +81,9 @@ fn body_of<R: Source>(
     ensures few { IfOk result (λ v. length v.items < 65_536) }
     ensures taken { IfOk result (λ v. Consumes (R.remaining reader.old) (R.remaining reader.new) v.items) }
     ensures fault { IfErr result (λ e. FailsInBody head (R.remaining reader.old) e) }
+    ensures left { turns.new ≤ turns.old }
+    ensures spent { TookTurns (turns.old - turns.new) (R.turns reader.old) (R.turns reader.new) }
+    ensures cause { IfErr result (λ e. e ≡ Read → (0 < R.failures reader.new) ⊎ (turns.new ≡ 0)) }
 {
     let len = BigEndian::read_u16(&head) as usize;
     let mut bytes = vec![in alloc; 0; len]?;
@@ -96,6 +100,9 @@ fn fill<R: Source>(reader: &mut R, buffer: &mut [u8], turns: &mut u32) -> Result
     ensures taken { IfOk result (λ n. Consumes (R.remaining reader.old) (R.remaining reader.new) (take n buffer.new)) }
     ensures end { IfOk result (λ n. n < length buffer.new → IsAtEnd (R.remaining reader.new)) }
     ensures fault { IfErr result (λ e. e ≡ Read) }
+    ensures left { turns.new ≤ turns.old }
+    ensures spent { TookTurns (turns.old - turns.new) (R.turns reader.old) (R.turns reader.new) }
+    ensures cause { IfErr result (λ e. (0 < R.failures reader.new) ⊎ (turns.new ≡ 0)) }
 {
     let mut done = 0;
     while done < buffer.len() {

@@ -117,7 +117,7 @@ fn frames(rt: HostRuntime) -> Result<(), Fail> {
 #[test]
 fn broken_frames(rt: HostRuntime) -> Result<(), Fail> {
     for bytes in [[0x00, 0x53].as_slice(), &[0x00], &[0x00, 0x02, 0x30]] {
-        let mut reader = Counted::new(bytes);
+        let mut reader = Counted::reader(bytes);
         assert_eq!(rt;
             read_frame(rt.alloc(), &mut reader).err(),
             Some(FrameFault::Short)

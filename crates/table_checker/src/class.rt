@@ -19,22 +19,12 @@ impl At<'_> {
     ghost use Rattle.table_checker.specs.Rules.{unranked, unranked_over, no_rank, not_less_over, not_less, not_named, over_ceiling, node_refusal, refusal_of, has_row, no_issuer, kind_refusal};
     ghost use Rattle.table_checker.specs.Rules.{refusal_at};
     ghost use Rattle.table_checker.specs.Search.{first_some, first_below};
-    ghost use Rattle.net_rows.specs.Network.{other_end};
 
     fn rank(&self, node: NodeNo) -> Option<u16>
         ensures { result ≡ rank_at self.now.tables.now self.now.cert.now node self.now.class }
     {
         let row = self.tables.nodes().get(node.place())?;
         self.cert.rank(&row.name, &self.class)
-    }
-
-    fn other_end(&self, node: NodeNo, link: LinkNo) -> NodeNo
-        ensures { result ≡ other_end self.now.tables.now node link }
-    {
-        match self.tables.links().get(link.place()) {
-            Some(row) => row.other_end(node),
-            None => node,
-        }
     }
 
     fn unranked(&self, node: NodeNo) -> Option<Refusal>
@@ -64,7 +54,7 @@ impl At<'_> {
         ensures { result ≡ first_some (unranked_over self.now.tables.now self.now.cert.now self.now.class node) links.now }
     {
         for link in links {
-            let far = self.unranked(self.other_end(node, *link));
+            let far = self.unranked(self.tables.other_end(node, *link));
             if far.is_some() {
                 return far;
             }
@@ -75,7 +65,7 @@ impl At<'_> {
     fn not_less_over(&self, node: NodeNo, link: LinkNo) -> Option<Refusal>
         ensures { result ≡ not_less_over self.now.tables.now self.now.cert.now self.now.class node link }
     {
-        match (self.rank(self.other_end(node, link)), self.rank(node)) {
+        match (self.rank(self.tables.other_end(node, link)), self.rank(node)) {
             (Some(far), Some(own)) if far < own => None,
             _ => Some(Refusal::NotLess(node, self.class, link)),
         }

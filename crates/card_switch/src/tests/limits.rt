@@ -220,7 +220,7 @@ fn a_reader_that_fails(rt: HostRuntime) -> Result<(), Fail> {
     let alloc = rt.alloc();
     let mut text: Vec<u8> = Vec::new(alloc);
     let mut reader = Unreadable { calls: 0 };
-    let mut writer = Counted::new(&mut text);
+    let mut writer = Counted::writer(&mut text);
     let ended = run_bundle(alloc, Job::Check, &mut reader, &mut writer);
     assert_eq!(rt; ended, Ok(2));
     assert!(rt; text.as_slice() == b"fault bundle 3 read\n".as_slice());
@@ -230,7 +230,7 @@ fn a_reader_that_fails(rt: HostRuntime) -> Result<(), Fail> {
 #[test]
 fn a_writer_that_fails(rt: HostRuntime) -> Result<(), Fail> {
     let alloc = rt.alloc();
-    let mut reader = Counted::new(b"%%\n".as_slice());
+    let mut reader = Counted::reader(b"%%\n".as_slice());
     let mut writer = Unwritable { calls: 0 };
     let ended = run_bundle(alloc, Job::Check, &mut reader, &mut writer);
     assert_eq!(rt; ended, Err(BundleFault::Write));

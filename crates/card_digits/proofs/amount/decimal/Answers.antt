@@ -1,5 +1,5 @@
-use Rattle.std.proofs.Common.{◌≤◌, ◌<◌, ◌-◌, ◌^◌, get_or, length, arith, sym, ◌∙◌}
-use Rattle.card_digits.proofs.Decimals.{IsDigitByte, digit_at, decimal_from-drop, below_more, fits_more}
+use Rattle.std.proofs.Common.{◌-◌, get_or, arith, sym, ◌∙◌}
+use Rattle.card_digits.proofs.Decimals.{digit_at, decimal_from-drop, below_more, fits_more}
 use Rattle.card_digits.proofs.amount.decimal.Goals as goal
 
 pub overflow_mul-value : goal.overflow_mul-value

@@ -1,4 +1,4 @@
-use Rattle.std.proofs.Common.{◌≡◌, ◌≤◌, ◌-◌, length, rules}
+use Rattle.std.proofs.Common.{◌≡◌, ◌≤◌, ◌-◌, length, arith, rules}
 use Rattle.card_digits.proofs.Known.{Consumes-trans}
 use Rattle.iso_message.proofs.FrameLemmas.{read_part, part_within}
 use Rattle.iso_message.proofs.frame.fill.Goals as goal
@@ -14,4 +14,6 @@ loop-done-preserved-in-Ok g c =
     record {
       within = part_within done c.in-Ok.n buffer part c.loop-done.invariant.within bound;
       taken = rw both (Consumes-trans _ _ _ _ _ c.loop-done.invariant.taken c.in-Ok.ensures.bytes.0);
+      left = omega arith;
+      spent = omega arith;
     }

@@ -1,11 +1,14 @@
-use Rattle.std.proofs.Common.{◌≤◌, take, length}
+use Rattle.std.proofs.Common.{◌≤◌, ◌-◌, take, length}
 use Rattle.std.specs.Io.KnownBytes.{Consumes}
+use Rattle.card_digits.specs.Stream.{TookTurns}
 use Rattle.iso_message.proofs.frame.fill.Given as goal
 
 abbrev pub invariant-loop-done : goal.invariant-loop-done
 invariant-loop-done g l = record {
   within : l.done ≤ length l.buffer;
   taken : Consumes (g.R.Source.remaining l.fn.reader) (g.R.Source.remaining l.reader) (take l.done l.buffer);
+  left : l.turns ≤ l.fn.turns;
+  spent : TookTurns (l.fn.turns - l.turns) (g.R.Source.turns l.fn.reader) (g.R.Source.turns l.reader);
 }
 
 abbrev pub decreases-loop-done : goal.decreases-loop-done

@@ -1,4 +1,4 @@
-use Rattle.std.proofs.Common.{length, length-take, lit<, arith}
+use Rattle.std.proofs.Common.{length-take, lit<, arith}
 use Rattle.card_digits.proofs.Within.{front_within}
 use Rattle.card_digits.proofs.prefix.Prefix.front.Goals as goal
 

@@ -1,4 +1,4 @@
-use Rattle.std.proofs.Common.{◌≡◌, length, min, take, ◌∙◌}
+use Rattle.std.proofs.Common.{◌≡◌, length, take, ◌∙◌}
 use Rattle.std.proofs.Math.Nat.{min_comm}
 use Rattle.std.proofs.lemmas.List.{take_min}
 use Rattle.card_digits.proofs.Within.{card_front}
