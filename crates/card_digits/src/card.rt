@@ -4,11 +4,14 @@ ghost use Rattle.std.specs.Prelude.{◌≡◌, ◌≤◌, length};
 use crate::prefix::Prefix;
 use crate::short_bytes::{ShortBytes, all_digits};
 use std::marker::Model;
+use thiserror::Error;
 
 /// Why bytes are no digits.
-#[derive(Clone, Copy, Debug, PartialEq, Eq)]
+#[derive(Clone, Copy, Debug, PartialEq, Eq, Error)]
 pub enum DigitFault {
+    #[error("a byte is no digit")]
     NotDigit,
+    #[error("a wrong number of digits")]
     Length,
 }
 

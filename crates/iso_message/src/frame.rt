@@ -4,21 +4,27 @@ ghost use Rattle.std.specs.Prelude.{◌≡◌, ◌≤◌, ◌<◌, ◌-◌, ◌�
 use byteorder::{BigEndian, ByteOrder};
 use card_digits::{ReadFault, Sink, Source, WriteFault, write_all};
 use std::alloc::{AllocError, Global};
+use thiserror::Error;
 
 /// The most turns that the reading of one frame takes: twice as many as it has bytes.
 const MOST_TURNS: u32 = 131_074;
 
 /// Why no frame was read or written.
-#[derive(Clone, Copy, Debug, PartialEq, Eq)]
+#[derive(Clone, Copy, Debug, PartialEq, Eq, Error)]
 pub enum FrameFault {
     /// The bytes end inside of a frame.
+    #[error("the bytes end inside of a frame")]
     Short,
     /// The reader failed, or the turns ran out.
+    #[error("no frame could be read")]
     Read,
+    #[error("no memory")]
     Memory,
     /// More bytes than a frame takes.
+    #[error("more bytes than a frame takes")]
     Long,
     /// The writer failed.
+    #[error("the frame could not be written")]
     Write,
 }
 

@@ -1,25 +1,35 @@
 //! Why a step is refused.
 
 use iso_message::DecodeFault;
+use thiserror::Error;
 
 /// Why a node refuses an input. The node and its trace stay as they were.
-#[derive(Clone, Copy, Debug, PartialEq, Eq)]
+#[derive(Clone, Copy, Debug, PartialEq, Eq, Error)]
 pub enum StepFault {
     /// The bytes are no message.
+    #[error(transparent)]
     Decode(DecodeFault),
     /// Entered for an acquirer that isn't attached to the node.
+    #[error("the acquirer is not attached to the node")]
     ForeignAcquirer,
     /// A required element is absent; 90 also where it names no request of the message's own acquirer.
+    #[error("element {0} is missing")]
     Missing(u8),
     /// A message type that isn't for this input.
+    #[error("a message type that is not for this input")]
     TypeNotForGate,
     /// A host's answer to an ask that was never made.
+    #[error("an answer to nothing that was asked")]
     UnknownAsk,
     /// A reversal with replacement amounts.
+    #[error("a reversal with replacement amounts")]
     Replacement,
     /// The trace has as many entries as it may.
+    #[error("the history is full")]
     HistoryFull,
+    #[error("no memory")]
     Memory,
     /// No place is left for an advice.
+    #[error("no place for an advice")]
     NoPlace,
 }

@@ -2,7 +2,6 @@
 #![tactic(auto)]
 
 mod circle;
-mod classes;
 mod maker;
 mod walk;
 

@@ -1,8 +1,7 @@
 //! Ranks for all classes.
-use crate::classes::classes;
 use crate::walk::{MOST_NODES, Routes, Stop, Walk};
 use card_digits::{NodeNo, Prefix};
-use net_rows::Tables;
+use net_rows::{Tables, classes};
 use rank_cert::Cert;
 use std::alloc::{AllocError, Global};
 

@@ -65,7 +65,10 @@ impl At<'_> {
     fn not_less_over(&self, node: NodeNo, link: LinkNo) -> Option<Refusal>
         ensures { result ≡ not_less_over self.now.tables.now self.now.cert.now self.now.class node link }
     {
-        match (self.rank(self.tables.other_end(node, link)), self.rank(node)) {
+        match (
+            self.rank(self.tables.other_end(node, link)),
+            self.rank(node),
+        ) {
             (Some(far), Some(own)) if far < own => None,
             _ => Some(Refusal::NotLess(node, self.class, link)),
         }
