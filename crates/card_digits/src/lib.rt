@@ -11,7 +11,7 @@ mod prefix;
 mod short_bytes;
 mod stream;
 
-pub use amount::{Amount, LinkNo, NodeNo};
+pub use amount::{Amount, LinkNo, NodeNo, decimal};
 pub use card::{Card, DigitFault, begins, begins_class, luhn};
 pub use cutting::cut;
 pub use date_label::DateLabel;

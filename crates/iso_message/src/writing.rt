@@ -30,17 +30,16 @@ pub(crate) fn text_of(kind: Kind) -> &'static [u8]
     }
 }
 
-const UPPER: [u8; 16] = *b"0123456789ABCDEF";
-
-/// Writes bytes as upper-case hexadecimal digits.
+/// Writes eight bytes as upper-case hexadecimal digits.
+#[tactic(auto, using(crate::proofs::HexDigits::in_upper_case))]
 fn push_hex(out: &mut Vec<u8>, bytes: &[u8]) -> Result<(), AllocError>
+    requires { length bytes.now ≡ 8 }
     ensures { OnOk result (out.new.items ≡ out.old.items ++ encode_upper bytes.now) }
 {
-    for byte in bytes {
-        out.push(UPPER[(*byte / 16) as usize])?;
-        out.push(UPPER[(*byte % 16) as usize])?;
-    }
-    Ok(())
+    let mut digits = [0; 16];
+    let _fits = hex::encode_to_slice(bytes, &mut digits);
+    digits.make_ascii_uppercase();
+    out.extend_from_slice(&digits)
 }
 
 pub(crate) fn push_map(out: &mut Vec<u8>, bits: u64) -> Result<(), AllocError>

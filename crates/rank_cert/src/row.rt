@@ -1,13 +1,10 @@
 //! A row as a line of the text.
-ghost use Rattle.std.specs.Prelude.{◌≡◌, ◌≤◌, IfSome, MatchOption, Some, None, true, length};
-ghost use Rattle.std.specs.Char.{is_ascii_digit};
-ghost use Rattle.std.specs.List.{list_all};
-ghost use Rattle.card_digits.specs.Numbers.{decimal};
+ghost use Rattle.std.specs.Prelude.{◌≡◌, IfSome, MatchOption, Some, None};
 ghost use Rattle.rank_cert.specs.Ranks.{IsRow};
 ghost use Rattle.rank_cert.specs.Reading.{fields, three, row_of, number_of};
 
 use crate::cert::Rank;
-use card_digits::{Name, Prefix, all_digits, cut};
+use card_digits::{Name, Prefix, all_digits, cut, decimal};
 
 /// The fields of a line, as text.
 #[derive(Clone, Copy, Debug)]
@@ -49,17 +46,4 @@ fn number_of(text: &[u8]) -> Option<u16>
         return None;
     }
     u16::try_from(decimal(text)).ok()
-}
-
-/// The number that at most five digits write.
-fn decimal(text: &[u8]) -> u32
-    requires digits { list_all is_ascii_digit text.now ≡ true }
-    requires few { length text.now ≤ 5 }
-    ensures { result ≡ decimal text.now }
-{
-    let mut value = 0u32;
-    for byte in text {
-        value = value * 10 + (*byte - b'0') as u32;
-    }
-    value
 }

@@ -1,0 +1,34 @@
+//! Nodes and links of tables that were read.
+use card_digits::{LinkNo, NodeNo};
+use net_tables::{Tables, read_tables};
+use std::alloc::Global;
+use std::test::Fail;
+
+/// Three nodes, each linked to the other two.
+const TABLES: &[u8] =
+    b"[network]\ncurrency = \"840\"\ndate = \"0314\"\nhost_ticks = 100\nadvice_ticks = 50\n[[node]]\nname = \"A\"\nid = \"1001\"\n[[node]]\nname = \"B\"\nid = \"1003\"\n[[node]]\nname = \"H\"\nid = \"1002\"\n[[link]]\nname = \"AB\"\nends = [\"A\", \"B\"]\nticks = 3\n[[link]]\nname = \"BH\"\nends = [\"B\", \"H\"]\nticks = 3\n[[link]]\nname = \"AH\"\nends = [\"A\", \"H\"]\nticks = 3\n[[acquirer]]\nid = \"400001\"\nnode = \"A\"\n[[issuer]]\nname = \"I\"\nprefix = \"4\"\nhome = \"H\"\nnamed = [\"A\", \"B\"]\nceiling = 500\n[[issuer]]\nname = \"J\"\nprefix = \"411111\"\nhome = \"B\"\nnamed = []\nceiling = 0\n[[route]]\nnode = \"A\"\nprefix = \"4\"\nlinks = [\"AH\", \"AB\"]\n[[route]]\nnode = \"A\"\nprefix = \"411111\"\nlinks = [\"AB\"]\n[[route]]\nnode = \"B\"\nprefix = \"4\"\nlinks = [\"BH\"]\n[[stand_in]]\nnode = \"A\"\nprefix = \"4\"\nday = 300\nsingle = 50\n[[stand_in]]\nnode = \"B\"\nprefix = \"4\"\nday = 200\nsingle = 40\n[[stand_in]]\nnode = \"A\"\nprefix = \"411111\"\nday = 0\nsingle = 0\n[[stand_in]]\nnode = \"B\"\nprefix = \"411111\"\nday = 0\nsingle = 0\n";
+
+fn read(alloc: Global, text: &[u8]) -> Result<Tables, Fail> {
+    Ok(read_tables(alloc, text).ok().ok_or("tables")?)
+}
+
+fn tables(alloc: Global) -> Result<Tables, Fail> {
+    read(alloc, TABLES)
+}
+
+fn node(tables: &Tables, name: &[u8]) -> Result<NodeNo, Fail> {
+    Ok(tables.node_of(name).ok_or("node")?)
+}
+
+#[test]
+fn nodes_and_links(rt: HostRuntime) -> Result<(), Fail> {
+    let tables = tables(rt.alloc())?;
+    let (a, b) = (node(&tables, b"A")?, node(&tables, b"B")?);
+    assert_eq!(rt; a.place(), 0);
+    assert_eq!(rt; b.place(), 1);
+    assert!(rt; tables.node_of(b"C").is_none());
+    assert_eq!(rt; tables.other_end(a, LinkNo::new(0)), b);
+    assert_eq!(rt; tables.other_end(b, LinkNo::new(0)), a);
+    assert_eq!(rt; tables.other_end(a, LinkNo::new(9)), a);
+    Ok(())
+}
