@@ -3,7 +3,7 @@ use Rattle.std.proofs.Common.{◌≡◌, ℕ, ◌+◌, ◌≤◌, List, [], ◌�
 use Rattle.std.proofs.lemmas.Bool.{or_cases, cond_both}
 use Rattle.std.specs.List.{list_any}
 use Rattle.net_rows.specs.Network.{Network, issuer}
-use Rattle.network_law.specs.Traces.{ReadInput, Enter, Take, LinkUp, LinkDown, Tick, HostAnswer, NewDate, Advice, has_identity, add_advice, acked_by, home_is, is_at_home, IsIn}
+use Rattle.network_law.specs.Traces.{ReadInput, Enter, Take, LinkUp, LinkDown, Tick, HostAnswer, NewDate, TakePacket, Lend, Advice, has_identity, add_advice, acked_by, home_is, is_at_home, IsIn}
 use Rattle.network_law.proofs.Provenance.{in_acked, any_in}
 use Rattle.network_law.proofs.Chain.{same_card}
 use Rattle.iso_message.proofs.Equality.{identity_eq_refl, identity_eq_is}
@@ -96,6 +96,8 @@ in_acked_back i a (b ∷ as') m = ⊎_elim (λ e. (acked_by i b, inl refl, acked
     acked_message Tick b = refl
     acked_message (HostAnswer c d) b = refl
     acked_message (NewDate d) b = refl
+    acked_message (TakePacket lk sr pk) b = refl
+    acked_message (Lend br cd dt am) b = refl
 
 pub accounts_acked : (t : Network) (n : ℕ) (i : ReadInput) (as' : List Advice) (ps : List Fields) (us : List (ℕ × Fields)) → Accounts t n as' ps us → Accounts t n (map (acked_by i) as') ps us
 accounts_acked t n i as' ps us q = record {

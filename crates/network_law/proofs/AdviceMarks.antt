@@ -6,7 +6,7 @@ use Rattle.std.specs.Option.{option_or, option_and_then}
 use Rattle.std.specs.List.{list_any}
 use Rattle.net_rows.specs.Network.{Network}
 use Rattle.network_law.specs.Tables.{node_id}
-use Rattle.network_law.specs.Traces.{Source, Gate, ByLink, ReadInput, Enter, Take, LinkUp, LinkDown, Tick, HostAnswer, NewDate, ReadOutput, Put, Post, In, Out, History, Handled, handled, Opening, opening, answer, answers, sent, has_00, is_00_of, brings_00, own_approval, Advice, advices, add_advice, add_made, acked_by, has_identity, late_key, failed_key, is_ok_ack, is_advice_group, is_ack_kind, as_kept, count_of, IsIn}
+use Rattle.network_law.specs.Traces.{Source, Gate, ByLink, ReadInput, Enter, Take, LinkUp, LinkDown, Tick, HostAnswer, NewDate, TakePacket, Lend, ReadOutput, Put, Post, In, Out, History, Handled, handled, Opening, opening, answer, answers, sent, has_00, is_00_of, brings_00, own_approval, Advice, advices, add_advice, add_made, acked_by, has_identity, late_key, failed_key, is_ok_ack, is_advice_group, is_ack_kind, as_kept, count_of, IsIn}
 use Rattle.network_law.specs.Decision.{sent_kind}
 use Rattle.network_law.proofs.Emits.{handled_as, is_kept_group, key_eq_is, bytes_eq_is}
 use Rattle.network_law.proofs.Node.{NodeFacts, answer_is, answers_is, response_is_of_kind, answer_no_request, OpensNow, opening_in_cases}
@@ -273,6 +273,8 @@ request_brings_none t past h (LinkDown l) m src e r = refl
 request_brings_none t past h Tick m src e r = refl
 request_brings_none t past h (HostAnswer a c) m src e r = absurd (none_some _ e)
 request_brings_none t past h (NewDate d) m src e r = refl
+request_brings_none t past h (TakePacket lk sr pk) m src e r = refl
+request_brings_none t past h (Lend br cd dt am) m src e r = refl
 
 -- what isn't open is not answered
 pub unopened : {t : Network} {n : ℕ} {past : History} → LateFacts t n past → (k : Key) → opening t past k ≡ None → answer past k ≡ None
@@ -333,6 +335,8 @@ gate_brings_none t past (LinkDown l) as' m e = refl
 gate_brings_none t past Tick as' m e = refl
 gate_brings_none t past (HostAnswer a c) as' m e = absurd (none_some _ e)
 gate_brings_none t past (NewDate d) as' m e = refl
+gate_brings_none t past (TakePacket lk sr pk) as' m e = refl
+gate_brings_none t past (Lend br cd dt am) as' m e = refl
 
 -- no key stands twice
 abbrev pub NoRepeat : List Key → Type 0

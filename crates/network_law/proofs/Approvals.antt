@@ -3,14 +3,14 @@ use Rattle.std.proofs.Common.{◌≡◌, ℕ, zero, suc, ◌<◌, List, [], ◌�
 use Rattle.std.proofs.lemmas.Bool.{and_parts, or_cases, or_right}
 use Rattle.std.proofs.lemmas.Option.{same_Some}
 use Rattle.net_rows.specs.Network.{Network, other_end}
-use Rattle.network_law.specs.Traces.{ReadInput, Enter, Take, LinkUp, LinkDown, Tick, HostAnswer, NewDate, ReadOutput, Put, Event, In, Out, History, Handled, handled, Opening, opening, sent, has_00, is_00_of, brings_00, key_of_00, own_approval, Approval, approval_by, approval_of, approvals, ask_key, is_key, forwarded, IsIn, Has}
+use Rattle.network_law.specs.Traces.{ReadInput, Enter, Take, LinkUp, LinkDown, Tick, HostAnswer, NewDate, TakePacket, Lend, ReadOutput, Put, Event, In, Out, History, Handled, handled, Opening, opening, sent, has_00, is_00_of, brings_00, key_of_00, own_approval, Approval, approval_by, approval_of, approvals, ask_key, is_key, forwarded, IsIn, Has}
 use Rattle.network_law.specs.Decision.{decide, sent_kind}
 use Rattle.network_law.specs.Refusals.{refusal}
 use Rattle.network_law.specs.Entries.{ReadEntry, read_history}
 use Rattle.network_law.proofs.ReadRuns.{IsFormed, IsLegalRead, IsReadRun}
 use Rattle.network_law.specs.Checked.{Ranks, IsRanked, IsChecked}
 use Rattle.network_law.specs.Claims.{LeadsToApproval, ApprovalsLead}
-use Rattle.network_law.proofs.Emits.{Allowed, forwarding, asking, standing_in, passing, declining, repeating, refusing, acking, sending, posting, OpenedFirst, Failed, ViaLink, ViaHost, decide_keeps, key_eq_is, bytes_eq_is, stays_open}
+use Rattle.network_law.proofs.Emits.{Allowed, forwarding, asking, standing_in, passing, declining, repeating, refusing, acking, sending, posting, putting_packet, OpenedFirst, Failed, ViaLink, ViaHost, decide_keeps, key_eq_is, bytes_eq_is, stays_open}
 use Rattle.network_law.proofs.Node.{NodeFacts, OpensNow, opening_in_cases, legal_facts, facts_out, keeps_issuers, answer_no_request, answer_is, response_is_of_kind, forwarded_has}
 use Rattle.network_law.proofs.Elements.{response_key}
 use Rattle.network_law.proofs.Used.{OwnFacts, Stood, own_case, own_in_entry, has_00_more, brings_more, ask_key_more, answer_has_00, reply_message, response_code, acked_kind, advice_no_answer}
@@ -155,6 +155,10 @@ came_case t n past h o k l s m x facts allowed ans is x00 none = go allowed
     go (sending f) =
         let same : as_kind (sent_kind (is_04xx f.message.kind) f.again) f.message ≡ x = same_Some _ _ (ap sent (sym f.is) ∙ is) in
         ends (is_answer x.kind) x00.answer_kind (ap (λ z. is_answer (Fields.kind z)) (sym same) ∙ advice_no_answer (is_04xx f.message.kind) f.again)
+    go (putting_packet f) = absurd (bad (ap sent (sym f.is) ∙ is))
+      where
+        bad : None ≡ Some x → ⊥
+        bad p = cc
     go (posting f) = absurd (bad (ap sent (sym f.is) ∙ is))
       where
         bad : None ≡ Some x → ⊥
@@ -191,6 +195,8 @@ first_00 t n past i h o k q allowed none e = go (brings_00 h k i) refl
     brought (LinkDown l) is b = absurd (not_both false b refl)
     brought Tick is b = absurd (not_both false b refl)
     brought (NewDate d) is b = absurd (not_both false b refl)
+    brought (TakePacket lk sr pk) is b = absurd (not_both false b refl)
+    brought (Lend br cd dt am) is b = absurd (not_both false b refl)
 
     go : (b : Bool) → brings_00 h k i ≡ b → Origin t (Out i o ∷ h) k
     go true at = brought i refl at

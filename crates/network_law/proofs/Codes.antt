@@ -5,19 +5,20 @@ use Rattle.std.proofs.lemmas.Option.{same_Some}
 use Rattle.card_digits.specs.Numbers.{decimal}
 use Rattle.net_rows.specs.Network.{Network, other_end, day}
 use Rattle.network_law.specs.Tables.{is_attached, single}
-use Rattle.network_law.specs.Traces.{Source, Gate, ByLink, ReadInput, Enter, Take, ReadOutput, Put, Ask, Post, Event, In, Out, History, Opening, opening, answer, answers, sent, Has}
-use Rattle.network_law.specs.Decision.{decide, reply_output, sent_kind, standin_code, code_by_limits, same_source}
+use Rattle.network_law.specs.Grants.{Packet}
+use Rattle.network_law.specs.Traces.{Source, Gate, ByLink, ReadInput, Enter, Take, ReadOutput, Put, Ask, Post, PutPacket, Event, In, Out, History, Opening, opening, answer, answers, sent, Has}
+use Rattle.network_law.specs.Decision.{limit, decide, reply_output, sent_kind, standin_code, code_by_limits, same_source}
 use Rattle.network_law.specs.Refusals.{refusal}
 use Rattle.network_law.specs.Entries.{ReadEntry, read_history}
 use Rattle.network_law.proofs.ReadRuns.{IsFormed, IsLegalRead, IsReadRun}
 use Rattle.network_law.specs.Claims.{is_response, IsForward}
 use Rattle.network_law.specs.Checked.{Ranks, IsRanked, IsChecked}
-use Rattle.network_law.proofs.Emits.{Allowed, forwarding, asking, standing_in, passing, declining, repeating, refusing, acking, sending, posting, handled_as, decide_keeps, from_link, stays_open, bytes_eq_refl}
+use Rattle.network_law.proofs.Emits.{Allowed, forwarding, asking, standing_in, passing, declining, repeating, refusing, acking, sending, posting, putting_packet, handled_as, decide_keeps, from_link, stays_open, bytes_eq_refl}
 use Rattle.network_law.proofs.Node.{NodeFacts, EntryFacts, legal_facts, facts_in, facts_out, keeps_issuers}
 use Rattle.network_law.proofs.Elements.{code_response}
 use Rattle.network_law.proofs.Chain.{OpenedByThatPut_holds}
 use Rattle.network_law.proofs.Ends.{legal_at, back, histories}
-use Rattle.network_law.specs.Cards.{Bytes, card_of}
+use Rattle.network_law.specs.Cards.{label_of, Bytes, card_of}
 use Rattle.iso_message.specs.Fields.{Fields, el}
 use Rattle.iso_message.specs.Groups.{is_request, is_answer, is_reversal, is_04xx}
 use Rattle.card_digits.specs.declared.key.Key.{Key}
@@ -62,7 +63,7 @@ code_limits_not_94 day single currency u m amount =
 
 pub standin_not_94 : (t : Network) (n : ℕ) (h : History) (m : Fields) → bytes_eq (standin_code t n h m) code_94 ≡ false
 unfolding standin_code
-standin_not_94 t n h m = code_limits_not_94 (day t n (card_of m)) (single t n (card_of m)) t.settings.currency _ m (decimal (el m 4))
+standin_not_94 t n h m = code_limits_not_94 (limit t n h (card_of m) (label_of m)) (single t n (card_of m)) t.settings.currency _ m (decimal (el m 4))
 
 pub reply_put : (src : Source) (m : Fields) (h : History) (l s : ℕ) (x : Fields) → reply_output src m h ≡ Put l s x → (src ≡ ByLink l) × (m ≡ x)
 reply_put Gate m h l s x e = cc
@@ -122,6 +123,9 @@ refused_now t n past i h o l s m facts input allowed e r c = go allowed
     no_post : {x : Fields} → Post x ≡ Put l s m → ⊥
     no_post p = cc
 
+    no_packet : {a b : ℕ} {p : Packet} → PutPacket a b p ≡ Put l s m → ⊥
+    no_packet p = cc
+
     go : Allowed t n past i h o → Refused t n h l
     go (forwarding f) = absurd (not_both (is_response m.kind) r (ap (λ z. is_response (Fields.kind z)) (sym (put_message (sym f.is ∙ e)))))
     go (asking f) = absurd (no_ask (sym f.is ∙ e))
@@ -139,6 +143,7 @@ refused_now t n past i h o l s m facts input allowed e r c = go allowed
     go (acking f) = absurd (of_code f.message f.code (reply_put f.source _ h l s m (sym f.is ∙ e)).1 f.not_94)
     go (sending f) = absurd (not_both (is_response m.kind) r (ap (λ z. is_response (Fields.kind z)) (sym (put_message (sym f.is ∙ e))) ∙ advice_no_response (is_04xx f.message.kind) f.again))
     go (posting f) = absurd (no_post (sym f.is ∙ e))
+    go (putting_packet f) = absurd (no_packet (sym f.is ∙ e))
 
 codes_decide : (t : Network) (n : ℕ) (past : History) (i : ReadInput) → IsFormed i → refusal t n past i ≡ None → NodeFacts t n past → RefusesOnly t n past → RefusesOnly t n (decide t n past i)
 unfolding opening

@@ -1,5 +1,5 @@
 -- What an entry may put out, case by case; and that the decision puts out nothing else.
-use Rattle.std.proofs.Common.{◌≡◌, ℕ, suc, ◌+◌, List, [], ◌∷◌, ◌++◌, find, filter, nat_lt, eqb, reverse, Option, Some, None, is_some, is_none, Bool, true, false, cond, not, ◌&&◌, refl, ap, ◌∙◌, subst, inl, inr, ⊎_elim, ◌⊎◌, bytes_eq}
+use Rattle.std.proofs.Common.{◌≡◌, ℕ, suc, ◌+◌, List, [], ◌∷◌, ◌++◌, find, filter, map, length, nat_lt, eqb, reverse, Option, Some, None, is_some, is_none, Bool, true, false, cond, not, ◌&&◌, refl, ap, ◌∙◌, subst, inl, inr, ⊎_elim, ◌⊎◌, bytes_eq}
 use Rattle.std.proofs.lemmas.Bool.{cond_both, and_parts, not-true, eqb-true, or_right}
 use Rattle.std.proofs.lemmas.Option.{same_Some}
 use Rattle.std.proofs.lemmas.Slice.Eq.{bytes_eq-Decides}
@@ -7,9 +7,10 @@ use Rattle.std.specs.Option.{option_or}
 use mathlib.Core.List.{reverse-cons}
 use Rattle.net_rows.specs.Network.{Network, issuer}
 use Rattle.net_rows.specs.declared.row.Issuer.{Issuer}
-use Rattle.network_law.specs.Tables.{is_home, node_id, route_links}
-use Rattle.network_law.specs.Traces.{Source, Gate, ByLink, ReadInput, Enter, Take, LinkUp, LinkDown, Tick, HostAnswer, NewDate, ReadOutput, Put, Answer, Ask, Post, In, Out, History, count_of, ask_count, ask_key, Handled, handled, Opening, opening, opened, answer, pending, forwarded, fails, Advice, advices, known, stored, as_kept, is_at_home, brings_00, is_link, comes_late, ticks_by, is_due_at, asked, asks, key_asked, is_timer, was_put, reversed, load, is_up, IsIn}
-use Rattle.network_law.specs.Decision.{decide, advice_due, reply, reply_output, next_put, emit, keep, send, send_by, own_way, sent_kind, standin, standin_code, fail, fail_all, send_all, failing, due_advices, on_request, on_issuer, on_forward, on_repeat, on_reversal, on_advice, on_answer, on_host, on_code, on_group, on_handled, same_source, first_up, as_code, answer_pending, other_content}
+use Rattle.network_law.specs.Tables.{is_home, node_id, route_links, links_between}
+use Rattle.network_law.specs.Traces.{Source, Gate, ByLink, ReadInput, Enter, Take, LinkUp, LinkDown, Tick, HostAnswer, NewDate, TakePacket, Lend, ReadOutput, Put, Answer, Ask, Post, PutPacket, In, Out, History, count_of, put_count, ask_count, ask_key, Handled, handled, Opening, opening, opened, answer, pending, forwarded, fails, Advice, advices, known, Lent, grants, as_kept, is_at_home, brings_00, is_link, comes_late, ticks_by, is_due_at, asked, asks, key_asked, is_timer, was_put, reversed, load, is_up, IsIn}
+use Rattle.network_law.specs.Grants.{Grant, Packet, Granting, Received}
+use Rattle.network_law.specs.Decision.{Due, DueAdvice, DueGrant, grants_made_after, in_order, is_sent_again, is_due_again, send_grant, send_grant_by, send_newest, on_packet, decide, reply, reply_output, next_put, emit, keep, send, send_by, own_way, sent_kind, standin, standin_code, fail, fail_all, send_all, failing, on_request, on_issuer, on_forward, on_repeat, on_reversal, on_advice, on_answer, on_host, on_code, on_group, on_handled, same_source, first_up, as_code, answer_pending, other_content}
 use Rattle.network_law.specs.Cards.{Bytes, is_good_card, card_of}
 use Rattle.network_law.specs.Entries.{IsCode}
 use Rattle.iso_message.specs.Fields.{Fields, el, as_kind}
@@ -229,6 +230,13 @@ pub record Posting (t : Network) (n : ℕ) (past : History) (i : ReadInput) (h :
   pub unknown : known t n past (identity_of message) ≡ false
   pub is : o ≡ Post message
 
+-- a grant that the node made is put on a link, or a taken one is acknowledged
+pub record PuttingPacket (t : Network) (n : ℕ) (past : History) (i : ReadInput) (h : History) (o : ReadOutput) : Type 0 where
+  pub link : ℕ
+  pub packet : Packet
+  pub from : ((g : Lent) × IsIn g (grants t n (In i ∷ past)) × (packet ≡ Granting g.grant)) ⊎ ((l : ℕ) × (s : ℕ) × (g : Grant) × (i ≡ TakePacket l s (Granting g)) × (packet ≡ Received g.lender g.number))
+  pub is : o ≡ PutPacket link (suc (put_count h link)) packet
+
 pub data Allowed (t : Network) (n : ℕ) (past : History) (i : ReadInput) (h : History) (o : ReadOutput) : Type 0 where
   forwarding : Forwarding t n past i h o → Allowed t n past i h o
   asking : Asking t n past i h o → Allowed t n past i h o
@@ -240,6 +248,7 @@ pub data Allowed (t : Network) (n : ℕ) (past : History) (i : ReadInput) (h : H
   acking : Acking t n past i h o → Allowed t n past i h o
   sending : Sending t n past i h o → Allowed t n past i h o
   posting : Posting t n past i h o → Allowed t n past i h o
+  putting_packet : PuttingPacket t n past i h o → Allowed t n past i h o
 
 -- small facts
 
@@ -342,6 +351,8 @@ from_link t past (LinkDown k) m l e = cc
 from_link t past Tick m l e = cc
 from_link t past (HostAnswer a c) m l e = cc
 from_link t past (NewDate d) m l e = cc
+from_link t past (TakePacket lk sr pk) m l e = cc
+from_link t past (Lend br cd dt am) m l e = cc
 
 -- what is pending at a link, at a tick or at the host has an issuer
 abbrev pub Issued : Network → Fields → Type 0
@@ -359,6 +370,8 @@ handled_no_timer t past (LinkDown k) m src e = cc
 handled_no_timer t past Tick m src e = cc
 handled_no_timer t past (HostAnswer a c) m src e = refl
 handled_no_timer t past (NewDate d) m src e = refl
+handled_no_timer t past (TakePacket lk sr pk) m src e = refl
+handled_no_timer t past (Lend br cd dt am) m src e = refl
 
 advice_no_reversal : (k : Kind) → group k ≡ groups.StandInAdvice → is_reversal k ≡ true → ⊥
 advice_no_reversal K0100 e r = cc
@@ -401,6 +414,7 @@ ask_key_asked (Out i o ∷ h) a k e = ⊎_elim (λ was. rw (ask_key_asked h a k 
     here (Put l s m) f = cc
     here (Answer m) f = cc
     here (Post m) f = cc
+    here (PutPacket l s p) f = cc
 
 pub via_ticks : (t : Network) (past : History) (i : ReadInput) (k : Key) → Via t past i k → is_some (ticks_by t (forwarded past k) (asked past k)) ≡ true
 via_ticks t past i k (inl v) = rw v.forwarded_on refl
@@ -409,6 +423,11 @@ via_ticks t past i k (inr v) = go (forwarded past k)
     go : (w : Option ℕ) → is_some (ticks_by t w (asked past k)) ≡ true
     go None = rw (ask_key_asked past v.ask k v.key_asked) refl
     go (Some l) = refl
+
+-- what is due comes from what is kept and lent
+abbrev pub IsDueFrom : Network → ℕ → History → ReadInput → Due → Type 0
+IsDueFrom t n past i (DueAdvice a) = IsIn a (advices t n past) × (is_at_home t n a.message ≡ false)
+IsDueFrom t n past i (DueGrant g) = IsIn g (grants t n (In i ∷ past))
 
 module _ (t : Network) (n : ℕ) (past : History) (i : ReadInput) (Q : History → Type 0) (close : (h : History) (o : ReadOutput) → Q h → Allowed t n past i h o → Q (Out i o ∷ h)) where
   pub send_keeps : (x : Fields) (h : History) → Kept t n past i h x → is_at_home t n x ≡ false → Q h → Q (send t n i x h)
@@ -445,10 +464,27 @@ module _ (t : Network) (n : ℕ) (past : History) (i : ReadInput) (Q : History �
   fail_all_keeps [] h timer ticks issued q = q
   fail_all_keeps (k ∷ ks) h timer ticks issued q = fail_all_keeps ks (fail t n past i (opening t past k) h) timer (λ j m. ticks j (inr m)) issued (fail_keeps k (opening t past k) h timer refl (ticks k (inl refl)) (λ op e. issued k op e (ticks k (inl refl)).0) q)
 
-  pub send_all_keeps : (as' : List Advice) (h : History) → ((a : Advice) → IsIn a as' → IsIn a (advices t n past) × (is_at_home t n a.message ≡ false)) → Q h → Q (send_all t n i as' h)
+  pub send_grant_keeps : (g : Lent) (h : History) → IsIn g (grants t n (In i ∷ past)) → Q h → Q (send_grant t n i g h)
+  unfolding send_grant
+  send_grant_keeps g h from q = go (first_up h (links_between t n g.borrower))
+    where
+      go : (w : Option ℕ) → Q (send_grant_by i g w h)
+      go None = q
+      go (Some l) = close h (PutPacket l (suc (put_count h l)) (Granting g.grant)) q (putting_packet (record { link = l; packet = Granting g.grant; from = inl (g, from, refl); is = refl }))
+
+  pub newest_keeps : (gs : List Lent) (h : History) → ((g : Lent) → IsIn g gs → IsIn g (grants t n (In i ∷ past))) → Q h → Q (send_newest t n i gs h)
+  newest_keeps [] h from q = q
+  newest_keeps (g ∷ gs) h from q = send_grant_keeps g h (from g (inl refl)) q
+
+  pub packet_keeps : (l s : ℕ) (p : Packet) → i ≡ TakePacket l s p → Q (In i ∷ past) → Q (on_packet i l p (In i ∷ past))
+  packet_keeps l s (Granting g) is q = close (In i ∷ past) (PutPacket l (suc (put_count (In i ∷ past) l)) (Received g.lender g.number)) q (putting_packet (record { link = l; packet = Received g.lender g.number; from = inr (l, s, g, is, refl); is = refl }))
+  packet_keeps l s (Received lender number) is q = q
+
+  pub send_all_keeps : (xs : List Due) (h : History) → ((x : Due) → IsIn x xs → IsDueFrom t n past i x) → Q h → Q (send_all t n i xs h)
   unfolding send_all
   send_all_keeps [] h from q = q
-  send_all_keeps (a ∷ as') h from q = send_all_keeps as' (send t n i a.message h) (λ b m. from b (inr m)) (send_keeps a.message h (due a (from a (inl refl)).0 refl) (from a (inl refl)).1 q)
+  send_all_keeps (DueAdvice a ∷ xs) h from q = send_all_keeps xs (send t n i a.message h) (λ b m. from b (inr m)) (send_keeps a.message h (due a (from (DueAdvice a) (inl refl)).0 refl) (from (DueAdvice a) (inl refl)).1 q)
+  send_all_keeps (DueGrant g ∷ xs) h from q = send_all_keeps xs (send_grant t n i g h) (λ b m. from b (inr m)) (send_grant_keeps g h (from (DueGrant g) (inl refl)) q)
 
   declines : (m : Fields) (src : Source) (c : Bytes) → IsCode c → handled_as t past i m src → is_request m.kind ≡ true → opening t past (key_of m) ≡ None → bytes_eq c code_00 ≡ false → bytes_eq c code_94 ≡ false → Q (In i ∷ past) → Q (reply i src (response m c) (In i ∷ past))
   declines m src c written e r f n00 n94 q = close (In i ∷ past) (reply_output src (response m c) (In i ∷ past)) q (declining (record { op = opening_now past i m src; code = c; opens = record { key = key_of m; is = opens_now t past i m src e r f }; is_code = written; not_00 = n00; not_94 = n94; how = inl (record { fresh = f; first = refl; no_timer = handled_no_timer t past i m src e }); is = refl }))
@@ -612,6 +648,8 @@ failing_ticks t past i k m = (let f = in_filter (fails t past i) (reverse (opene
     ticks (LinkUp l) f = cc
     ticks (HostAnswer a c) f = cc
     ticks (NewDate d) f = cc
+    ticks (TakePacket lk sr pk) f = cc
+    ticks (Lend br cd dt am) f = cc
 
 pub filtered_in : {X : Type 0} (p : X → Bool) (xs : List X) (x : X) → IsIn x (filter p xs) → IsIn x xs
 filtered_in p [] x m = m
@@ -629,12 +667,35 @@ pub in_reverse : {X : Type 0} (xs : List X) (x : X) → IsIn x (reverse xs) → 
 in_reverse [] x m = m
 in_reverse (y ∷ ys) x m = ⊎_elim (λ a. inr (in_reverse ys x a)) (λ b. ⊎_elim inl (λ c. absurd c) b) (in_append (reverse ys) (y ∷ []) x (subst (IsIn x) (reverse-cons y ys) m))
 
-pub due_from : (t : Network) (n : ℕ) (past : History) (a : Advice) → IsIn a (due_advices t n past) → IsIn a (advices t n past) × (is_at_home t n a.message ≡ false)
-unfolding due_advices stored
-due_from t n past a m =
-    let b = filtered_in (advice_due t.settings.advice_ticks (suc (count_of past))) _ a m in
-    let c = in_reverse (filter (λ a. not a.acked && not (is_at_home t n a.message)) (advices t n past)) a b in
-    (filtered_in _ (advices t n past) a c, not-true _ ((and_parts _ _ (in_filter (λ a. not a.acked && not (is_at_home t n a.message)) (advices t n past) a c)).1))
+-- what is due is kept or lent
+
+abbrev FromOrder : List Advice → List Lent → Due → Type 0
+FromOrder as' gs (DueAdvice a) = IsIn a as'
+FromOrder as' gs (DueGrant g) = IsIn g gs
+
+grants_from : (as' : List Advice) (all gs : List Lent) (x : Due) → ((g : Lent) → IsIn g gs → IsIn g all) → IsIn x (map DueGrant gs) → FromOrder as' all x
+grants_from as' all [] x each m = absurd m
+grants_from as' all (g ∷ gs) x each m = ⊎_elim (λ e. subst (FromOrder as' all) e (each g (inl refl))) (λ below. grants_from as' all gs x (λ y w. each y (inr w)) below) m
+
+made_after_from : (as' : List Advice) (k : ℕ) (gs : List Lent) (x : Due) → IsIn x (grants_made_after k gs) → FromOrder as' gs x
+made_after_from as' k gs x m = grants_from as' gs (filter (λ g. eqb g.advices k) gs) x (λ g w. filtered_in (λ g. eqb g.advices k) gs g w) m
+
+order_older : (a : Advice) (as' : List Advice) (gs : List Lent) (x : Due) → FromOrder as' gs x → FromOrder (a ∷ as') gs x
+order_older a as' gs (DueAdvice b) m = inr m
+order_older a as' gs (DueGrant g) m = m
+
+order_from : (as' : List Advice) (gs : List Lent) (x : Due) → IsIn x (in_order as' gs) → FromOrder as' gs x
+order_from [] gs x m = made_after_from [] 0 gs x m
+order_from (a ∷ as') gs x m = ⊎_elim (λ w. made_after_from (a ∷ as') (suc (length as')) gs x w) (λ w. ⊎_elim (λ e. subst (FromOrder (a ∷ as') gs) e (inl refl)) (λ below. order_older a as' gs x (order_from as' gs x below)) w)
+    (in_append (grants_made_after (suc (length as')) gs) (DueAdvice a ∷ in_order as' gs) x m)
+
+pub due_from : (t : Network) (n : ℕ) (past : History) (x : Due) → IsIn x (Rattle.network_law.specs.Decision.due t n past) → IsDueFrom t n past Tick x
+unfolding Rattle.network_law.specs.Decision.due grants
+due_from t n past x m = go x (order_from (advices t n past) (grants t n past) x (in_reverse (in_order (advices t n past) (grants t n past)) x (filtered_in (is_sent_again t n (suc (count_of past))) (reverse (in_order (advices t n past) (grants t n past))) x m))) (in_filter (is_sent_again t n (suc (count_of past))) (reverse (in_order (advices t n past) (grants t n past))) x m)
+  where
+    go : (x : Due) → FromOrder (advices t n past) (grants t n past) x → is_sent_again t n (suc (count_of past)) x ≡ true → IsDueFrom t n past Tick x
+    go (DueAdvice a) from e = (from, not-true _ ((and_parts (not a.acked) (not (is_at_home t n a.message)) (and_parts (not a.acked && not (is_at_home t n a.message)) (is_due_again t.settings.advice_ticks (suc (count_of past)) a.count) e).0).1))
+    go (DueGrant g) from e = from
 
 -- the decision keeps what its input and each allowed output keep
 pub decide_keeps : (t : Network) (n : ℕ) (past : History) (i : ReadInput) (Q : History → Type 0) → ((h : History) (o : ReadOutput) → Q h → Allowed t n past i h o → Q (Out i o ∷ h)) → KeepsIssuers t past → Q (In i ∷ past) → Q (decide t n past i)
@@ -643,6 +704,8 @@ decide_keeps t n past (Enter m) Q close keeps q = handled_keeps t n past (Enter 
 decide_keeps t n past (Take l s m) Q close keeps q = handled_keeps t n past (Take l s m) Q close (handled t past (Take l s m)) refl q
 decide_keeps t n past (LinkUp l) Q close keeps q = q
 decide_keeps t n past (LinkDown l) Q close keeps q = fail_all_keeps t n past (LinkDown l) Q close (failing t past (LinkDown l)) (In (LinkDown l) ∷ past) refl (failing_ticks t past (LinkDown l)) keeps q
-decide_keeps t n past Tick Q close keeps q = fail_all_keeps t n past Tick Q close (failing t past Tick) (send_all t n Tick (due_advices t n past) (In Tick ∷ past)) refl (failing_ticks t past Tick) keeps (send_all_keeps t n past Tick Q close (due_advices t n past) (In Tick ∷ past) (due_from t n past) q)
+decide_keeps t n past Tick Q close keeps q = fail_all_keeps t n past Tick Q close (failing t past Tick) (send_all t n Tick (Rattle.network_law.specs.Decision.due t n past) (In Tick ∷ past)) refl (failing_ticks t past Tick) keeps (send_all_keeps t n past Tick Q close (Rattle.network_law.specs.Decision.due t n past) (In Tick ∷ past) (due_from t n past) q)
 decide_keeps t n past (HostAnswer a c) Q close keeps q = host_keeps t n past (HostAnswer a c) Q close a c (ask_key past a) refl refl q
 decide_keeps t n past (NewDate d) Q close keeps q = q
+decide_keeps t n past (TakePacket l s p) Q close keeps q = packet_keeps t n past (TakePacket l s p) Q close l s p refl q
+decide_keeps t n past (Lend m c d a) Q close keeps q = newest_keeps t n past (Lend m c d a) Q close (grants t n (In (Lend m c d a) ∷ past)) (In (Lend m c d a) ∷ past) (λ g w. w) q

@@ -6,7 +6,7 @@ use Rattle.std.specs.Option.{option_or, option_and_then}
 use Rattle.net_rows.specs.Network.{Network}
 use Rattle.network_law.specs.Tables.{node_id}
 use Rattle.network_law.specs.Traces.{ReadInput, Tick, LinkDown, ReadOutput, Event, In, Out, History, Opening, opening, answer, answers, sent, forwarded, asked, ticks_by, is_timer, failed_key, pending, advices, is_ok_ack, handled, own_approval, count_of, add_made, reverses_key, IsIn}
-use Rattle.network_law.specs.Decision.{decide, fail, fail_all, failing, send_all, due_advices, standin, standin_code, keep, reply, reply_output}
+use Rattle.network_law.specs.Decision.{decide, fail, fail_all, failing, send_all, due, standin, standin_code, keep, reply, reply_output}
 use Rattle.network_law.proofs.ReadRuns.{HasLengths}
 use Rattle.network_law.specs.Claims.{has_reversal}
 use Rattle.network_law.proofs.Emits.{standing, keep_keeps, fail_all_keeps, stays_open, key_eq_refl, decide_keeps, failing_ticks, FailsNow}
@@ -117,9 +117,11 @@ fails_made t n past i k op facts was none m timer = go i m timer
 
     go : (j : ReadInput) → IsIn k (failing t past j) → is_timer j ≡ true → has_reversal t n (decide t n past j) k ≡ true
     go (LinkDown l) m tm = marked_reverses t n k op (decide t n past (LinkDown l)) (marked (LinkDown l) tm) (all_answered t n past (LinkDown l) facts tm k op was (failing_ticks t past (LinkDown l) k m).0 (failing t past (LinkDown l)) (In (LinkDown l) ∷ past) m (failing_ticks t past (LinkDown l)))
-    go Tick m tm = marked_reverses t n k op (decide t n past Tick) (marked Tick tm) (all_answered t n past Tick facts tm k op was (failing_ticks t past Tick k m).0 (failing t past Tick) (send_all t n Tick (due_advices t n past) (In Tick ∷ past)) m (failing_ticks t past Tick))
+    go Tick m tm = marked_reverses t n k op (decide t n past Tick) (marked Tick tm) (all_answered t n past Tick facts tm k op was (failing_ticks t past Tick k m).0 (failing t past Tick) (send_all t n Tick (due t n past) (In Tick ∷ past)) m (failing_ticks t past Tick))
     go (Rattle.network_law.specs.Traces.Enter x) m tm = cc
     go (Rattle.network_law.specs.Traces.Take l s x) m tm = cc
     go (Rattle.network_law.specs.Traces.LinkUp l) m tm = cc
     go (Rattle.network_law.specs.Traces.HostAnswer a c) m tm = cc
     go (Rattle.network_law.specs.Traces.NewDate d) m tm = cc
+    go (Rattle.network_law.specs.Traces.TakePacket lk sr pk) m tm = cc
+    go (Rattle.network_law.specs.Traces.Lend br cd dt am) m tm = cc

@@ -48,3 +48,16 @@ no_zero_id t sound n less e = no (sym (padded_zeros (node_id t n) e) ∙ IsIdTex
   where
     no : true ≡ false → ⊥
     no p = cc
+
+-- digits that fit eleven: what stands for a node that isn't there has none
+pub record FitsId (bs : List ℕ) : Type 0 where
+  pub fits : length bs ≤ 11
+  pub digits : list_all is_ascii_digit bs ≡ true
+
+ids_fit : (ks : List Node) (n : ℕ) → AllByRecursion (λ k. IsId k.id) ks → FitsId (option_map_or (λ k. k.id) (slice_get ks n) [])
+ids_fit [] n all = record { fits = omega arith; digits = refl }
+ids_fit (k ∷ ks) zero all = record { fits = IsId.few all.0; digits = IsId.digits all.0 }
+ids_fit (k ∷ ks) (suc n) all = ids_fit ks n all.1
+
+pub id_fits : (t : Network) → IsChecked t → (n : ℕ) → FitsId (node_id t n)
+id_fits t checked n = ids_fit t.nodes n checked.sound.ids

@@ -6,13 +6,13 @@ use Rattle.std.specs.Option.{option_or, option_and_then}
 use Rattle.std.specs.List.{list_any}
 use Rattle.net_rows.specs.Network.{Network, issuer}
 use Rattle.network_law.specs.Tables.{is_home, node_id}
-use Rattle.network_law.specs.Traces.{Source, ByLink, ReadInput, Enter, Take, LinkUp, LinkDown, Tick, HostAnswer, NewDate, ReadOutput, Event, In, Out, History, Handled, handled, Opening, opening, answer, answers, sent, is_00_of, brings_00, own_approval, Advice, advices, add_advice, add_made, add_accepted, acked_by, has_identity, reverses_key, late_key, code_is_not_00, failed_key, is_ok_ack, is_ack_kind, as_kept, is_timer, is_link, forwarded, forwards, pending, count_of, known, date_of}
+use Rattle.network_law.specs.Traces.{Source, ByLink, ReadInput, Enter, Take, LinkUp, LinkDown, Tick, HostAnswer, NewDate, TakePacket, Lend, ReadOutput, Event, In, Out, History, Handled, handled, Opening, opening, answer, answers, sent, is_00_of, brings_00, own_approval, Advice, advices, add_advice, add_made, add_accepted, acked_by, has_identity, reverses_key, late_key, code_is_not_00, failed_key, is_ok_ack, is_ack_kind, as_kept, is_timer, is_link, forwarded, forwards, pending, count_of, known, date_of}
 use Rattle.network_law.specs.Decision.{decide, reply, reply_output, sent_kind, standin_code, on_answer, on_code, on_reversal, on_handled, answer_pending, other_content}
 use Rattle.network_law.specs.Refusals.{refusal}
 use Rattle.network_law.specs.Entries.{ReadEntry, read_history}
 use Rattle.network_law.proofs.ReadRuns.{IsReadRun, IsFormed, IsLegalRead, HasLengths}
 use Rattle.network_law.specs.Claims.{answered_by, takes_00, took_00, takes_answer, has_reversal, LateApprovalsUndone}
-use Rattle.network_law.proofs.Emits.{Allowed, forwarding, asking, standing_in, passing, declining, repeating, refusing, acking, sending, posting, OpenedFirst, Failed, Reversing, ViaLink, ViaHost, Kept, accepting, handled_as, decide_keeps, keep_keeps, key_eq_refl, key_eq_is, bytes_eq_refl, bytes_eq_is, stays_open, ask_key_asked, is_kept_group}
+use Rattle.network_law.proofs.Emits.{Allowed, forwarding, asking, standing_in, passing, declining, repeating, refusing, acking, sending, posting, putting_packet, OpenedFirst, Failed, Reversing, ViaLink, ViaHost, Kept, accepting, handled_as, decide_keeps, keep_keeps, key_eq_refl, key_eq_is, bytes_eq_refl, bytes_eq_is, stays_open, ask_key_asked, is_kept_group}
 use Rattle.network_law.proofs.Node.{NodeFacts, EntryFacts, Opened, legal_facts, facts_in, facts_out, keeps_issuers, answer_no_request, answer_is, answers_is, response_is_of_kind, forwarded_has, asked_has, Sent}
 use Rattle.network_law.proofs.Elements.{code_response, response_key, made_reversal_key, reversal_kind}
 use Rattle.network_law.proofs.Used.{any_more, add_made_keeps, add_accepted_keeps, sent_reply, reply_message, response_code, acked_kind, advice_no_answer}
@@ -46,6 +46,8 @@ acked_reverses k (LinkDown l) a = refl
 acked_reverses k Tick a = refl
 acked_reverses k (HostAnswer b c) a = refl
 acked_reverses k (NewDate d) a = refl
+acked_reverses k (TakePacket lk sr pk) a = refl
+acked_reverses k (Lend br cd dt am) a = refl
 
 any_acked : (k : Key) (i : ReadInput) (as' : List Advice) → list_any (reverses_key k) (map (acked_by i) as') ≡ list_any (reverses_key k) as'
 any_acked k i [] = refl
@@ -292,6 +294,7 @@ module _ (t : Network) (n : ℕ) (past : History) (i : ReadInput) (facts : NodeF
           let same : as_kind (sent_kind (is_04xx f.message.kind) f.again) f.message ≡ w.message = same_Some _ _ (ap sent (sym f.is) ∙ w.is) in
           ends (is_answer w.message.kind) w.answer_kind (ap (λ z. is_answer (Fields.kind z)) (sym same) ∙ advice_no_answer (is_04xx f.message.kind) f.again)
       go (posting f) = absurd (none_some w.message (ap sent (sym f.is) ∙ w.is))
+      go (putting_packet f) = absurd (none_some w.message (ap sent (sym f.is) ∙ w.is))
 
   -- an answered key is open
   new_open : (k : Key) (w : NewAnswer i o k) → answered_by h k ≡ None → (op : Opening) × (opening t h k ≡ Some op)
@@ -322,6 +325,7 @@ module _ (t : Network) (n : ℕ) (past : History) (i : ReadInput) (facts : NodeF
           let same : as_kind (sent_kind (is_04xx f.message.kind) f.again) f.message ≡ w.message = same_Some _ _ (ap sent (sym f.is) ∙ w.is) in
           ends (is_answer w.message.kind) w.answer_kind (ap (λ z. is_answer (Fields.kind z)) (sym same) ∙ advice_no_answer (is_04xx f.message.kind) f.again)
       go (posting f) = absurd (none_some w.message (ap sent (sym f.is) ∙ w.is))
+      go (putting_packet f) = absurd (none_some w.message (ap sent (sym f.is) ∙ w.is))
 
   -- a new forward is of a key that isn't answered
   new_forward : (k : Key) (l : ℕ) → OpenAnswers t past → forwards k o ≡ Some l → (j : ReadInput) → answered_by h k ≡ Some j → ⊥
@@ -346,6 +350,8 @@ module _ (t : Network) (n : ℕ) (past : History) (i : ReadInput) (facts : NodeF
       more Tick e = e
       more (HostAnswer a c) e = e
       more (NewDate d) e = e
+      more (TakePacket lk sr pk) e = e
+      more (Lend br cd dt am) e = e
   settled_more k l j fw an (inr (inl other)) =
       let a = when_answer h k j an in
       let now : answer (Out i o ∷ h) k ≡ Some a.0 = answer_kept a.0 a.1 in
@@ -437,6 +443,8 @@ handled_in t past (LinkDown l) = refl
 handled_in t past Tick = refl
 handled_in t past (HostAnswer a c) = refl
 handled_in t past (NewDate d) = refl
+handled_in t past (TakePacket lk sr pk) = refl
+handled_in t past (Lend br cd dt am) = refl
 
 pub handled_out : (t : Network) (h : History) (i j : ReadInput) (o : ReadOutput) → handled t (Out j o ∷ h) i ≡ handled t h i
 unfolding handled date_of
@@ -447,6 +455,8 @@ handled_out t h (LinkDown l) j o = refl
 handled_out t h Tick j o = refl
 handled_out t h (HostAnswer a c) j o = refl
 handled_out t h (NewDate d) j o = refl
+handled_out t h (TakePacket lk sr pk) j o = refl
+handled_out t h (Lend br cd dt am) j o = refl
 
 accept_adds : (count : ℕ) (b : Bool) (o : Option Handled) (m : Fields) (src : Source) (as' : List Advice) → b ≡ true → o ≡ Some (record { message = m; source = src }) → group m.kind ≡ groups.Reversal → list_any (reverses_key (key_of m)) (add_accepted count b o as') ≡ true
 accept_adds count b o m src as' yes' e g = rw (yes', e, g) (added_reverses (key_of m) (record { message = as_kept m; count = count; own = false; acked = false }) as' (kept_reversal m g).0 (kept_reversal m g).1)
@@ -487,6 +497,8 @@ accepted_then t n past (LinkDown l) k a = absurd (none_some _ a.is_handled)
 accepted_then t n past Tick k a = absurd (none_some _ a.is_handled)
 accepted_then t n past (HostAnswer b c) k a = absurd (none_some _ a.is_handled)
 accepted_then t n past (NewDate d) k a = absurd (none_some _ a.is_handled)
+accepted_then t n past (TakePacket lk sr pk) k a = absurd (none_some _ a.is_handled)
+accepted_then t n past (Lend br cd dt am) k a = absurd (none_some _ a.is_handled)
 
 -- the invariant through an entry
 
@@ -509,6 +521,8 @@ takes_forwarded h h' k (LinkDown l) stays e = e
 takes_forwarded h h' k Tick stays e = e
 takes_forwarded h h' k (HostAnswer a c) stays e = e
 takes_forwarded h h' k (NewDate d) stays e = e
+takes_forwarded h h' k (TakePacket lk sr pk) stays e = e
+takes_forwarded h h' k (Lend br cd dt am) stays e = e
 
 good_out : (t : Network) (n : ℕ) (i : ReadInput) (o : ReadOutput) (h : History) (k : Key) → Good t n h k → Good t n (Out i o ∷ h) k
 good_out t n i o h k (inl g) = inl (g.0, answered_more h i o k g.0 g.1, takes_forwarded h (Out i o ∷ h) k g.0 (λ l e. forwarded_more h i o k l e) g.2)
@@ -660,6 +674,8 @@ late_decide t n past i form ok f before = record {
     now Tick is k e = absurd (not_both false e refl)
     now (HostAnswer a c) is k e = absurd (not_both false e refl)
     now (NewDate d) is k e = absurd (not_both false e refl)
+    now (TakePacket lk sr pk) is k e = absurd (not_both false e refl)
+    now (Lend br cd dt am) is k e = absurd (not_both false e refl)
 
     took_then : (k : Key) → (took_00 past k || takes_00 past k i) ≡ true → Good t n (decide t n past i) k
     took_then k e = ⊎_elim (λ was. Late.good done k (good_in t n i past k (before.took k was))) (now i refl k) (or_cases (took_00 past k) (takes_00 past k i) e)
@@ -686,3 +702,5 @@ LateApprovalsUndone_holds t traces run = record {
     other n k Tick e f = not_both false e refl
     other n k (HostAnswer a c) e f = not_both false e refl
     other n k (NewDate d) e f = not_both false e refl
+    other n k (TakePacket lk sr pk) e f = not_both false e refl
+    other n k (Lend br cd dt am) e f = not_both false e refl

@@ -7,7 +7,9 @@ pub mod Emits
 pub mod Node
 pub mod Chain
 pub mod Elements
+pub mod Lending
 pub mod Used
+pub mod Exposure
 pub mod Codes
 pub mod Approvals
 pub mod Late
@@ -22,6 +24,9 @@ pub mod Origins
 pub mod Covered
 pub mod Marks
 pub mod Plain
+pub mod PlainGrants
+pub mod Packets
+pub mod PacketsExact
 pub mod Written
 pub mod Reading
 pub mod Spelled

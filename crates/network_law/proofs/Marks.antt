@@ -6,13 +6,13 @@ use Rattle.std.specs.Option.{option_or, option_and_then}
 use Rattle.std.specs.List.{list_any}
 use Rattle.net_rows.specs.Network.{Network}
 use Rattle.network_law.specs.Tables.{node_id}
-use Rattle.network_law.specs.Traces.{ReadInput, Enter, Take, LinkUp, LinkDown, Tick, HostAnswer, NewDate, ReadOutput, In, Out, History, handled, Opening, opening, opened, with_new, key_handled, answer, answers, sent, own_approval, Advice, advices, add_made, has_identity, failed_key, is_key, is_ok_ack, is_timer, pending, fails, count_of, known, IsIn}
-use Rattle.network_law.specs.Decision.{decide, failing, send_all, due_advices, sent_kind, standin_code}
+use Rattle.network_law.specs.Traces.{ReadInput, Enter, Take, LinkUp, LinkDown, Tick, HostAnswer, NewDate, TakePacket, Lend, ReadOutput, In, Out, History, handled, Opening, opening, opened, with_new, key_handled, answer, answers, sent, own_approval, Advice, advices, add_made, has_identity, failed_key, is_key, is_ok_ack, is_timer, pending, fails, count_of, known, IsIn}
+use Rattle.network_law.specs.Decision.{decide, failing, send_all, due, sent_kind, standin_code}
 use Rattle.network_law.specs.Refusals.{refusal}
 use Rattle.network_law.specs.Entries.{ReadEntry, read_history}
 use Rattle.network_law.proofs.ReadRuns.{IsLegalRead, IsFormed}
 use Rattle.network_law.specs.Legal.{marked_failed}
-use Rattle.network_law.proofs.Emits.{Allowed, forwarding, asking, standing_in, passing, declining, repeating, refusing, acking, sending, posting, decide_keeps, stays_open, handled_no_timer, key_eq_refl, key_eq_is, failing_ticks}
+use Rattle.network_law.proofs.Emits.{Allowed, forwarding, asking, standing_in, passing, declining, repeating, refusing, acking, sending, posting, putting_packet, decide_keeps, stays_open, handled_no_timer, key_eq_refl, key_eq_is, failing_ticks}
 use Rattle.network_law.proofs.Node.{NodeFacts, EntryFacts, OpensNow, opening_in_cases, legal_facts, facts_in, facts_out, keeps_issuers, answers_is}
 use Rattle.network_law.proofs.Elements.{response_key}
 use Rattle.network_law.proofs.Used.{reply_message, add_made_keeps, add_accepted_keeps, advice_no_answer}
@@ -110,6 +110,7 @@ unmarked_out t n past i facts k h o q allowed = record {
     by_case w (acking f) = ends (is_timer i) (MarkNow.timer w) (handled_no_timer t past i f.message f.source f.is_handled)
     by_case w (sending f) = ends (is_answer (MarkNow.message w).kind) (MarkNow.answer_kind w) (ap (λ z. is_answer (Fields.kind z)) (sym (same_Some (as_kind (sent_kind (is_04xx f.message.kind) f.again) f.message) (MarkNow.message w) (ap sent (sym f.is) ∙ MarkNow.is w))) ∙ advice_no_answer (is_04xx f.message.kind) f.again)
     by_case w (posting f) = absurd (none_some (MarkNow.message w) (ap sent (sym f.is) ∙ MarkNow.is w))
+    by_case w (putting_packet f) = absurd (none_some (MarkNow.message w) (ap sent (sym f.is) ∙ MarkNow.is w))
 
 unmarked_decide : (t : Network) (n : ℕ) (past : History) (i : ReadInput) (k : Key) → IsFormed i → refusal t n past i ≡ None → NodeFacts t n past → marked_failed t (decide t n past i) k ≡ true → fails t past i k ≡ true
 unfolding marked_failed
@@ -168,6 +169,8 @@ fails_at t past i k e = go (opening t past k) refl (answer past k) refl (parts i
     parts (LinkUp l) f = cc
     parts (HostAnswer a c) f = cc
     parts (NewDate d) f = cc
+    parts (TakePacket lk sr pk) f = cc
+    parts (Lend br cd dt am) f = cc
 
     go : (w : Option Opening) → opening t past k ≡ w → (v : Option Fields) → answer past k ≡ v → pending t past k ≡ true → FailsAt t past i k
     go None at v at' p = absurd (not_both false (rw at at p) refl)
@@ -186,12 +189,14 @@ fails_decide t n past i k w facts = marks_end t n k (FailsAt.op w) (decide t n p
 
     ends : (j : ReadInput) → is_timer j ≡ true → IsIn k (failing t past j) → is_some (answer (decide t n past j) k) ≡ true
     ends (LinkDown l) tm m = all_answered t n past (LinkDown l) facts tm k (FailsAt.op w) (FailsAt.opens w) (failing_ticks t past (LinkDown l) k m).0 (failing t past (LinkDown l)) (In (LinkDown l) ∷ past) m (failing_ticks t past (LinkDown l))
-    ends Tick tm m = all_answered t n past Tick facts tm k (FailsAt.op w) (FailsAt.opens w) (failing_ticks t past Tick k m).0 (failing t past Tick) (send_all t n Tick (due_advices t n past) (In Tick ∷ past)) m (failing_ticks t past Tick)
+    ends Tick tm m = all_answered t n past Tick facts tm k (FailsAt.op w) (FailsAt.opens w) (failing_ticks t past Tick k m).0 (failing t past Tick) (send_all t n Tick (due t n past) (In Tick ∷ past)) m (failing_ticks t past Tick)
     ends (Enter x) tm m = cc
     ends (Take l s x) tm m = cc
     ends (LinkUp l) tm m = cc
     ends (HostAnswer a c) tm m = cc
     ends (NewDate d) tm m = cc
+    ends (TakePacket lk sr pk) tm m = cc
+    ends (Lend br cd dt am) tm m = cc
 
 -- the laws
 

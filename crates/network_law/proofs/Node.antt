@@ -5,13 +5,14 @@ use Rattle.std.proofs.lemmas.Option.{same_Some}
 use Rattle.net_rows.specs.Network.{Network, issuer}
 use Rattle.net_rows.specs.declared.row.Issuer.{Issuer}
 use Rattle.network_law.specs.Tables.{is_home, route_links, is_attached}
-use Rattle.network_law.specs.Traces.{Source, Gate, ByLink, ReadInput, Enter, Take, LinkUp, LinkDown, Tick, HostAnswer, NewDate, ReadOutput, Put, Answer, Ask, Post, In, Out, History, Handled, handled, Opening, opening, opened_by, answer, answers, sent, forwarded, forwards, asked, asks, ticks_by, count_of, dated, date_of, IsIn, Has}
+use Rattle.network_law.specs.Grants.{Packet}
+use Rattle.network_law.specs.Traces.{Source, Gate, ByLink, ReadInput, Enter, Take, LinkUp, LinkDown, Tick, HostAnswer, NewDate, TakePacket, Lend, ReadOutput, Put, Answer, Ask, Post, PutPacket, In, Out, History, Handled, handled, Opening, opening, opened_by, answer, answers, sent, forwarded, forwards, asked, asks, ticks_by, count_of, dated, date_of, IsIn, Has}
 use Rattle.network_law.specs.Decision.{decide, reply_output, sent_kind}
 use Rattle.network_law.proofs.Refused.{EnteredFacts, entered_facts}
 use Rattle.network_law.specs.Refusals.{refusal}
 use Rattle.network_law.specs.Entries.{ReadEntry, read_history}
 use Rattle.network_law.proofs.ReadRuns.{IsLegalRead, HasLengths, IsFormed}
-use Rattle.network_law.proofs.Emits.{Allowed, forwarding, asking, standing_in, passing, declining, repeating, refusing, acking, sending, posting, Forwarding, Asking, handled_as, Issued, KeepsIssuers, decide_keeps, stays_open, opening_now, opens_now, key_eq_is}
+use Rattle.network_law.proofs.Emits.{Allowed, forwarding, asking, standing_in, passing, declining, repeating, refusing, acking, sending, posting, putting_packet, Forwarding, Asking, handled_as, Issued, KeepsIssuers, decide_keeps, stays_open, opening_now, opens_now, key_eq_is}
 use Rattle.network_law.specs.Cards.{text_of, Bytes, card_of}
 use Rattle.iso_message.proofs.Changes.{get_set, get_remove}
 use Rattle.iso_message.specs.Fields.{Fields, el, set_element, remove_element, as_kind}
@@ -146,6 +147,10 @@ put_case t n past i h o l s x (sending f) e r =
   where
     parts : {a b c d : ℕ} {m w : Fields} → Put a b m ≡ Put c d w → m ≡ w
     parts q = cc
+put_case t n past i h o l s x (putting_packet f) e r = absurd (no (sym f.is ∙ e))
+  where
+    no : {a b c d : ℕ} {p : Packet} {w : Fields} → PutPacket a b p ≡ Put c d w → ⊥
+    no q = cc
 put_case t n past i h o l s x (posting f) e r = absurd (no (sym f.is ∙ e))
   where
     no : {b c : ℕ} {m w : Fields} → Post m ≡ Put b c w → ⊥
@@ -166,6 +171,10 @@ ask_case t n past i h o a x (acking f) e = absurd (reply_asks_nothing f.source _
 ask_case t n past i h o a x (sending f) e = absurd (no (sym f.is ∙ e))
   where
     no : {a b c : ℕ} {m w : Fields} → Put b c w ≡ Ask a m → ⊥
+    no q = cc
+ask_case t n past i h o a x (putting_packet f) e = absurd (no (sym f.is ∙ e))
+  where
+    no : {a b c : ℕ} {p : Packet} {w : Fields} → PutPacket a b p ≡ Ask c w → ⊥
     no q = cc
 ask_case t n past i h o a x (posting f) e = absurd (no (sym f.is ∙ e))
   where
@@ -326,6 +335,8 @@ opened_now t n h i k op form ok o = record { has = inl (ap In (sym o.input)); ke
     lengths Tick form e = cc
     lengths (HostAnswer a c) form e = cc
     lengths (NewDate d) form e = cc
+    lengths (TakePacket lk sr pk) form e = cc
+    lengths (Lend br cd dt am) form e = cc
 
     from : (j : ReadInput) → refusal t n h j ≡ None → handled_as t h j op.message op.source → op.input ≡ j → ((l : ℕ) × (s : ℕ) × (op.input ≡ Take l s op.message) × (op.source ≡ ByLink l)) ⊎ ((m : Fields) × (op.input ≡ Enter m) × (is_attached t n k.acquirer ≡ true))
     from (Enter m) ok e p = inr (m, p, subst (λ z. is_attached t n z ≡ true) (sym (entered_acquirer t h m op.message op.source e o.request) ∙ ap Key.acquirer o.key) (attached t n h m ok))
@@ -339,6 +350,8 @@ opened_now t n h i k op form ok o = record { has = inl (ap In (sym o.input)); ke
     from Tick ok e p = cc
     from (HostAnswer a c) ok e p = cc
     from (NewDate d) ok e p = cc
+    from (TakePacket lk sr pk) ok e p = cc
+    from (Lend br cd dt am) ok e p = cc
 
 -- the facts stay through an input
 pub facts_in : (t : Network) (n : ℕ) (h : History) (i : ReadInput) → IsFormed i → refusal t n h i ≡ None → NodeFacts t n h → NodeFacts t n (In i ∷ h)
@@ -455,6 +468,7 @@ forwarded_has (Out i o ∷ h) k l e = go (forwarded h k) refl (forwarded_has h k
     here (Answer x) is f = absurd (none_some refl f)
     here (Ask a x) is f = absurd (none_some refl f)
     here (Post x) is f = absurd (none_some refl f)
+    here (PutPacket b s p) is f = absurd (none_some refl f)
 
     go : (w : Option ℕ) → forwarded h k ≡ w → ((l' : ℕ) → forwarded h k ≡ Some l' → (j : ReadInput) × (s : ℕ) × (x : Fields) × Has (Out j (Put l' s x)) h × (is_request x.kind ≡ true) × (key_of x ≡ k)) → (j : ReadInput) × (s : ℕ) × (x : Fields) × Has (Out j (Put l s x)) (Out i o ∷ h) × (is_request x.kind ≡ true) × (key_of x ≡ k)
     go None at rest = here o refl (rw at at e)
@@ -471,6 +485,7 @@ asked_has (Out i o ∷ h) k e = go (asked h k) refl (asked_has h k)
     here (Put b s x) is f = absurd (not_both false f refl)
     here (Answer x) is f = absurd (not_both false f refl)
     here (Post x) is f = absurd (not_both false f refl)
+    here (PutPacket b s p) is f = absurd (not_both false f refl)
 
     go : (b : Bool) → asked h k ≡ b → (asked h k ≡ true → (j : ReadInput) × (a : ℕ) × (x : Fields) × Has (Out j (Ask a x)) h × (key_of x ≡ k)) → (j : ReadInput) × (a : ℕ) × (x : Fields) × Has (Out j (Ask a x)) (Out i o ∷ h) × (key_of x ≡ k)
     go true at rest = let r = rest at in (r.0, r.1, r.2, inr r.3, r.4)
@@ -518,3 +533,4 @@ forwards_is k (Put b s x) l f = test (is_request x.kind && key_eq (key_of x) k) 
 forwards_is k (Answer x) l f = absurd (none_some refl f)
 forwards_is k (Ask a x) l f = absurd (none_some refl f)
 forwards_is k (Post x) l f = absurd (none_some refl f)
+forwards_is k (PutPacket b s p) l f = absurd (none_some refl f)

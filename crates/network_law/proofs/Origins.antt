@@ -8,13 +8,13 @@ use Rattle.card_digits.specs.Numbers.{pad11}
 use Rattle.net_rows.specs.Network.{Network, issuer}
 use Rattle.net_rows.specs.declared.row.Issuer.{Issuer}
 use Rattle.network_law.specs.Tables.{is_home, node_id, route_links, is_attached}
-use Rattle.network_law.specs.Traces.{Source, ReadInput, Enter, Take, LinkUp, LinkDown, Tick, HostAnswer, NewDate, ReadOutput, Put, In, Out, Event, History, Handled, handled, Opening, opening, sent, own_approval, Advice, advices, add_advice, add_made, add_accepted, acked_by, is_ack, is_ack_of, has_identity, late_key, failed_key, is_ok_ack, is_advice_group, is_ack_kind, as_kept, dated, date_of, count_of, forwarded, is_up, IsIn, Has}
+use Rattle.network_law.specs.Traces.{Source, ReadInput, Enter, Take, LinkUp, LinkDown, Tick, HostAnswer, NewDate, TakePacket, Lend, ReadOutput, Put, In, Out, Event, History, Handled, handled, Opening, opening, sent, own_approval, Advice, advices, add_advice, add_made, add_accepted, acked_by, is_ack, is_ack_of, has_identity, late_key, failed_key, is_ok_ack, is_advice_group, is_ack_kind, as_kept, dated, date_of, count_of, forwarded, is_up, IsIn, Has}
 use Rattle.network_law.specs.Decision.{decide, reply_output, sent_kind, own_way, standin_code}
 use Rattle.network_law.proofs.Refused.{EnteredFacts, entered_facts}
 use Rattle.network_law.specs.Refusals.{refusal, entered_kind}
 use Rattle.network_law.specs.Entries.{ReadEntry, read_history}
 use Rattle.network_law.proofs.ReadRuns.{IsFormed, IsLegalRead}
-use Rattle.network_law.proofs.Emits.{Allowed, forwarding, asking, standing_in, passing, declining, repeating, refusing, acking, sending, posting, Acking, Sending, Kept, due, reversing, standing, accepting, handled_as, Issued, decide_keeps, stays_open, is_kept_group, found_is_in, from_link}
+use Rattle.network_law.proofs.Emits.{Allowed, forwarding, asking, standing_in, passing, declining, repeating, refusing, acking, sending, posting, putting_packet, Acking, Sending, Kept, due, reversing, standing, accepting, handled_as, Issued, decide_keeps, stays_open, is_kept_group, found_is_in, from_link}
 use Rattle.network_law.proofs.Node.{NodeFacts, EntryFacts, legal_facts, facts_out, keeps_issuers, response_is_of_kind, put_parts}
 use Rattle.network_law.proofs.Elements.{own_key_response, el_response, carried, made_base}
 use Rattle.network_law.proofs.Used.{OwnFacts, own_in_entry, own_case, has_00_more, brings_more, reply_message, response_code, add_made_keeps, add_accepted_keeps}
@@ -167,6 +167,8 @@ acked_message (LinkDown l) b = refl
 acked_message Tick b = refl
 acked_message (HostAnswer c d) b = refl
 acked_message (NewDate d) b = refl
+acked_message (TakePacket lk sr pk) b = refl
+acked_message (Lend br cd dt am) b = refl
 
 -- what a newly acknowledged advice was acknowledged by
 newly_acked : (i : ReadInput) (h : History) (b : Advice) → (acked_by i b).acked ≡ true → (b.acked ≡ true) ⊎ AckTaken (In i ∷ h) (identity_of b.message)
@@ -183,6 +185,8 @@ newly_acked (LinkDown l) h b e = inl e
 newly_acked Tick h b e = inl e
 newly_acked (HostAnswer c d) h b e = inl e
 newly_acked (NewDate d) h b e = inl e
+newly_acked (TakePacket lk sr pk) h b e = inl e
+newly_acked (Lend br cd dt am) h b e = inl e
 
 -- an advice that is accepted was taken, or entered at its gate
 
@@ -255,6 +259,8 @@ accepted_from t n past (LinkDown l) h m src ok e g has = absurd (none_some _ e)
 accepted_from t n past Tick h m src ok e g has = absurd (none_some _ e)
 accepted_from t n past (HostAnswer a c) h m src ok e g has = absurd (none_some _ e)
 accepted_from t n past (NewDate d) h m src ok e g has = absurd (none_some _ e)
+accepted_from t n past (TakePacket lk sr pk) h m src ok e g has = absurd (none_some _ e)
+accepted_from t n past (Lend br cd dt am) h m src ok e g has = absurd (none_some _ e)
 
 -- what is said of all advices of a node
 
@@ -328,6 +334,7 @@ acking_case t n past i h o facts allowed e = go allowed
     go (acking f) = f
     go (sending f) = ends (ap (λ z. is_ack_kind (group (Fields.kind z))) (sym (same_Some (as_kind (sent_kind (is_04xx f.message.kind) f.again) f.message) y.0 (ap sent (sym f.is) ∙ y.1))) ∙ advice_no_ack (is_04xx f.message.kind) f.again)
     go (posting f) = absurd (none_some y.0 (ap sent (sym f.is) ∙ y.1))
+    go (putting_packet f) = absurd (none_some y.0 (ap sent (sym f.is) ∙ y.1))
 
 ack_is_kind : (g : Group) → is_ack g ≡ true → is_ack_kind g ≡ true
 ack_is_kind groups.Request e = cc
@@ -389,6 +396,7 @@ sending_case t n past i h o l s x allowed e g = go allowed
     go (acking f) = of_response f.source f.message f.code f.is
     go (sending f) = f
     go (posting f) = absurd (none_some x (ap sent (sym f.is) ∙ is_sent))
+    go (putting_packet f) = absurd (none_some x (ap sent (sym f.is) ∙ is_sent))
 
 -- within an entry
 record Through (t : Network) (n : ℕ) (past : History) (i : ReadInput) (h : History) : Type 0 where

@@ -1,6 +1,7 @@
 -- The plain words say the same.
-use Rattle.std.proofs.Common.{◌≡◌, ℕ, ◌+◌, List, [], ◌∷◌, ◌++◌, map, filter, find, fold, sum, reverse, length, Option, Some, None, is_some, is_none, Bool, true, false, cond, not, ◌&&◌, refl, sym, ap, ◌∙◌, subst, inl, inr, ⊎_elim, bytes_eq, arith, eqb}
-use Rattle.std.proofs.lemmas.Bool.{and_parts}
+use Rattle.std.proofs.Common.{◌≡◌, ℕ, ◌+◌, List, [], ◌∷◌, ◌++◌, map, filter, find, fold, sum, reverse, length, Option, Some, None, is_some, is_none, Bool, true, false, cond, not, ◌&&◌, refl, sym, ap, ◌∙◌, subst, inl, inr, ⊎_elim, bytes_eq, arith, eqb, ◌≤◌, unwrap_or}
+use Rattle.std.specs.Prelude.{min}
+use Rattle.std.proofs.lemmas.Bool.{and_parts, or_parts}
 use Rattle.std.proofs.lemmas.Option.{same_Some}
 use Rattle.std.proofs.lemmas.List.{append-nil, length-append, reverse-append}
 use Rattle.std.specs.Option.{option_map_or, option_or, option_map, option_and_then}
@@ -17,13 +18,14 @@ use Rattle.iso_message.specs.declared.kind.Kind.TheVariants.{K0100, K0101, K0110
 use Rattle.std.specs.List.{list_any}
 use Rattle.iso_message.specs.declared.kind.Group.TheVariants as groups
 use Rattle.network_law.specs.Tables.{node_id}
-use Rattle.network_law.specs.Cards.{card_of, label_of, Bytes}
-use Rattle.network_law.specs.Traces.{key_asked, ask_count, asks_in, put_count, puts_on, up_after, is_up, date_after, date_of, ReadInput, Enter, Take, LinkUp, LinkDown, Tick, HostAnswer, NewDate, ReadOutput, Put, Answer, Ask, Post, In, Out, History, IsIn, count_of, ticks_in, Handled, handled, Opening, opening, opened_by, opened, key_handled, with_new, answer, answers, sent, forwarded, forwards, fails, approvals, reversed, used, added, Advice, advices, comes_late, code_is_not_00, reverses_key, pending, late_key, is_link, ask_key}
+use Rattle.network_law.specs.Cards.{card_of, label_of, Bytes, actual_amount}
+use Rattle.network_law.specs.Traces.{key_asked, ask_count, asks_in, put_count, puts_on, up_after, is_up, date_after, date_of, ReadInput, Enter, Take, LinkUp, LinkDown, Tick, HostAnswer, NewDate, TakePacket, Lend, ReadOutput, Put, Answer, Ask, Post, PutPacket, In, Out, History, IsIn, count_of, ticks_in, Handled, handled, Opening, opening, opened_by, opened, key_handled, with_new, answer, answers, sent, forwarded, forwards, fails, approvals, reversed, left_by, left_of, left, used, added, Advice, advices, comes_late, code_is_not_00, reverses_key, pending, late_key, is_link, ask_key}
 use Rattle.network_law.specs.Decision.{failing, decide, keep, on_code, on_answer, on_host}
-use Rattle.network_law.specs.Plain.{Asked, asked_in, all_asked, AskedByNumber, CountsAsks, CountsPuts, sets_link, sets_up, UpByLast, sets_date, date_in, DatedByLast, inputs, requests, request_of, openings, opened_key, OpenedByFirst, OpenedOnce, EachIsOfItsKey, FailInOpeningOrder, is_answer_of, said_in, said, AnsweredByFirst, OnLink, put_in, puts, ForwardedByFirst, is_tick, CountsTicks, UsedIsSum, LateIsReversed}
+use Rattle.network_law.specs.Plain.{Asked, asked_in, all_asked, AskedByNumber, CountsAsks, CountsPuts, sets_link, sets_up, UpByLast, sets_date, date_in, DatedByLast, inputs, requests, request_of, openings, opened_key, OpenedByFirst, OpenedOnce, EachIsOfItsKey, FailInOpeningOrder, is_answer_of, said_in, said, AnsweredByFirst, OnLink, put_in, puts, ForwardedByFirst, link_in, links_put, is_tick, CountsTicks, UsedIsSum, LeavesLeast, LeavesAll, LateIsReversed}
+use Rattle.network_law.proofs.Used.{left_by_less}
 use Rattle.network_law.proofs.Emits.{key_eq_is, key_eq_refl, in_append}
 
-find_append : {X : Type 0} (p : X → Bool) (xs ys : List X) → find p (xs ++ ys) ≡ option_or (find p xs) (find p ys)
+pub find_append : {X : Type 0} (p : X → Bool) (xs ys : List X) → find p (xs ++ ys) ≡ option_or (find p xs) (find p ys)
 find_append p [] ys = refl
 find_append p (x ∷ xs) ys = go (p x) refl (find_append p xs ys)
   where
@@ -31,7 +33,7 @@ find_append p (x ∷ xs) ys = go (p x) refl (find_append p xs ys)
     go true at ih = rw at refl
     go false at ih = rw at ih
 
-or_same : {X : Type 0} (a b c d : Option X) → a ≡ c → b ≡ d → option_or a b ≡ option_or c d
+pub or_same : {X : Type 0} (a b c d : Option X) → a ≡ c → b ≡ d → option_or a b ≡ option_or c d
 or_same a b c d e f = ap (λ z. option_or z b) e ∙ ap (option_or c) f
 
 -- requests
@@ -129,7 +131,7 @@ each_of_its_key t (Out i o ∷ h) op m = each_of_its_key t h op m
 
 -- the open keys
 
-map_append : {X Y : Type 0} (f : X → Y) (xs ys : List X) → map f (xs ++ ys) ≡ map f xs ++ map f ys
+pub map_append : {X Y : Type 0} (f : X → Y) (xs ys : List X) → map f (xs ++ ys) ≡ map f xs ++ map f ys
 map_append f [] ys = refl
 map_append f (x ∷ xs) ys = ap (λ z. f x ∷ z) (map_append f xs ys)
 
@@ -167,6 +169,7 @@ answer_found k (Put l s m) = refl
 answer_found k (Answer m) = refl
 answer_found k (Ask a m) = refl
 answer_found k (Post m) = refl
+answer_found k (PutPacket l s p) = refl
 
 pub answered_by_first : AnsweredByFirst
 unfolding answer said
@@ -187,6 +190,7 @@ forward_found k (Put l s m) = go (is_request m.kind && key_eq (key_of m) k) refl
 forward_found k (Answer m) = refl
 forward_found k (Ask a m) = refl
 forward_found k (Post m) = refl
+forward_found k (PutPacket l s p) = refl
 
 pub forwarded_by_first : ForwardedByFirst
 unfolding forwarded puts
@@ -199,7 +203,7 @@ forwarded_by_first (Out i o ∷ h) k =
 
 -- the count
 
-filter_append : {X : Type 0} (p : X → Bool) (xs ys : List X) → filter p (xs ++ ys) ≡ filter p xs ++ filter p ys
+pub filter_append : {X : Type 0} (p : X → Bool) (xs ys : List X) → filter p (xs ++ ys) ≡ filter p xs ++ filter p ys
 filter_append p [] ys = refl
 filter_append p (x ∷ xs) ys = go (p x) refl (filter_append p xs ys)
   where
@@ -218,6 +222,7 @@ asked_found a (Ask b m) = go (eqb a b) refl
 asked_found a (Put l s m) = refl
 asked_found a (Answer m) = refl
 asked_found a (Post m) = refl
+asked_found a (PutPacket l s p) = refl
 
 pub asked_by_number : AskedByNumber
 unfolding ask_key all_asked
@@ -233,6 +238,7 @@ one_ask (Ask a m) = refl
 one_ask (Put l s m) = refl
 one_ask (Answer m) = refl
 one_ask (Post m) = refl
+one_ask (PutPacket l s p) = refl
 
 pub counts_asks : CountsAsks
 unfolding ask_count all_asked
@@ -244,24 +250,28 @@ counts_asks (Out i o ∷ h) =
     let c = one_ask o in
     omega (arith, a, b, c)
 
-one_put_on : (l : ℕ) (o : ReadOutput) → puts_on l o ≡ length (filter (λ (p : OnLink). eqb p.link l) (put_in o))
-one_put_on l (Put k s m) = go (eqb k l) refl
+one_link : (k l : ℕ) → cond (eqb k l) 1 0 ≡ length {A = ℕ} (cond (eqb k l) (k ∷ []) [])
+one_link k l = go (eqb k l) refl
   where
-    go : (c : Bool) → eqb k l ≡ c → cond (eqb k l) 1 0 ≡ length {A = OnLink} (cond (eqb k l) (record { link = k; message = m } ∷ []) [])
+    go : (c : Bool) → eqb k l ≡ c → cond (eqb k l) 1 0 ≡ length {A = ℕ} (cond (eqb k l) (k ∷ []) [])
     go true at = rw at refl
     go false at = rw at refl
+
+one_put_on : (l : ℕ) (o : ReadOutput) → puts_on l o ≡ length (filter (λ k. eqb k l) (link_in o))
+one_put_on l (Put k s m) = one_link k l
+one_put_on l (PutPacket k s p) = one_link k l
 one_put_on l (Answer m) = refl
 one_put_on l (Ask a m) = refl
 one_put_on l (Post m) = refl
 
 pub counts_puts : CountsPuts
-unfolding put_count puts
+unfolding put_count links_put
 counts_puts [] l = refl
 counts_puts (In i ∷ h) l = counts_puts h l
 counts_puts (Out i o ∷ h) l =
     let a = counts_puts h l in
-    let b = ap length (filter_append (λ (p : OnLink). eqb p.link l) (puts h) (put_in o)) in
-    let c = length-append (filter (λ (p : OnLink). eqb p.link l) (puts h)) (filter (λ (p : OnLink). eqb p.link l) (put_in o)) in
+    let b = ap length (filter_append (λ k. eqb k l) (links_put h) (link_in o)) in
+    let c = length-append (filter (λ k. eqb k l) (links_put h)) (filter (λ k. eqb k l) (link_in o)) in
     let d = one_put_on l o in
     omega (arith, a, b, c, d)
 
@@ -283,6 +293,8 @@ up_last (Take k s m) l is old e = e
 up_last Tick l is old e = e
 up_last (HostAnswer a c) l is old e = e
 up_last (NewDate d) l is old e = e
+up_last (TakePacket lk sr pk) l is old e = e
+up_last (Lend br cd dt am) l is old e = e
 
 pub up_by_last : UpByLast
 unfolding is_up inputs
@@ -292,6 +304,8 @@ up_by_last (Out i o ∷ h) l = up_by_last h l
 
 date_last : (i : ReadInput) (is : List ReadInput) (first old : List ℕ) → old ≡ option_map_or date_in (find sets_date is) first → date_after i old ≡ option_map_or date_in (find sets_date (i ∷ is)) first
 date_last (NewDate d) is first old e = refl
+date_last (TakePacket lk sr pk) is first old e = e
+date_last (Lend br cd dt am) is first old e = e
 date_last (Enter m) is first old e = e
 date_last (Take k s m) is first old e = e
 date_last (LinkUp k) is first old e = e
@@ -313,6 +327,8 @@ one_tick (LinkUp l) = refl
 one_tick (LinkDown l) = refl
 one_tick (HostAnswer a c) = refl
 one_tick (NewDate d) = refl
+one_tick (TakePacket lk sr pk) = refl
+one_tick (Lend br cd dt am) = refl
 
 pub counts_ticks : CountsTicks
 unfolding count_of inputs
@@ -337,7 +353,7 @@ sum_from a (x ∷ xs) =
 sum_more : (x : ℕ) (xs : List ℕ) → sum (x ∷ xs) ≡ x + sum xs
 sum_more x xs = let p = sum_from (0 + x) xs in omega (arith, p)
 
-summed : {X : Type 0} (p : X → Bool) (f : X → ℕ) (xs : List X) → added (λ x. cond (p x) (f x) 0) xs ≡ sum (map f (filter p xs))
+pub summed : {X : Type 0} (p : X → Bool) (f : X → ℕ) (xs : List X) → added (λ x. cond (p x) (f x) 0) xs ≡ sum (map f (filter p xs))
 summed p f [] = refl
 summed p f (x ∷ xs) = go (p x) refl (summed p f xs)
   where
@@ -347,7 +363,34 @@ summed p f (x ∷ xs) = go (p x) refl (summed p f xs)
 
 pub used_is_sum : UsedIsSum
 unfolding used
-used_is_sum t n h card date = summed (λ a. bytes_eq (card_of a.request) card && bytes_eq (label_of a.request) date && not (reversed t n h a.key)) (λ a. decimal (el a.request 4)) (approvals t h)
+used_is_sum t n h card date = summed (λ a. bytes_eq (card_of a.request) card && bytes_eq (label_of a.request) date) (left t n h) (approvals t h)
+
+left_least : (k : Key) (as' : List Advice) (amount : ℕ) (x : Advice) → IsIn x as' → x.own ≡ false → reverses_key k x ≡ true → left_of k as' amount ≤ unwrap_or (actual_amount x.message) 0
+left_least k [] amount x m own r = absurd m
+left_least k (a ∷ as') amount x m own r = ⊎_elim here (λ below. older (left_least k as' amount x below own r)) m
+  where
+    least : (y rest : ℕ) → min y rest ≤ y
+    least y rest = omega arith
+
+    here : a ≡ x → left_by k a (left_of k as' amount) ≤ unwrap_or (actual_amount x.message) 0
+    here e = subst (λ (z : Advice). left_by k z (left_of k as' amount) ≤ unwrap_or (actual_amount x.message) 0) (sym e) (rw (own, r) (least (unwrap_or (actual_amount x.message) 0) (left_of k as' amount)))
+
+    older : left_of k as' amount ≤ unwrap_or (actual_amount x.message) 0 → left_by k a (left_of k as' amount) ≤ unwrap_or (actual_amount x.message) 0
+    older le = (let p = left_by_less k a (left_of k as' amount) in omega (arith, p, le))
+
+pub leaves_least : LeavesLeast
+unfolding left
+leaves_least t n h a x m own r = left_least a.key (advices t n h) (decimal (el a.request 4)) x m own r
+
+left_all : (k : Key) (as' : List Advice) (amount : ℕ) → list_any (λ a. not a.own && reverses_key k a) as' ≡ false → left_of k as' amount ≡ amount
+left_all k [] amount e = refl
+left_all k (a ∷ as') amount e =
+    let p = or_parts (not a.own && reverses_key k a) (list_any (λ b. not b.own && reverses_key k b) as') e in
+    rw p.0 (left_all k as' amount p.1)
+
+pub leaves_all : LeavesAll
+unfolding left reversed
+leaves_all t n h a e = left_all a.key (advices t n h) (decimal (el a.request 4)) e
 
 -- late approvals
 
@@ -419,3 +462,5 @@ late_is_reversed t n past (LinkUp l) k op e o = cc
 late_is_reversed t n past (LinkDown l) k op e o = cc
 late_is_reversed t n past Tick k op e o = cc
 late_is_reversed t n past (NewDate d) k op e o = cc
+late_is_reversed t n past (TakePacket lk sr pk) k op e o = cc
+late_is_reversed t n past (Lend br cd dt am) k op e o = cc

@@ -1,17 +1,18 @@
 -- What an entry does to the advices, posts and puts of advices of its node.
-use Rattle.std.proofs.Common.{◌≡◌, ℕ, suc, ◌+◌, List, [], ◌∷◌, ◌++◌, map, filter, reverse, Option, Some, None, is_some, is_none, Bool, true, false, cond, not, ◌&&◌, ◌||◌, refl, sym, ap, ◌∙◌, subst, inl, inr, ⊎_elim, ◌⊎◌, arith, bytes_eq, nat_lt}
+use Rattle.std.proofs.Common.{◌≡◌, ℕ, suc, ◌+◌, ◌≤◌, List, [], ◌∷◌, ◌++◌, map, filter, reverse, Option, Some, None, is_some, is_none, Bool, true, false, cond, not, ◌&&◌, ◌||◌, refl, sym, ap, ◌∙◌, subst, inl, inr, ⊎_elim, ◌⊎◌, arith, bytes_eq, nat_lt}
 use Rattle.std.proofs.lemmas.Bool.{and_parts, and_from, cond_both, and_left, and_right}
 use Rattle.std.specs.Option.{option_or, option_and_then}
 use Rattle.std.specs.List.{list_any}
 use mathlib.Core.List.{reverse-cons}
 use Rattle.net_rows.specs.Network.{Network, issuer}
 use Rattle.net_rows.specs.declared.row.Issuer.{Issuer}
-use Rattle.network_law.specs.Tables.{is_home, node_id, route_links, single}
-use Rattle.network_law.specs.Traces.{Source, Gate, ByLink, ReadInput, Enter, Take, LinkUp, LinkDown, Tick, HostAnswer, NewDate, ReadOutput, Put, Answer, Ask, Post, In, Out, History, Handled, handled, Opening, opening, opened, with_new, key_handled, answer, answers, sent, has_00, is_00_of, brings_00, own_approval, Advice, advices, add_advice, add_made, add_accepted, acked_by, has_identity, late_key, comes_late, code_is_not_00, failed_key, is_ok_ack, is_advice_group, is_ack_kind, as_kept, is_timer, is_link, forwarded, forwards, pending, fails, count_of, known, reversed, is_at_home, ask_key, ask_count, load, was_put, is_up, IsIn, Has}
-use Rattle.network_law.specs.Decision.{decide, reply, reply_output, next_put, emit, sent_kind, keep, send, send_by, own_way, standin, standin_code, fail, fail_all, failing, send_all, due_advices, on_request, on_issuer, on_forward, on_repeat, on_reversal, on_advice, on_answer, on_host, on_code, as_code, on_group, answer_pending, other_content, first_up, same_source}
+use Rattle.network_law.specs.Tables.{is_home, node_id, route_links, single, links_between}
+use Rattle.network_law.specs.Grants.{Packet, Granting, Received}
+use Rattle.network_law.specs.Traces.{Source, Gate, ByLink, ReadInput, Enter, Take, LinkUp, LinkDown, Tick, HostAnswer, NewDate, TakePacket, Lend, ReadOutput, Put, Answer, Ask, Post, PutPacket, In, Out, History, Handled, handled, Opening, opening, opened, with_new, key_handled, answer, answers, sent, has_00, is_00_of, brings_00, own_approval, Advice, advices, add_advice, add_made, add_accepted, acked_by, has_identity, late_key, comes_late, code_is_not_00, failed_key, is_ok_ack, is_advice_group, is_ack_kind, as_kept, is_timer, is_link, forwarded, forwards, pending, fails, count_of, known, reversed, is_at_home, ask_key, ask_count, put_count, Lent, grants, load, was_put, is_up, IsIn, Has}
+use Rattle.network_law.specs.Decision.{decide, reply, reply_output, next_put, emit, sent_kind, keep, send, send_by, own_way, standin, standin_code, fail, fail_all, failing, send_all, Due, DueAdvice, DueGrant, due, send_grant, send_grant_by, send_newest, on_request, on_issuer, on_forward, on_repeat, on_reversal, on_advice, on_answer, on_host, on_code, as_code, on_group, answer_pending, other_content, first_up, same_source}
 use Rattle.network_law.specs.Entries.{ReadEntry, read_history}
 use Rattle.network_law.proofs.ReadRuns.{IsFormed, HasLengths, IsLegalRead}
-use Rattle.network_law.proofs.Emits.{handled_as, is_kept_group, key_eq_refl, stays_open, opening_now, opens_now, handled_no_timer, in_filter, filtered_in, in_append, in_reverse, due_from, from_link, request_from_group, answer_from_group}
+use Rattle.network_law.proofs.Emits.{handled_as, is_kept_group, key_eq_refl, stays_open, opening_now, opens_now, handled_no_timer, in_filter, filtered_in, in_append, in_reverse, due_from, IsDueFrom, from_link, request_from_group, answer_from_group}
 use Rattle.network_law.proofs.Node.{NodeFacts, answer_is, answers_is, response_is_of_kind, answer_no_request, OpensNow, opening_in_cases}
 use Rattle.network_law.proofs.Elements.{code_response, response_key, made_reversal_key}
 use Rattle.network_law.proofs.Used.{sent_reply, answer_has_00, acked_kind, advice_no_answer}
@@ -320,6 +321,8 @@ module _ (t : Network) (n : ℕ) (past : History) (i : ReadInput) where
       no_timer_00 (HostAnswer a c) e = absurd (not_both false e refl)
       no_timer_00 (LinkUp l) e = refl
       no_timer_00 (NewDate d) e = refl
+      no_timer_00 (TakePacket lk sr pk) e = refl
+      no_timer_00 (Lend br cd dt am) e = refl
 
       mark : (c : Bytes) → add_made (λ m. made_reversal m (node_id t n)) (count_of h1) (option_and_then (opening t h1) (failed_key t h1 i (sent (reply_output op.source (response op.message c) h1)))) (advices t n h1) ≡ add_advice REV (advices t n h)
       mark c =
@@ -384,6 +387,8 @@ module _ (t : Network) (n : ℕ) (past : History) (i : ReadInput) where
       pend (LinkUp l) f = cc
       pend (HostAnswer a c) f = cc
       pend (NewDate d) f = cc
+      pend (TakePacket lk sr pk) f = cc
+      pend (Lend br cd dt am) f = cc
 
       go : (w : Option Opening) → opening t past k ≡ w → (v : Option Fields) → answer past k ≡ v → (is_some (opening t past k) && is_none (answer past k)) ≡ true → Ready (In i ∷ past) k
       go None at v at' p = absurd (not_both false (rw at at p) refl)
@@ -404,12 +409,51 @@ module _ (t : Network) (n : ℕ) (past : History) (i : ReadInput) where
     answers_same : (k : Key) → answer h' k ≡ answer h k
     opens_same : (k : Key) → opening t h' k ≡ opening t h k
 
-  send_all_acc : (as' : List Advice) (h : History) → ((a : Advice) → IsIn a as' → (b : Advice) × IsIn b (advices t n h) × Alike b.message a.message) → Acc t n h → AllSent h (send_all t n i as' h)
+  -- a packet leaves all of it
+  packet_sent : (l s : ℕ) (p : Packet) (h : History) → Acc t n h → AllSent h (Out i (PutPacket l s p) ∷ h)
+  unfolding answer opening
+  packet_sent l s p h q = record {
+    acc = acc_quiet h (PutPacket l s p) refl refl refl refl refl q;
+    advices_same = quiet_out t n i (PutPacket l s p) h refl refl;
+    answers_same = λ k. same (answer h k);
+    opens_same = λ k. refl;
+  }
+    where
+      same : (w : Option Fields) → option_or w None ≡ w
+      same None = refl
+      same (Some a) = refl
+
+  grant_sent : (g : Lent) (h : History) → Acc t n h → AllSent h (send_grant t n i g h)
+  unfolding send_grant
+  grant_sent g h q = go (first_up h (links_between t n g.borrower))
+    where
+      go : (w : Option ℕ) → AllSent h (send_grant_by i g w h)
+      go None = record { acc = q; advices_same = refl; answers_same = λ k. refl; opens_same = λ k. refl }
+      go (Some l) = packet_sent l (suc (put_count h l)) (Granting g.grant) h q
+
+  abbrev DueFromAcc : History → Due → Type 0
+  DueFromAcc h (DueAdvice a) = (b : Advice) × IsIn b (advices t n h) × Alike b.message a.message
+  DueFromAcc h (DueGrant g) = 0 ≤ 0
+
+  due_stays : (h h' : History) → advices t n h' ≡ advices t n h → (x : Due) → DueFromAcc h x → DueFromAcc h' x
+  due_stays h h' same (DueAdvice a) r = (r.0, subst (IsIn r.0) (sym same) r.1, r.2)
+  due_stays h h' same (DueGrant g) r = r
+
+  send_all_acc : (xs : List Due) (h : History) → ((x : Due) → IsIn x xs → DueFromAcc h x) → Acc t n h → AllSent h (send_all t n i xs h)
   unfolding send_all
   send_all_acc [] h from q = record { acc = q; advices_same = refl; answers_same = λ k. refl; opens_same = λ k. refl }
-  send_all_acc (a ∷ as') h from q =
+  send_all_acc (DueGrant g ∷ xs) h from q =
+      let first = grant_sent g h q in
+      let rest = send_all_acc xs (send_grant t n i g h) (λ x m. due_stays h (send_grant t n i g h) (AllSent.advices_same first) x (from x (inr m))) (AllSent.acc first) in
+      record {
+        acc = AllSent.acc rest;
+        advices_same = AllSent.advices_same rest ∙ AllSent.advices_same first;
+        answers_same = λ k. AllSent.answers_same rest k ∙ AllSent.answers_same first k;
+        opens_same = λ k. AllSent.opens_same rest k ∙ AllSent.opens_same first k;
+      }
+  send_all_acc (DueAdvice a ∷ xs) h from q =
       let same = send_advices a.message h in
-      let rest = send_all_acc as' (send t n i a.message h) (λ b m. (let r = from b (inr m) in (r.0, subst (IsIn r.0) (sym same) r.1, r.2))) (send_acc a h (from a (inl refl)) q) in
+      let rest = send_all_acc xs (send t n i a.message h) (λ x m. due_stays h (send t n i a.message h) same x (from x (inr m))) (send_acc a h (from (DueAdvice a) (inl refl)) q) in
       record {
         acc = AllSent.acc rest;
         advices_same = AllSent.advices_same rest ∙ same;
@@ -737,10 +781,24 @@ acc_decide t n past (Take l s m) late facts q = group_acc t n past (Take l s m) 
 acc_decide t n past (LinkUp l) late facts q = in_acc t n past (LinkUp l) refl q
 acc_decide t n past (NewDate d) late facts q = in_acc t n past (NewDate d) refl q
 acc_decide t n past (LinkDown l) late facts q = fail_all_acc t n past (LinkDown l) facts (failing t past (LinkDown l)) (In (LinkDown l) ∷ past) (failing_once t past (LinkDown l)) (λ k m. failing_ready t n past (LinkDown l) refl refl k m) refl (in_acc t n past (LinkDown l) refl q)
-acc_decide t n past Tick late facts q = fail_all_acc t n past Tick facts (failing t past Tick) (send_all t n Tick (due_advices t n past) (In Tick ∷ past)) (failing_once t past Tick) (λ k m. ready_sent t n past Tick (In Tick ∷ past) (send_all t n Tick (due_advices t n past) (In Tick ∷ past)) all k (failing_ready t n past Tick refl refl k m)) refl (AllSent.acc all)
+acc_decide t n past Tick late facts q = fail_all_acc t n past Tick facts (failing t past Tick) (send_all t n Tick (due t n past) (In Tick ∷ past)) (failing_once t past Tick) (λ k m. ready_sent t n past Tick (In Tick ∷ past) (send_all t n Tick (due t n past) (In Tick ∷ past)) all k (failing_ready t n past Tick refl refl k m)) refl (AllSent.acc all)
   where
-    all : AllSent t n past Tick (In Tick ∷ past) (send_all t n Tick (due_advices t n past) (In Tick ∷ past))
-    all = send_all_acc t n past Tick (due_advices t n past) (In Tick ∷ past) (λ a m. (let d = due_from t n past a m in let b = in_acked_back Tick a (advices t n past) d.0 in (b.0, subst (IsIn b.0) (sym (advices_in t n past Tick refl)) b.1, alike_is b.0.message a.message b.2))) (in_acc t n past Tick refl q)
+    from : (x : Due) → IsDueFrom t n past Tick x → DueFromAcc t n past Tick (In Tick ∷ past) x
+    from (DueAdvice a) d = (let b = in_acked_back Tick a (advices t n past) d.0 in (b.0, subst (IsIn b.0) (sym (advices_in t n past Tick refl)) b.1, alike_is b.0.message a.message b.2))
+    from (DueGrant g) d = omega arith
+
+    all : AllSent t n past Tick (In Tick ∷ past) (send_all t n Tick (due t n past) (In Tick ∷ past))
+    all = send_all_acc t n past Tick (due t n past) (In Tick ∷ past) (λ x m. from x (due_from t n past x m)) (in_acc t n past Tick refl q)
+acc_decide t n past (TakePacket l s (Granting g)) late facts q = AllSent.acc (packet_sent t n past (TakePacket l s (Granting g)) l (suc (put_count (In (TakePacket l s (Granting g)) ∷ past) l)) (Received g.lender g.number) (In (TakePacket l s (Granting g)) ∷ past) (in_acc t n past (TakePacket l s (Granting g)) refl q))
+acc_decide t n past (TakePacket l s (Received lender number)) late facts q = in_acc t n past (TakePacket l s (Received lender number)) refl q
+acc_decide t n past (Lend m c d a) late facts q = newest (grants t n (In (Lend m c d a) ∷ past))
+  where
+    start : Acc t n (In (Lend m c d a) ∷ past)
+    start = in_acc t n past (Lend m c d a) refl q
+
+    newest : (gs : List Lent) → Acc t n (send_newest t n (Lend m c d a) gs (In (Lend m c d a) ∷ past))
+    newest [] = start
+    newest (g ∷ gs) = AllSent.acc (grant_sent t n past (Lend m c d a) g (In (Lend m c d a) ∷ past) start)
 acc_decide t n past (HostAnswer a c) late facts q = go (ask_key past a) refl
   where
     go : (w : Option Key) → ask_key past a ≡ w → Acc t n (on_host t n past (HostAnswer a c) c w)
@@ -762,6 +820,7 @@ post_has (Out i (Post y) ∷ h) x m = ⊎_elim (λ e. (i, inl (ap (λ z. Out i (
 post_has (Out i (Put l s y) ∷ h) x m = let r = post_has h x m in (r.0, inr r.1)
 post_has (Out i (Answer y) ∷ h) x m = let r = post_has h x m in (r.0, inr r.1)
 post_has (Out i (Ask a y) ∷ h) x m = let r = post_has h x m in (r.0, inr r.1)
+post_has (Out i (PutPacket l s p) ∷ h) x m = let r = post_has h x m in (r.0, inr r.1)
 
 pub post_counted : (h : History) (id : AdviceId) → Rattle.network_law.specs.Claims.post_count h id ≡ posted_of id (posts h)
 unfolding Rattle.network_law.specs.Claims.post_count posts posted_of
@@ -771,6 +830,7 @@ post_counted (Out i (Post y) ∷ h) id = ap (λ z. (cond (identity_eq (identity_
 post_counted (Out i (Put l s y) ∷ h) id = let e = post_counted h id in omega (arith, e)
 post_counted (Out i (Answer y) ∷ h) id = let e = post_counted h id in omega (arith, e)
 post_counted (Out i (Ask a y) ∷ h) id = let e = post_counted h id in omega (arith, e)
+post_counted (Out i (PutPacket l s p) ∷ h) id = let e = post_counted h id in omega (arith, e)
 
 pub put_is_sent : (h : History) (i : ReadInput) (l s : ℕ) (x : Fields) → Has (Out i (Put l s x)) h → is_advice_group (group x.kind) ≡ true → IsIn (l, x) (sends h)
 unfolding sends

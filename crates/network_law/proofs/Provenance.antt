@@ -7,12 +7,12 @@ use Rattle.std.specs.List.{list_any}
 use Rattle.net_rows.specs.Network.{Network, issuer}
 use Rattle.net_rows.specs.declared.row.Issuer.{Issuer}
 use Rattle.network_law.specs.Tables.{is_home, node_id, route_links, is_attached}
-use Rattle.network_law.specs.Traces.{Source, ReadInput, Enter, Take, LinkUp, LinkDown, Tick, HostAnswer, NewDate, ReadOutput, Put, In, Out, History, Handled, handled, Opening, opening, sent, own_approval, Advice, advices, add_advice, add_made, add_accepted, acked_by, has_identity, reverses_key, late_key, comes_late, failed_key, is_ok_ack, is_advice_group, is_ack_kind, as_kept, ask_key, asked, is_timer, is_link, forwarded, forwards, count_of, known, reversed, dated, date_of, ticks_by, IsIn, Has}
+use Rattle.network_law.specs.Traces.{Source, ReadInput, Enter, Take, LinkUp, LinkDown, Tick, HostAnswer, NewDate, TakePacket, Lend, ReadOutput, Put, In, Out, History, Handled, handled, Opening, opening, sent, own_approval, Advice, advices, add_advice, add_made, add_accepted, acked_by, has_identity, reverses_key, late_key, comes_late, failed_key, is_ok_ack, is_advice_group, is_ack_kind, as_kept, ask_key, asked, is_timer, is_link, forwarded, forwards, count_of, known, reversed, dated, date_of, ticks_by, IsIn, Has}
 use Rattle.network_law.specs.Decision.{reply_output, sent_kind, other_content}
 use Rattle.network_law.proofs.Refused.{EnteredFacts, entered_facts, IsWhole}
 use Rattle.network_law.specs.Refusals.{refusal, strange_original}
 use Rattle.network_law.proofs.ReadRuns.{IsFormed}
-use Rattle.network_law.proofs.Emits.{Allowed, forwarding, asking, standing_in, passing, declining, repeating, refusing, acking, sending, posting, handled_as, Issued, key_eq_refl, bytes_eq_is, stays_open, is_kept_group, is_link_is, via_ticks, IsGood, handled_no_timer, Accepts}
+use Rattle.network_law.proofs.Emits.{Allowed, forwarding, asking, standing_in, passing, declining, repeating, refusing, acking, sending, posting, putting_packet, handled_as, Issued, key_eq_refl, bytes_eq_is, stays_open, is_kept_group, is_link_is, via_ticks, IsGood, handled_no_timer, Accepts}
 use Rattle.network_law.proofs.Node.{NodeFacts, EntryFacts, Opened, OpensNow, opening_in_cases, legal_facts, facts_in, facts_out, keeps_issuers, answer_no_request, response_is_of_kind, response_no_request, forwarded_has, asked_has, Sent, el_dated, el_remove, put_parts, put_case}
 use Rattle.network_law.proofs.Elements.{code_response, made_reversal_key, content_made_reversal}
 use Rattle.network_law.proofs.Used.{reversed_more, acked_kind, sent_reply, reply_message}
@@ -176,6 +176,8 @@ reversal_source t n past (LinkDown l) h m src ok e r has = absurd (none_some _ e
 reversal_source t n past Tick h m src ok e r has = absurd (none_some _ e)
 reversal_source t n past (HostAnswer a c) h m src ok e r has = absurd (none_some _ e)
 reversal_source t n past (NewDate d) h m src ok e r has = absurd (none_some _ e)
+reversal_source t n past (TakePacket lk sr pk) h m src ok e r has = absurd (none_some _ e)
+reversal_source t n past (Lend br cd dt am) h m src ok e r has = absurd (none_some _ e)
 
 -- what is said of all reversals among the advices
 abbrev pub AllKnown : Network → ℕ → History → Type 0
@@ -209,6 +211,8 @@ in_acked a i (b ∷ as') m = ⊎_elim (λ e. (b, inl refl, acked_message i b ∙
     acked_message Tick b = refl
     acked_message (HostAnswer c d) b = refl
     acked_message (NewDate d) b = refl
+    acked_message (TakePacket lk sr pk) b = refl
+    acked_message (Lend br cd dt am) b = refl
 
     acked_own : (i : ReadInput) (b : Advice) → b.own ≡ (acked_by i b).own
     acked_own (Take l s x) b = refl
@@ -218,6 +222,8 @@ in_acked a i (b ∷ as') m = ⊎_elim (λ e. (b, inl refl, acked_message i b ∙
     acked_own Tick b = refl
     acked_own (HostAnswer c d) b = refl
     acked_own (NewDate d) b = refl
+    acked_own (TakePacket lk sr pk) b = refl
+    acked_own (Lend br cd dt am) b = refl
 
 -- a reversal that stands on a link
 pub record SentReversal (t : Network) (n : ℕ) (h : History) (l : ℕ) (x : Fields) : Type 0 where
@@ -323,6 +329,8 @@ late_ticks t h as' (LinkUp l) k e = absurd (none_some k e)
 late_ticks t h as' (LinkDown l) k e = absurd (none_some k e)
 late_ticks t h as' Tick k e = absurd (none_some k e)
 late_ticks t h as' (NewDate d) k e = absurd (none_some k e)
+late_ticks t h as' (TakePacket lk sr pk) k e = absurd (none_some k e)
+late_ticks t h as' (Lend br cd dt am) k e = absurd (none_some k e)
 
 pub opened_of_key : {X Y : Type 0} (f : X → Option Y) (o : Option X) (y : Y) → option_and_then f o ≡ Some y → (x : X) × (o ≡ Some x) × (f x ≡ Some y)
 opened_of_key f None y e = absurd (none_some y e)
@@ -446,6 +454,7 @@ ack_case t n past i h o facts allowed e = go allowed
     go (acking f) = (f.message, f.source, f.is_handled, f.good (ap (λ c. bytes_eq c code_00) (sym (Rattle.network_law.proofs.Used.response_code f.message f.code y.0 (reply_message f.source _ h o y.0 f.is y.1))) ∙ y.3))
     go (sending f) = ends (ap (λ z. is_ack_kind (group (Fields.kind z))) (sym (same_Some (as_kind (sent_kind (is_04xx f.message.kind) f.again) f.message) y.0 (ap sent (sym f.is) ∙ y.1))) ∙ advice_no_ack (is_04xx f.message.kind) f.again)
     go (posting f) = absurd (none_some y.0 (ap sent (sym f.is) ∙ y.1))
+    go (putting_packet f) = absurd (none_some y.0 (ap sent (sym f.is) ∙ y.1))
 
 -- a reversal that is good, at its node
 pub record GoodHere (t : Network) (n : ℕ) (past : History) (i : ReadInput) (h : History) : Type 0 where
@@ -501,6 +510,8 @@ reversed_back t n past i k r = acked_back (advices t n past) (made_back (λ m. m
     acked_one Tick a = refl
     acked_one (HostAnswer b c) a = refl
     acked_one (NewDate d) a = refl
+    acked_one (TakePacket lk sr pk) a = refl
+    acked_one (Lend br cd dt am) a = refl
 
     acked_all : (as' : List Advice) → list_any (accepted_of k) (map (acked_by i) as') ≡ list_any (accepted_of k) as'
     acked_all [] = refl
@@ -543,6 +554,8 @@ late_none t past as' (LinkDown l) m src e f = refl
 late_none t past as' Tick m src e f = refl
 late_none t past as' (HostAnswer a c) m src e f = absurd (none_some _ e)
 late_none t past as' (NewDate d) m src e f = refl
+late_none t past as' (TakePacket lk sr pk) m src e f = refl
+late_none t past as' (Lend br cd dt am) m src e f = refl
 
 pub identity_acked : (id : AdviceId) (i : ReadInput) (as' : List Advice) → list_any (has_identity id) (map (acked_by i) as') ≡ list_any (has_identity id) as'
 identity_acked id i [] = refl
@@ -556,6 +569,8 @@ identity_acked id i (a ∷ as') = ap (λ b. b || list_any (has_identity id) (map
     one Tick a = refl
     one (HostAnswer b c) a = refl
     one (NewDate d) a = refl
+    one (TakePacket lk sr pk) a = refl
+    one (Lend br cd dt am) a = refl
 
 pub advices_in : (t : Network) (n : ℕ) (past : History) (i : ReadInput) → late_key past (advices t n past) i ≡ None → advices t n (In i ∷ past) ≡ map (acked_by i) (advices t n past)
 unfolding advices

@@ -4,7 +4,8 @@ use Rattle.iso_message.specs.Fields.{Fields, el}
 use Rattle.iso_message.specs.Groups.{is_request}
 use Rattle.net_rows.specs.Network.{Network, other_end}
 use Rattle.network_law.specs.Tables.{is_link_of}
-use Rattle.network_law.specs.Traces.{ReadInput, Enter, Take, LinkUp, LinkDown, Put, In, Out, History, Has}
+use Rattle.network_law.specs.Grants.{Packet}
+use Rattle.network_law.specs.Traces.{ReadInput, Enter, Take, TakePacket, LinkUp, LinkDown, Put, PutPacket, In, Out, History, Has}
 use Rattle.network_law.specs.Decision.{decide}
 use Rattle.network_law.specs.Refusals.{refusal}
 use Rattle.network_law.specs.Entries.{ReadEntry, put_out, read_history}
@@ -12,6 +13,7 @@ use Rattle.network_law.specs.Entries.{ReadEntry, put_out, read_history}
 -- the input names no link but the node's own
 abbrev pub NamesOwnLink : Network → ℕ → ReadInput → Type 0
 NamesOwnLink t n (Take l s m) = is_link_of t n l ≡ true
+NamesOwnLink t n (TakePacket l s p) = is_link_of t n l ≡ true
 NamesOwnLink t n (LinkUp l) = is_link_of t n l ≡ true
 NamesOwnLink t n (LinkDown l) = is_link_of t n l ≡ true
 NamesOwnLink t n _ = 0 ≤ n
@@ -43,4 +45,5 @@ IsLegalRead t n (e ∷ es) = IsLegalRead t n es × IsDecidedRead t n (read_histo
 pub record IsReadRun (t : Network) (traces : ℕ → List ReadEntry) : Type 0 where
   pub legal : (n : ℕ) → n < length t.nodes → IsLegalRead t n (traces n)
   pub no_others : (n : ℕ) → length t.nodes ≤ n → traces n ≡ []
+  pub packets : (n l s : ℕ) (p : Packet) → Has (In (TakePacket l s p)) (read_history (traces n)) → (i : ReadInput) × Has (Out i (PutPacket l s p)) (read_history (traces (other_end t n l)))
   pub linked : (n l s : ℕ) (m : Fields) → Has (In (Take l s m)) (read_history (traces n)) → (i : ReadInput) × Has (Out i (Put l s m)) (read_history (traces (other_end t n l)))

@@ -1,6 +1,6 @@
 -- A run in bytes is a run in messages: what a node puts is read as what it decided.
-use Rattle.std.proofs.Common.{◌≡◌, ℕ, ◌<◌, List, [], ◌∷◌, ◌++◌, map, length, Some, None, Result, Ok, Err, Bool, true, false, cond, refl, sym, ap, ◌∙◌, subst, arith, inl, inr, ⊎_elim, append_assoc}
-use Rattle.std.proofs.lemmas.Bool.{cases_lt}
+use Rattle.std.proofs.Common.{◌≡◌, ℕ, suc, ◌<◌, ◌≤◌, List, [], ◌∷◌, ◌++◌, map, length, Option, Some, None, Result, Ok, Err, Bool, true, false, cond, refl, sym, ap, ◌∙◌, subst, arith, inl, inr, ⊎_elim, append_assoc}
+use Rattle.std.proofs.lemmas.Bool.{cases_lt, leb-false}
 use Rattle.std.specs.Prelude.{⊤, nat_le}
 use Rattle.iso_message.specs.declared.fault.DecodeFault.{DecodeFault}
 use Rattle.iso_message.specs.Fields.{Fields, has}
@@ -20,17 +20,20 @@ use Rattle.network_law.specs.Traces.{ReadInput, ReadOutput, Event, In, Out, Hist
 use Rattle.network_law.specs.Traces as messages
 use Rattle.network_law.specs.Decision.{decide}
 use Rattle.network_law.specs.Refusals.{refusal, required_entered, required_taken}
-use Rattle.network_law.specs.Entries.{Input, Enter, Take, LinkUp, LinkDown, Tick, HostAnswer, NewDate, Output, Put, Entry, ReadEntry, read_as, read_input, read_output, read_outputs, with_read, read_trace, put_out, read_history, history, spelled, newest_onto, newest_outputs}
+use Rattle.network_law.specs.Entries.{Input, Enter, Take, LinkUp, LinkDown, Tick, HostAnswer, NewDate, Lend, Output, Put, Entry, ReadEntry, read_entry, packet_or, read_as, read_input, read_output, read_outputs, with_read, read_trace, put_out, read_history, history, spelled, newest_onto, newest_outputs}
 use Rattle.network_law.specs.Checked.{IsChecked}
 use Rattle.network_law.specs.Runs.{NamesOwnLink, IsTyped, fault_of, step_refusal, outputs_of, step_outputs, IsStep, IsLegal, IsRun}
-use Rattle.network_law.proofs.Ids.{IsIdText, id_text}
+use Rattle.network_law.specs.Grants.{Packet, read_packet}
+use Rattle.network_law.specs.Traces.{grants}
+use Rattle.network_law.proofs.Packets.{packet_again, message_no_packet, packet_numbered}
+use Rattle.network_law.proofs.Ids.{IsIdText, id_text, id_fits}
 use Rattle.network_law.proofs.Whole.{lengths}
 use Rattle.network_law.proofs.ReadRuns.{HasLengths, IsFormed, IsDecidedRead, IsLegalRead, IsReadRun}
 use Rattle.network_law.proofs.ReadRuns as reading
 use Rattle.network_law.proofs.Refused.{EnteredFacts, entered_facts, TakenFacts, taken_facts, IsWhole, is_there}
 use Rattle.network_law.proofs.Emits.{decide_keeps, KeepsIssuers}
 use Rattle.network_law.proofs.Node.{legal_facts, keeps_issuers}
-use Rattle.network_law.proofs.Written.{InputIs, OutputIs, AreWritten, decide_written}
+use Rattle.network_law.proofs.Written.{InputIs, OutputIs, AreWritten, decide_written, grants_few}
 
 -- the decision is its outputs on top of the input
 
@@ -63,7 +66,8 @@ read_spelling m g = read_again (spelling m) m (spells m g)
 
 read_spelled : (o : ReadOutput) → OutputIs o → read_output (spelled o) ≡ Ok o
 unfolding read_output spelled
-read_spelled (messages.Put l s m) g = ap (read_as (messages.Put l s)) (read_spelling m g)
+read_spelled (messages.Put l s m) g = rw (message_no_packet m) (ap (read_as (messages.Put l s)) (read_spelling m g))
+read_spelled (messages.PutPacket l s p) g = rw (packet_again p g) refl
 read_spelled (messages.Answer m) g = ap (read_as messages.Answer) (read_spelling m g)
 read_spelled (messages.Ask a m) g = ap (read_as (messages.Ask a)) (read_spelling m g)
 read_spelled (messages.Post m) g = ap (read_as messages.Post) (read_spelling m g)
@@ -138,11 +142,16 @@ input_read t n past (Enter bytes) j e own typed ok =
     let g = message_read bytes r.0 r.1 in
     let f = entered_lengths r.0 g (EnteredFacts.is_whole (entered_facts t n past r.0 (ap (refusal t n past) r.2 ∙ ok))) in
     subst (IsReadInput t n (Enter bytes)) r.2 ((g, f), f, omega arith)
-input_read t n past (Take l s bytes) j e own typed ok =
-    let r = read_ok (messages.Take l s) (read bytes) j e in
-    let g = message_read bytes r.0 r.1 in
-    let f = taken_lengths r.0 g (TakenFacts.is_whole (taken_facts t n past l s r.0 (ap (refusal t n past) r.2 ∙ ok))) in
-    subst (IsReadInput t n (Take l s bytes)) r.2 ((g, f), f, own)
+input_read t n past (Take l s bytes) j e own typed ok = go (read_packet bytes) refl e
+  where
+    go : (w : Option Packet) → read_packet bytes ≡ w → packet_or (messages.TakePacket l s) (read_packet bytes) (read_as (messages.Take l s) (read bytes)) ≡ Ok j → IsReadInput t n (Take l s bytes) j
+    go (Some p) at e = subst (IsReadInput t n (Take l s bytes)) (same_ok (messages.TakePacket l s p) j (rw at at e)) (packet_numbered bytes p at, omega arith, own)
+    go None at e =
+        let r = read_ok (messages.Take l s) (read bytes) j (rw at at e) in
+        let g = message_read bytes r.0 r.1 in
+        let f = taken_lengths r.0 g (TakenFacts.is_whole (taken_facts t n past l s r.0 (ap (refusal t n past) r.2 ∙ ok))) in
+        subst (IsReadInput t n (Take l s bytes)) r.2 ((g, f), f, own)
+input_read t n past (Lend m c d a) j e own typed ok = subst (IsReadInput t n (Lend m c d a)) (same_ok (messages.Lend m c d a) j e) (typed, omega arith, omega arith)
 input_read t n past (LinkUp l) j e own typed ok = subst (IsReadInput t n (LinkUp l)) (same_ok (messages.LinkUp l) j e) (tt, omega arith, own)
 input_read t n past (LinkDown l) j e own typed ok = subst (IsReadInput t n (LinkDown l)) (same_ok (messages.LinkDown l) j e) (tt, omega arith, own)
 input_read t n past Tick j e own typed ok = subst (IsReadInput t n Tick) (same_ok messages.Tick j e) (tt, omega arith, omega arith)
@@ -167,6 +176,26 @@ accepted_fault t n es i e = go (nat_le 1000000 (length es)) refl e
         no : Some HistoryFull ≡ None → ⊥
         no p = cc
     go false at e = rw at at e
+
+accepted_room : (t : Network) (n : ℕ) (es : List Entry) (i : Input) → step_refusal t n es i ≡ None → length es < 1000000
+unfolding step_refusal
+accepted_room t n es i e = go (nat_le 1000000 (length es)) refl e
+  where
+    go : (b : Bool) → nat_le 1000000 (length es) ≡ b → cond (nat_le 1000000 (length es)) (Some HistoryFull) (fault_of t n (history es) (read_input i)) ≡ None → length es < 1000000
+    go true at e = absurd (no (rw at at e))
+      where
+        no : Some HistoryFull ≡ None → ⊥
+        no p = cc
+    go false at e = leb-false 1000000 (length es) at
+
+trace_length : (es : List Entry) → length (read_trace es) ≤ length es
+unfolding read_trace
+trace_length [] = omega arith
+trace_length (e ∷ es) = go (read_entry e) (trace_length es)
+  where
+    go : (r : Result ReadEntry DecodeFault) → length (read_trace es) ≤ length es → length (with_read r (read_trace es)) ≤ suc (length es)
+    go (Ok x) le = omega (arith, le)
+    go (Err d) le = omega (arith, le)
 
 has_reading : (t : Network) (n : ℕ) (es : List Entry) (e : Entry) → IsStep t n es e → HasReading t n es e
 unfolding step_outputs
@@ -197,13 +226,20 @@ legible t n checked less (e ∷ es) l = more (has_reading t n es e l.1) (legible
     id : IsIdText (node_id t n)
     id = id_text t checked n less
 
+    few : length (grants t n (read_history (read_trace es))) < 1000000
+    few =
+        let a = accepted_room t n es e.input l.1.accepted in
+        let b = grants_few t n (read_trace es) in
+        let c = trace_length es in
+        omega (arith, a, b, c)
+
     more : HasReading t n es e → Legible t n es → Legible t n (e ∷ es)
     more r before =
         let i = HasReading.input r in
         let past : History = history es in
         let good = input_read t n past e.input i (HasReading.is r) l.1.own l.1.typed (HasReading.accepted r) in
         let keeps = keeps_issuers t n past (legal_facts t n (read_trace es) (Legible.legal before)) in
-        let after : AreWritten (decide t n past i) = decide_written t n checked.sound.date id past i (Legible.written before) good.0 (HasReading.accepted r) keeps in
+        let after : AreWritten (decide t n past i) = decide_written t n checked.sound.date id (λ m. id_fits t checked m) past i (Legible.written before) good.0 (HasReading.accepted r) few keeps in
         let outs : read_outputs e.outputs ≡ newest_outputs (decide t n past i) = ap read_outputs (HasReading.outputs r) ∙ read_all (newest_outputs (decide t n past i)) (outputs_written [] (decide t n past i) tt after) in
         let whole : put_out i (read_outputs e.outputs) (In i ∷ past) ≡ decide t n past i = ap (λ os. put_out i os (In i ∷ past)) outs ∙ decide_is_outputs t n past i keeps in
         let here : read_trace (e ∷ es) ≡ record { input = i; outputs = read_outputs e.outputs } ∷ read_trace es = read_trace_more e es i (HasReading.is r) in
@@ -240,30 +276,38 @@ in_read (p ∷ os) o x has e = ⊎_elim here (λ below. there (read_output p) (i
     there (Ok y) m = inr m
     there (Err d) m = m
 
-record TakenAt (es : List Entry) (l s : ℕ) (m : Fields) : Type 0 where
+record TakenAt (es : List Entry) (l s : ℕ) (o : ReadOutput) : Type 0 where
   entry : Entry
   at : IsIn entry es
   bytes : Bytes
   is : entry.input ≡ Take l s bytes
-  reads : read bytes ≡ Ok m
+  reads : read_output (Put l s bytes) ≡ Ok o
 
-take_read : (i : Input) (l s : ℕ) (m : Fields) → read_input i ≡ Ok (messages.Take l s m) → (bytes : Bytes) × (i ≡ Take l s bytes) × (read bytes ≡ Ok m)
-unfolding read_input
-take_read (Take l' s' bytes) l s m e =
-    let r = read_ok (messages.Take l' s') (read bytes) (messages.Take l s m) e in
-    let a : l' ≡ l = parts r.2 in
-    let b : s' ≡ s = serials r.2 in
-    let c : r.0 ≡ m = bodies r.2 in
-    (bytes, ap (λ z. Take z s' bytes) a ∙ ap (λ z. Take l z bytes) b, r.1 ∙ ap (λ (z : Fields). Ok z) c)
+-- an input takes bytes that, put, are read as this
+abbrev TakesAs : ℕ → ℕ → ReadOutput → Input → Type 0
+TakesAs l s o i = (bytes : Bytes) × (i ≡ Take l s bytes) × (read_output (Put l s bytes) ≡ Ok o)
+
+take_read : (i : Input) (l s : ℕ) (m : Fields) → read_input i ≡ Ok (messages.Take l s m) → TakesAs l s (messages.Put l s m) i
+unfolding read_input read_output
+take_read (Take l' s' bytes) l s m e = go (read_packet bytes) refl
   where
-    parts : {a b c d : ℕ} {x y : Fields} → messages.Take a b x ≡ messages.Take c d y → a ≡ c
-    parts p = cc
+    links : {a b c d : ℕ} {x y : Fields} → messages.Take a b x ≡ messages.Take c d y → a ≡ c
+    links p = cc
 
     serials : {a b c d : ℕ} {x y : Fields} → messages.Take a b x ≡ messages.Take c d y → b ≡ d
     serials p = cc
 
     bodies : {a b c d : ℕ} {x y : Fields} → messages.Take a b x ≡ messages.Take c d y → x ≡ y
     bodies p = cc
+
+    no : {a b c d : ℕ} {p : Packet} {x : Fields} → messages.TakePacket a b p ≡ messages.Take c d x → ⊥
+    no p = cc
+
+    go : (w : Option Packet) → read_packet bytes ≡ w → TakesAs l s (messages.Put l s m) (Take l' s' bytes)
+    go (Some p) at = absurd (no (same_ok (messages.TakePacket l' s' p) (messages.Take l s m) (rw at at e)))
+    go None at =
+        let r = read_ok (messages.Take l' s') (read bytes) (messages.Take l s m) (rw at at e) in
+        (bytes, ap (λ z. Take z s' bytes) (links r.2) ∙ ap (λ z. Take l z bytes) (serials r.2), rw (at, r.1) (ap (λ (z : Fields). Ok (messages.Put l s z)) (bodies r.2)))
 take_read (Enter bytes) l s m e = absurd (no (read_ok messages.Enter (read bytes) (messages.Take l s m) e).2)
   where
     no : {x : Fields} → messages.Enter x ≡ messages.Take l s m → ⊥
@@ -273,43 +317,76 @@ take_read (LinkDown k) l s m e = cc
 take_read Tick l s m e = cc
 take_read (HostAnswer a c) l s m e = cc
 take_read (NewDate d) l s m e = cc
+take_read (Lend k c d a) l s m e = cc
 
-take_from : (es : List Entry) (l s : ℕ) (m : Fields) → Has (In (messages.Take l s m)) (read_history (read_trace es)) → TakenAt es l s m
-unfolding read_history read_trace
-take_from [] l s m has = absurd has
-take_from (e ∷ es) l s m has = go (read_input e.input) refl (take_from es l s m)
+packet_taken : (i : Input) (l s : ℕ) (p : Packet) → read_input i ≡ Ok (messages.TakePacket l s p) → TakesAs l s (messages.PutPacket l s p) i
+unfolding read_input read_output
+packet_taken (Take l' s' bytes) l s p e = go (read_packet bytes) refl
   where
-    more : TakenAt es l s m → TakenAt (e ∷ es) l s m
+    links : {a b c d : ℕ} {x y : Packet} → messages.TakePacket a b x ≡ messages.TakePacket c d y → a ≡ c
+    links q = cc
+
+    serials : {a b c d : ℕ} {x y : Packet} → messages.TakePacket a b x ≡ messages.TakePacket c d y → b ≡ d
+    serials q = cc
+
+    bodies : {a b c d : ℕ} {x y : Packet} → messages.TakePacket a b x ≡ messages.TakePacket c d y → x ≡ y
+    bodies q = cc
+
+    no : {a b c d : ℕ} {q : Packet} {x : Fields} → messages.Take a b x ≡ messages.TakePacket c d q → ⊥
+    no r = cc
+
+    go : (w : Option Packet) → read_packet bytes ≡ w → TakesAs l s (messages.PutPacket l s p) (Take l' s' bytes)
+    go (Some q) at =
+        let same = same_ok (messages.TakePacket l' s' q) (messages.TakePacket l s p) (rw at at e) in
+        (bytes, ap (λ z. Take z s' bytes) (links same) ∙ ap (λ z. Take l z bytes) (serials same), rw at (ap (λ (z : Packet). Ok (messages.PutPacket l s z)) (bodies same)))
+    go None at = absurd (no (read_ok (messages.Take l' s') (read bytes) (messages.TakePacket l s p) (rw at at e)).2)
+packet_taken (Enter bytes) l s p e = absurd (no (read_ok messages.Enter (read bytes) (messages.TakePacket l s p) e).2)
+  where
+    no : {x : Fields} → messages.Enter x ≡ messages.TakePacket l s p → ⊥
+    no q = cc
+packet_taken (LinkUp k) l s p e = cc
+packet_taken (LinkDown k) l s p e = cc
+packet_taken Tick l s p e = cc
+packet_taken (HostAnswer a c) l s p e = cc
+packet_taken (NewDate d) l s p e = cc
+packet_taken (Lend k c d a) l s p e = cc
+
+take_from : (j : ReadInput) (l s : ℕ) (o : ReadOutput) → ((i : Input) → read_input i ≡ Ok j → TakesAs l s o i) → (es : List Entry) → Has (In j) (read_history (read_trace es)) → TakenAt es l s o
+unfolding read_history read_trace
+take_from j l s o each [] has = absurd has
+take_from j l s o each (e ∷ es) has = go (read_input e.input) refl (take_from j l s o each es)
+  where
+    more : TakenAt es l s o → TakenAt (e ∷ es) l s o
     more r = record { entry = TakenAt.entry r; at = inr (TakenAt.at r); bytes = TakenAt.bytes r; is = TakenAt.is r; reads = TakenAt.reads r }
 
-    go : (r : Result ReadInput DecodeFault) → read_input e.input ≡ r → (Has (In (messages.Take l s m)) (read_history (read_trace es)) → TakenAt es l s m) → TakenAt (e ∷ es) l s m
+    go : (r : Result ReadInput DecodeFault) → read_input e.input ≡ r → (Has (In j) (read_history (read_trace es)) → TakenAt es l s o) → TakenAt (e ∷ es) l s o
     go (Err d) at rest = more (rest (rw at at has))
-    go (Ok i) at rest = ⊎_elim here (λ below. more (rest below)) (in_below i (read_outputs e.outputs) (In i ∷ read_history (read_trace es)) (messages.Take l s m) (rw at at has))
+    go (Ok i) at rest = ⊎_elim here (λ below. more (rest below)) (in_below i (read_outputs e.outputs) (In i ∷ read_history (read_trace es)) j (rw at at has))
       where
         same_in : (a b : ReadInput) → In a ≡ In b → a ≡ b
         same_in a b p = cc
 
-        here : In i ≡ In (messages.Take l s m) → TakenAt (e ∷ es) l s m
+        here : In i ≡ In j → TakenAt (e ∷ es) l s o
         here p =
-            let t = take_read e.input l s m (at ∙ ap (λ (z : ReadInput). Ok z) (same_in i (messages.Take l s m) p)) in
+            let t = each e.input (at ∙ ap (λ (z : ReadInput). Ok z) (same_in i j p)) in
             record { entry = e; at = inl refl; bytes = t.0; is = t.1; reads = t.2 }
 
-put_from : (t : Network) (n : ℕ) (es : List Entry) (f : Entry) (l s : ℕ) (bytes : Bytes) (m : Fields) → IsLegal t n es → IsIn f es → IsIn (Put l s bytes) f.outputs → read bytes ≡ Ok m → (i : ReadInput) × Has (Out i (messages.Put l s m)) (read_history (read_trace es))
-unfolding read_history read_output
-put_from t n [] f l s bytes m legal has puts e = absurd has
-put_from t n (x ∷ es) f l s bytes m legal has puts e = go (has_reading t n es x legal.1) (λ below. put_from t n es f l s bytes m legal.0 below puts e)
+put_from : (t : Network) (n : ℕ) (es : List Entry) (f : Entry) (l s : ℕ) (bytes : Bytes) (o : ReadOutput) → IsLegal t n es → IsIn f es → IsIn (Put l s bytes) f.outputs → read_output (Put l s bytes) ≡ Ok o → (i : ReadInput) × Has (Out i o) (read_history (read_trace es))
+unfolding read_history
+put_from t n [] f l s bytes o legal has puts e = absurd has
+put_from t n (x ∷ es) f l s bytes o legal has puts e = go (has_reading t n es x legal.1) (λ below. put_from t n es f l s bytes o legal.0 below puts e)
   where
-    go : HasReading t n es x → (IsIn f es → (i : ReadInput) × Has (Out i (messages.Put l s m)) (read_history (read_trace es))) → (i : ReadInput) × Has (Out i (messages.Put l s m)) (read_history (read_trace (x ∷ es)))
-    go r rest = ⊎_elim here (λ below. (let b = rest below in (b.0, subst (λ z. Has (Out b.0 (messages.Put l s m)) (read_history z)) (sym (read_trace_more x es i (HasReading.is r))) (out_above i (read_outputs x.outputs) (In i ∷ read_history (read_trace es)) (Out b.0 (messages.Put l s m)) (inr b.1))))) has
+    go : HasReading t n es x → (IsIn f es → (i : ReadInput) × Has (Out i o) (read_history (read_trace es))) → (i : ReadInput) × Has (Out i o) (read_history (read_trace (x ∷ es)))
+    go r rest = ⊎_elim here (λ below. (let b = rest below in (b.0, subst (λ z. Has (Out b.0 o) (read_history z)) (sym (read_trace_more x es i (HasReading.is r))) (out_above i (read_outputs x.outputs) (In i ∷ read_history (read_trace es)) (Out b.0 o) (inr b.1))))) has
       where
         i : ReadInput
         i = HasReading.input r
 
-        here : x ≡ f → (j : ReadInput) × Has (Out j (messages.Put l s m)) (read_history (read_trace (x ∷ es)))
+        here : x ≡ f → (j : ReadInput) × Has (Out j o) (read_history (read_trace (x ∷ es)))
         here same = (
           i,
-          subst (λ z. Has (Out i (messages.Put l s m)) (read_history z)) (sym (read_trace_more x es i (HasReading.is r)))
-              (out_here i (read_outputs x.outputs) (In i ∷ read_history (read_trace es)) (messages.Put l s m) (in_read x.outputs (Put l s bytes) (messages.Put l s m) (subst (λ (z : Entry). IsIn (Put l s bytes) z.outputs) (sym same) puts) (ap (read_as (messages.Put l s)) e))),
+          subst (λ z. Has (Out i o) (read_history z)) (sym (read_trace_more x es i (HasReading.is r)))
+              (out_here i (read_outputs x.outputs) (In i ∷ read_history (read_trace es)) o (in_read x.outputs (Put l s bytes) o (subst (λ (z : Entry). IsIn (Put l s bytes) z.outputs) (sym same) puts) e)),
         )
 
 -- a run
@@ -322,17 +399,18 @@ unfolding read_trace
 read_run t traces checked run = record {
   legal = λ n less. Legible.legal (legible t n checked less (traces n) (run.legal n less));
   no_others = λ n more. ap read_trace (run.no_others n more);
-  linked = linked';
+  packets = λ n l s p has. linked' n l s (messages.TakePacket l s p) (messages.PutPacket l s p) (λ i e. packet_taken i l s p e) has;
+  linked = λ n l s m has. linked' n l s (messages.Take l s m) (messages.Put l s m) (λ i e. take_read i l s m e) has;
 }
   where
     live : (n : ℕ) (f : Entry) → IsIn f (traces n) → n < length t.nodes
     live n f has = ⊎_elim (λ less. less) (λ more. absurd (subst (IsIn f) (run.no_others n more) has)) (cases_lt n (length t.nodes))
 
-    linked' : (n l s : ℕ) (m : Fields) → Has (In (messages.Take l s m)) (read_history (in_messages traces n)) → (i : ReadInput) × Has (Out i (messages.Put l s m)) (read_history (in_messages traces (other_end t n l)))
-    linked' n l s m has =
-        let a = take_from (traces n) l s m has in
+    linked' : (n l s : ℕ) (j : ReadInput) (o : ReadOutput) → ((i : Input) → read_input i ≡ Ok j → TakesAs l s o i) → Has (In j) (read_history (in_messages traces n)) → (i : ReadInput) × Has (Out i o) (read_history (in_messages traces (other_end t n l)))
+    linked' n l s j o each has =
+        let a = take_from j l s o each (traces n) has in
         let b = run.linked n l s (TakenAt.bytes a) (TakenAt.entry a) (TakenAt.at a) (TakenAt.is a) in
-        put_from t (other_end t n l) (traces (other_end t n l)) b.0 l s (TakenAt.bytes a) m (run.legal (other_end t n l) (live (other_end t n l) b.0 b.1)) b.1 b.2 (TakenAt.reads a)
+        put_from t (other_end t n l) (traces (other_end t n l)) b.0 l s (TakenAt.bytes a) o (run.legal (other_end t n l) (live (other_end t n l) b.0 b.1)) b.1 b.2 (TakenAt.reads a)
 
 -- one entry of a legal trace
 

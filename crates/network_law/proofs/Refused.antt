@@ -11,11 +11,11 @@ use Rattle.network_law.specs.Tables.{is_attached}
 use Rattle.network_law.specs.Traces.{Enter, Take, History, IsIn}
 use Rattle.network_law.specs.Refusals.{refusal, when, entered_kind, taken_kind, required_entered, required_taken, first_missing, strange_original, missing}
 
-or_none : {X : Type 0} (a b : Option X) → option_or a b ≡ None → (a ≡ None) × (b ≡ None)
+pub or_none : {X : Type 0} (a b : Option X) → option_or a b ≡ None → (a ≡ None) × (b ≡ None)
 or_none None b e = (refl, e)
 or_none (Some x) b e = cc
 
-when_none : {X : Type 0} (b : Bool) (x : X) → when b x ≡ None → b ≡ false
+pub when_none : {X : Type 0} (b : Bool) (x : X) → when b x ≡ None → b ≡ false
 when_none true x e = cc
 when_none false x e = refl
 

@@ -13,7 +13,7 @@ use Rattle.network_law.specs.Entries.{ReadEntry, read_history}
 use Rattle.network_law.proofs.ReadRuns.{IsFormed, IsLegalRead, IsReadRun}
 use Rattle.network_law.specs.Checked.{Ranks, IsRanked, IsChecked}
 use Rattle.network_law.specs.Claims.{NoRepeatReply}
-use Rattle.network_law.proofs.Emits.{Allowed, forwarding, asking, standing_in, passing, declining, repeating, refusing, acking, sending, posting, Forwarding, Sending, Acking, StandingIn, OpenedFirst, Failed, Reversing, ViaLink, ViaHost, Kept, due, reversing, standing, accepting, handled_as, Issued, decide_keeps, key_eq_refl, key_eq_is, bytes_eq_refl, bytes_eq_is, stays_open, ask_key_asked, is_kept_group, is_link_is, found_is_in, via_ticks, IsGood, from_link, handled_no_timer, Accepts}
+use Rattle.network_law.proofs.Emits.{Allowed, forwarding, asking, standing_in, passing, declining, repeating, refusing, acking, sending, posting, putting_packet, Forwarding, Sending, Acking, StandingIn, OpenedFirst, Failed, Reversing, ViaLink, ViaHost, Kept, due, reversing, standing, accepting, handled_as, Issued, decide_keeps, key_eq_refl, key_eq_is, bytes_eq_refl, bytes_eq_is, stays_open, ask_key_asked, is_kept_group, is_link_is, found_is_in, via_ticks, IsGood, from_link, handled_no_timer, Accepts}
 use Rattle.network_law.proofs.Node.{NodeFacts, EntryFacts, Opened, OpensNow, opening_in_cases, legal_facts, facts_in, facts_out, keeps_issuers, answer_no_request, response_is_of_kind, response_no_request, forwarded_has, asked_has, Sent, el_dated, el_remove, put_parts, put_case}
 use Rattle.network_law.proofs.Elements.{response_key}
 use Rattle.network_law.proofs.Used.{reversed_more, acked_kind, sent_reply, reply_message}
@@ -78,6 +78,7 @@ module _ (t : Network) (n : ℕ) (past : History) (i : ReadInput) (ok : refusal 
       by_case y is timer ans key (acking f) = ends (is_timer i) timer (handled_no_timer t past i f.message f.source f.is_handled)
       by_case y is timer ans key (sending f) = ends (is_answer y.kind) ans (ap (λ z. is_answer (Fields.kind z)) (sym (same_Some (as_kind (sent_kind (is_04xx f.message.kind) f.again) f.message) y (ap sent (sym f.is) ∙ is))) ∙ Rattle.network_law.proofs.Used.advice_no_answer (is_04xx f.message.kind) f.again)
       by_case y is timer ans key (posting f) = absurd (none_some y (ap sent (sym f.is) ∙ is))
+      by_case y is timer ans key (putting_packet f) = absurd (none_some y (ap sent (sym f.is) ∙ is))
 
       by_test : (y : Fields) → sent o ≡ Some y → (b : Bool) → (is_timer i && is_answer y.kind && pending t h (key_of y)) ≡ b → cond (is_timer i && is_answer y.kind && pending t h (key_of y)) (Some (key_of y)) None ≡ Some k → Issued t op.message
       by_test y is true at e =
@@ -176,6 +177,7 @@ reversal_case t n past i h o l s x allowed e r = go allowed
     go (acking f) = of_response f.source f.message f.code f.is
     go (sending f) = f
     go (posting f) = absurd (none_some x (ap sent (sym f.is) ∙ is_sent))
+    go (putting_packet f) = absurd (none_some x (ap sent (sym f.is) ∙ is_sent))
 
 pub home_is_not : (n : ℕ) (o : Option Issuer) (s : Issuer) → o ≡ Some s → home_is n o ≡ false → is_home s n ≡ false
 home_is_not n o s e f = ap (home_is n) (sym e) ∙ f

@@ -20,6 +20,7 @@ use Rattle.network_law.specs.Entries.{ReadEntry, read_as, read_input, read_trace
 use Rattle.network_law.specs.Checked.{IsChecked}
 use Rattle.network_law.specs.Runs.{NamesOwnLink, IsTyped, step_refusal, step_outputs, outputs_of, fault_of, IsLegal}
 use Rattle.network_law.proofs.ReadRuns.{IsLegalRead, IsDecidedRead}
+use Rattle.network_law.proofs.Packets.{packet_good, packet_is, packet_again, message_no_packet}
 use Rattle.network_law.proofs.Written.{OutputIs}
 use Rattle.network_law.proofs.Reading.{AreOutputs, read_spelling, read_all, read_trace_more, Legible, legible}
 
@@ -69,17 +70,19 @@ unfolding looks_good
 good_is m e = let p = ordered_is 1 m.elements e in record { order = p.0; values = p.1 }
 
 unfoldable input_good : ReadInput → Bool
-unfolding looks_good
+unfolding looks_good packet_good
 input_good (messages.Enter m) = looks_good m
 input_good (messages.Take l s m) = looks_good m
+input_good (messages.TakePacket l s p) = packet_good p
 input_good _ = true
 
 unfoldable output_good : ReadOutput → Bool
-unfolding looks_good
+unfolding looks_good packet_good
 output_good (messages.Put l s m) = looks_good m
 output_good (messages.Answer m) = looks_good m
 output_good (messages.Ask a m) = looks_good m
 output_good (messages.Post m) = looks_good m
+output_good (messages.PutPacket l s p) = packet_good p
 
 unfoldable pub trace_good : List ReadEntry → Bool
 unfolding input_good output_good
@@ -91,7 +94,9 @@ trace_good (e ∷ es) = input_good e.input && list_all output_good e.outputs && 
 read_spelled_input : (i : ReadInput) → input_good i ≡ true → read_input (spelled_input i) ≡ Ok i
 unfolding read_input spelled_input input_good
 read_spelled_input (messages.Enter m) g = ap (read_as messages.Enter) (read_spelling m (good_is m g))
-read_spelled_input (messages.Take l s m) g = ap (read_as (messages.Take l s)) (read_spelling m (good_is m g))
+read_spelled_input (messages.Take l s m) g = rw (message_no_packet m) (ap (read_as (messages.Take l s)) (read_spelling m (good_is m g)))
+read_spelled_input (messages.TakePacket l s p) g = rw (packet_again p (packet_is p g)) refl
+read_spelled_input (messages.Lend m c d a) g = refl
 read_spelled_input (messages.LinkUp l) g = refl
 read_spelled_input (messages.LinkDown l) g = refl
 read_spelled_input messages.Tick g = refl
@@ -104,6 +109,7 @@ output_is (messages.Put l s m) g = good_is m g
 output_is (messages.Answer m) g = good_is m g
 output_is (messages.Ask a m) g = good_is m g
 output_is (messages.Post m) g = good_is m g
+output_is (messages.PutPacket l s p) g = packet_is p g
 
 outputs_are : (os : List ReadOutput) → list_all output_good os ≡ true → AreOutputs os
 outputs_are [] g = tt
@@ -143,6 +149,8 @@ own_link t n (messages.LinkDown l) own = own
 own_link t n messages.Tick own = tt
 own_link t n (messages.HostAnswer a c) own = tt
 own_link t n (messages.NewDate d) own = tt
+own_link t n (messages.TakePacket l s p) own = own
+own_link t n (messages.Lend m c d a) own = tt
 
 pub legal_spelled : (t : Network) (n : ℕ) (es : List ReadEntry) → trace_good es ≡ true → AreTyped es → length es < 1000000 → IsLegalRead t n es → IsLegal t n (spelled_trace es)
 unfolding spelled_trace trace_good step_refusal step_outputs history

@@ -1,25 +1,27 @@
 -- A node's own approvals stay within its limit, and only a node with a limit approves by itself.
-use Rattle.std.proofs.Common.{◌≡◌, ℕ, zero, suc, ◌+◌, ◌≤◌, ◌<◌, List, [], ◌∷◌, ◌++◌, map, Option, Some, None, Bool, true, false, cond, not, ◌&&◌, ◌||◌, refl, sym, ap, ◌∙◌, subst, inl, inr, ⊎_elim, ◌⊎◌, arith, bytes_eq, eqb, nat_lt, length}
-use Rattle.std.proofs.lemmas.Bool.{and_parts, or_right, or_parts, eqb-false, ltb-false, cond_both, cases_lt}
+use Rattle.std.proofs.Common.{◌≡◌, ℕ, suc, ◌+◌, ◌≤◌, ◌<◌, List, [], ◌∷◌, ◌++◌, map, Option, Some, None, Bool, true, false, cond, not, ◌&&◌, ◌||◌, refl, sym, ap, ◌∙◌, subst, inl, inr, ⊎_elim, ◌⊎◌, arith, bytes_eq, eqb, nat_lt, length, unwrap_or, is_none}
+use Rattle.std.specs.Prelude.{min, Contains}
+use Rattle.std.proofs.lemmas.Bool.{and_parts, or_right, or_parts, eqb-false, eqb-true, ltb-false, cond_both, cases_lt}
 use Rattle.std.proofs.lemmas.Option.{same_Some}
 use Rattle.std.specs.Option.{option_and_then}
 use Rattle.std.specs.List.{list_any}
 use Rattle.card_digits.specs.Numbers.{decimal}
-use Rattle.net_rows.specs.Network.{Network, issuer, day}
+use Rattle.net_rows.specs.Network.{Network, issuer, day, stand_in}
+use Rattle.network_law.proofs.Lending.{LentMore, lent_in, borrowed_in, BorrowsNamed, borrows_in, borrowed_some}
 use Rattle.net_rows.specs.declared.row.Issuer.{Issuer}
-use Rattle.network_law.specs.Tables.{node_id, single}
-use Rattle.network_law.specs.Traces.{Source, Gate, ByLink, ReadInput, Enter, Take, LinkUp, LinkDown, Tick, HostAnswer, NewDate, ReadOutput, Put, Answer, Ask, Post, Event, In, Out, History, Opening, opening, answer, answers, sent, has_00, is_00_of, brings_00, key_of_00, own_in, own_approval, Approval, approval_by, approval_of, approvals, Advice, advices, add_advice, add_made, add_accepted, acked_by, has_identity, reverses_key, reversed, counted, added, used, ask_key, key_asked, is_key, is_advice_group, count_of, late_key, failed_key, is_ok_ack, handled, IsIn}
-use Rattle.network_law.specs.Decision.{decide, reply_output, sent_kind, standin_code, code_by_limits}
+use Rattle.network_law.specs.Tables.{node_id, single, is_named}
+use Rattle.network_law.specs.Traces.{Source, Gate, ByLink, ReadInput, Enter, Take, LinkUp, LinkDown, Tick, HostAnswer, NewDate, TakePacket, Lend, ReadOutput, Put, Answer, Ask, Post, Event, In, Out, History, Opening, opening, answer, answers, sent, has_00, is_00_of, brings_00, key_of_00, own_in, own_approval, Approval, approval_by, approval_of, approvals, Advice, advices, add_advice, add_made, add_accepted, acked_by, has_identity, reverses_key, reversed, left_by, left_of, left, counted, added, used, lent, grants, borrowed, taken, allowance, ask_key, key_asked, is_key, is_advice_group, count_of, late_key, failed_key, is_ok_ack, handled, IsIn}
+use Rattle.network_law.specs.Decision.{decide, reply_output, sent_kind, standin_code, limit, code_by_limits}
 use Rattle.network_law.specs.Refusals.{refusal}
 use Rattle.network_law.specs.Entries.{ReadEntry, read_history}
 use Rattle.network_law.proofs.ReadRuns.{IsFormed, IsLegalRead, IsReadRun}
-use Rattle.network_law.specs.Checked.{IsBounded, sum_below}
-use Rattle.network_law.specs.Claims.{IsWithinLimits, NamedApprovers, WithinCeiling, AtMost, exposure}
-use Rattle.network_law.proofs.Emits.{Allowed, forwarding, asking, standing_in, passing, declining, repeating, refusing, acking, sending, posting, Forwarding, Asking, StandingIn, Passing, Declining, Repeating, Refusing, Acking, Sending, Posting, is_kept_group, Issued, decide_keeps, key_eq_refl, key_eq_is, bytes_eq_refl, bytes_eq_is}
+use Rattle.network_law.specs.Checked.{IsBounded}
+use Rattle.network_law.specs.Claims.{IsWithinLimits, NamedApprovers}
+use Rattle.network_law.proofs.Emits.{Allowed, forwarding, asking, standing_in, passing, declining, repeating, refusing, acking, sending, posting, putting_packet, Forwarding, Asking, StandingIn, Passing, Declining, Repeating, Refusing, Acking, Sending, Posting, is_kept_group, Issued, decide_keeps, key_eq_refl, key_eq_is, bytes_eq_refl, bytes_eq_is}
 use Rattle.network_law.proofs.Node.{NodeFacts, EntryFacts, Opened, legal_facts, facts_in, facts_out, facts_decide, keeps_issuers, answers_is, response_is_of_kind}
 use Rattle.network_law.proofs.Elements.{code_response, response_key}
 use Rattle.network_law.proofs.Ends.{legal_at, histories}
-use Rattle.network_law.specs.Cards.{label_of, Bytes, card_of}
+use Rattle.network_law.specs.Cards.{label_of, Bytes, card_of, actual_amount}
 use Rattle.iso_message.specs.Fields.{Fields, el, as_kind}
 use Rattle.iso_message.specs.declared.kind.Kind.{Kind}
 use Rattle.iso_message.specs.declared.kind.Kind.TheVariants.{K0100, K0110, K0120, K0121, K0130, K0400, K0401, K0410, K0420, K0421, K0430, K0101}
@@ -64,6 +66,8 @@ acked_same k (LinkDown l) a = refl
 acked_same k Tick a = refl
 acked_same k (HostAnswer b c) a = refl
 acked_same k (NewDate d) a = refl
+acked_same k (TakePacket lk sr pk) a = refl
+acked_same k (Lend br cd dt am) a = refl
 
 any_acked : (k : Key) (i : ReadInput) (as' : List Advice) → list_any (reverses k) (map (acked_by i) as') ≡ list_any (reverses k) as'
 any_acked k i [] = refl
@@ -103,6 +107,8 @@ brings_more h j o k (LinkUp l) r = r
 brings_more h j o k (LinkDown l) r = r
 brings_more h j o k Tick r = r
 brings_more h j o k (NewDate d) r = r
+brings_more h j o k (TakePacket lk sr pk) r = r
+brings_more h j o k (Lend br cd dt am) r = r
 
 -- an answer with 00 has been put out
 pub answer_has_00 : (h : History) (k : Key) (m : Fields) → answer h k ≡ Some m → bytes_eq (code_of m) code_00 ≡ true → has_00 h k ≡ true
@@ -246,6 +252,10 @@ own_case t n past i h o k facts allowed own = go allowed
     go (sending f) =
         let same : as_kind (sent_kind (is_04xx f.message.kind) f.again) f.message ≡ w.message = same_Some _ _ (ap sent (sym f.is) ∙ w.is) in
         ends (is_answer w.message.kind) w.answer_kind (ap (λ z. is_answer (Fields.kind z)) (sym same) ∙ advice_no_answer (is_04xx f.message.kind) f.again)
+    go (putting_packet f) = absurd (no (ap sent (sym f.is) ∙ w.is))
+      where
+        no : None ≡ Some w.message → ⊥
+        no p = cc
     go (posting f) = absurd (no (ap sent (sym f.is) ∙ w.is))
       where
         no : None ≡ Some w.message → ⊥
@@ -282,24 +292,95 @@ code_within day single currency u m amount e = first (eqb day 0) refl e
     first true at e = no (rw at at e)
     first false at e = second (not (bytes_eq (el m 49) currency)) refl at (rw at at e)
 
-stood_within : (t : Network) (n : ℕ) (h : History) (k : Key) (s : Stood t n h k) → WithinLimits (day t n (card_of s.op.message)) (used t n h (card_of s.op.message) (label_of s.op.message) + decimal (el s.op.message 4))
+stood_within : (t : Network) (n : ℕ) (h : History) (k : Key) (s : Stood t n h k) → WithinLimits (allowance t n h (card_of s.op.message) (label_of s.op.message)) (used t n h (card_of s.op.message) (label_of s.op.message) + decimal (el s.op.message 4))
 unfolding standin_code
-stood_within t n h k s = code_within (day t n (card_of s.op.message)) (single t n (card_of s.op.message)) t.settings.currency (used t n h (card_of s.op.message) (label_of s.op.message)) s.op.message (decimal (el s.op.message 4)) s.code
+stood_within t n h k s = go (is_none (stand_in t n card)) refl (code_within (limit t n h card date) (single t n card) t.settings.currency (used t n h card date) s.op.message (decimal (el s.op.message 4)) s.code)
+  where
+    card : List ℕ
+    card = card_of s.op.message
+
+    date : List ℕ
+    date = label_of s.op.message
+
+    total : ℕ
+    total = used t n h card date + decimal (el s.op.message 4)
+
+    go : (b : Bool) → is_none (stand_in t n card) ≡ b → WithinLimits (limit t n h card date) total → WithinLimits (allowance t n h card date) total
+    go true at w = let e : limit t n h card date ≡ 0 = rw at refl in let some = w.some in absurd (omega (arith, e, some))
+    go false at w = let e : limit t n h card date ≡ allowance t n h card date = rw at refl in subst (λ z. WithinLimits z total) e w
 
 -- amounts
 
-picked : (b r r' : Bool) (amount : ℕ) → (r ≡ true → r' ≡ true) → cond (b && not r') amount 0 ≤ cond (b && not r) amount 0
-picked false r r' amount more = omega arith
-picked true false false amount more = omega arith
-picked true false true amount more = omega arith
-picked true true true amount more = omega arith
-picked true true false amount more = absurd (bad (more refl))
+pub left_by_less : (k : Key) (a : Advice) (x : ℕ) → left_by k a x ≤ x
+left_by_less k a x = cond_both (not a.own && reverses_key k a) (min (unwrap_or (actual_amount a.message) 0) x) x (λ z. z ≤ x) (λ _. omega arith) (λ _. omega arith)
+
+left_by_keeps : (k : Key) (a : Advice) (x y : ℕ) → x ≤ y → left_by k a x ≤ left_by k a y
+left_by_keeps k a x y le = go (not a.own && reverses_key k a) refl
   where
-    bad : false ≡ true → ⊥
-    bad p = cc
+    go : (b : Bool) → (not a.own && reverses_key k a) ≡ b → left_by k a x ≤ left_by k a y
+    go true at = rw at (omega (arith, le))
+    go false at = rw at le
+
+left_acked_by : (k : Key) (i : ReadInput) (a : Advice) (x : ℕ) → left_by k (acked_by i a) x ≡ left_by k a x
+left_acked_by k (Take l s m) a x = refl
+left_acked_by k (Enter m) a x = refl
+left_acked_by k (LinkUp l) a x = refl
+left_acked_by k (LinkDown l) a x = refl
+left_acked_by k Tick a x = refl
+left_acked_by k (HostAnswer b c) a x = refl
+left_acked_by k (NewDate d) a x = refl
+left_acked_by k (TakePacket lk sr pk) a x = refl
+left_acked_by k (Lend br cd dt am) a x = refl
+
+left_acked : (k : Key) (i : ReadInput) (as' : List Advice) (x : ℕ) → left_of k (map (acked_by i) as') x ≡ left_of k as' x
+left_acked k i [] x = refl
+left_acked k i (a ∷ as') x = left_acked_by k i a (left_of k (map (acked_by i) as') x) ∙ ap (left_by k a) (left_acked k i as' x)
+
+left_add : (k : Key) (a : Advice) (as' : List Advice) (x : ℕ) → left_of k (add_advice a as') x ≤ left_of k as' x
+left_add k a as' x = cond_both _ as' (a ∷ as') (λ z. left_of k z x ≤ left_of k as' x) (λ _. omega arith) (λ _. left_by_less k a (left_of k as' x))
+
+left_made : (k : Key) (make : Fields → Fields) (count : ℕ) (o : Option Opening) (as' : List Advice) (x : ℕ) → left_of k (add_made make count o as') x ≤ left_of k as' x
+left_made k make count None as' x = omega arith
+left_made k make count (Some op) as' x = left_add k (record { message = make op.message; count = count; own = true; acked = false }) as' x
+
+left_accepted : (k : Key) (count : ℕ) (b : Bool) (o : Option Rattle.network_law.specs.Traces.Handled) (as' : List Advice) (x : ℕ) → left_of k (add_accepted count b o as') x ≤ left_of k as' x
+left_accepted k count true (Some m) as' x = cond_both (is_advice_group (group m.message.kind)) _ as' (λ z. left_of k z x ≤ left_of k as' x) (λ _. left_add k _ as' x) (λ _. omega arith)
+left_accepted k count true None as' x = omega arith
+left_accepted k count false o as' x = omega arith
+
+left_more : (t : Network) (n : ℕ) (e : Event) (h : History) (a : Approval) → left t n (e ∷ h) a ≤ left t n h a
+unfolding left advices
+left_more t n (In i) h a =
+    let x = decimal (el a.request 4) in
+    let p = left_made a.key (λ m. made_reversal m (node_id t n)) (count_of h) (option_and_then (opening t h) (late_key h (advices t n h) i)) (map (acked_by i) (advices t n h)) x in
+    let q = left_acked a.key i (advices t n h) x in
+    omega (arith, p, q)
+left_more t n (Out i o) h a =
+    let x = decimal (el a.request 4) in
+    let failed = add_made (λ m. made_reversal m (node_id t n)) (count_of h) (option_and_then (opening t h) (failed_key t h i (sent o))) (advices t n h) in
+    let stood = add_made (λ m. made_stand_in m (node_id t n)) (count_of h) (option_and_then (opening t h) (own_approval h i o)) failed in
+    let p = left_made a.key (λ m. made_reversal m (node_id t n)) (count_of h) (option_and_then (opening t h) (failed_key t h i (sent o))) (advices t n h) x in
+    let q = left_made a.key (λ m. made_stand_in m (node_id t n)) (count_of h) (option_and_then (opening t h) (own_approval h i o)) failed x in
+    let r = left_accepted a.key (count_of h) (is_ok_ack (sent o)) (handled t h i) stood x in
+    omega (arith, p, q, r)
+
+left_of_less : (k : Key) (as' : List Advice) (x : ℕ) → left_of k as' x ≤ x
+left_of_less k [] x = omega arith
+left_of_less k (a ∷ as') x =
+    let p = left_by_less k a (left_of k as' x) in
+    let q = left_of_less k as' x in
+    omega (arith, p, q)
+
+left_less : (t : Network) (n : ℕ) (h : History) (a : Approval) → left t n h a ≤ decimal (el a.request 4)
+unfolding left
+left_less t n h a = left_of_less a.key (advices t n h) (decimal (el a.request 4))
+
+picked : (b : Bool) (x y : ℕ) → x ≤ y → cond b x 0 ≤ cond b y 0
+picked false x y le = omega arith
+picked true x y le = le
 
 counted_more : (t : Network) (n : ℕ) (e : Event) (h : History) (card : List ℕ) (date : List ℕ) (a : Approval) → counted t n (e ∷ h) card date a ≤ counted t n h card date a
-counted_more t n e h card date a = picked (bytes_eq (card_of a.request) card && bytes_eq (label_of a.request) date) (reversed t n h a.key) (reversed t n (e ∷ h) a.key) (decimal (el a.request 4)) (reversed_more t n e h a.key)
+counted_more t n e h card date a = picked (bytes_eq (card_of a.request) card && bytes_eq (label_of a.request) date) (left t n (e ∷ h) a) (left t n h a) (left_more t n e h a)
 
 sum_less : {X : Type 0} (f g : X → ℕ) (xs : List X) → ((x : X) → f x ≤ g x) → added f xs ≤ added g xs
 sum_less f g [] le = omega arith
@@ -309,47 +390,99 @@ sum_less f g (x ∷ xs) le =
     omega (arith, a, b)
 
 counted_at_most : (t : Network) (n : ℕ) (h : History) (card : List ℕ) (date : List ℕ) (a : Approval) → counted t n h card date a ≤ decimal (el a.request 4)
-counted_at_most t n h card date a = cond_both (bytes_eq (card_of a.request) card && bytes_eq (label_of a.request) date && not (reversed t n h a.key)) (decimal (el a.request 4)) 0 (λ z. z ≤ decimal (el a.request 4)) (λ _. omega arith) (λ _. omega arith)
+counted_at_most t n h card date a = cond_both (bytes_eq (card_of a.request) card && bytes_eq (label_of a.request) date) (left t n h a) 0 (λ z. z ≤ decimal (el a.request 4)) (λ _. left_less t n h a) (λ _. omega arith)
 
 -- what counts for a card and date is of them
 counted_of : (t : Network) (n : ℕ) (h : History) (card : List ℕ) (date : List ℕ) (a : Approval) → (counted t n h card date a ≡ 0) ⊎ ((card_of a.request ≡ card) × (label_of a.request ≡ date))
-counted_of t n h card date a = cond_both (bytes_eq (card_of a.request) card && bytes_eq (label_of a.request) date && not (reversed t n h a.key)) (decimal (el a.request 4)) 0 (λ z. (z ≡ 0) ⊎ ((card_of a.request ≡ card) × (label_of a.request ≡ date)))
+counted_of t n h card date a = cond_both (bytes_eq (card_of a.request) card && bytes_eq (label_of a.request) date) (left t n h a) 0 (λ z. (z ≡ 0) ⊎ ((card_of a.request ≡ card) × (label_of a.request ≡ date)))
     (λ e. inr (parts e)) (λ _. inl refl)
   where
-    parts : (bytes_eq (card_of a.request) card && bytes_eq (label_of a.request) date && not (reversed t n h a.key)) ≡ true → (card_of a.request ≡ card) × (label_of a.request ≡ date)
+    parts : (bytes_eq (card_of a.request) card && bytes_eq (label_of a.request) date) ≡ true → (card_of a.request ≡ card) × (label_of a.request ≡ date)
     parts e =
-        let p = and_parts (bytes_eq (card_of a.request) card && bytes_eq (label_of a.request) date) (not (reversed t n h a.key)) e in
-        let q = and_parts (bytes_eq (card_of a.request) card) (bytes_eq (label_of a.request) date) p.0 in
+        let q = and_parts (bytes_eq (card_of a.request) card) (bytes_eq (label_of a.request) date) e in
         (bytes_eq_is (card_of a.request) card q.0, bytes_eq_is (label_of a.request) date q.1)
 
 -- the limit of a card at a node, 0 without an issuer
-pub cap_of : Option Issuer → ℕ → ℕ
+unfoldable pub cap_of : Option Issuer → ℕ → ℕ
 cap_of None day = 0
 cap_of (Some s) day = day
 
-pub record UsedFacts (t : Network) (n : ℕ) (h : History) : Type 0 where
-  pub named : (a : Approval) → IsIn a (approvals t h) → (s : Issuer) × (issuer t (card_of a.request) ≡ Some s) × (0 < (day t n (card_of a.request)))
-  pub within : (card : List ℕ) (date : List ℕ) → used t n h card date ≤ cap_of (issuer t card) (day t n card)
+-- the node has a limit for the card, or is named by its issuer
+abbrev pub MayApprove : Network → ℕ → List ℕ → Type 0
+MayApprove t n card = (0 < day t n card) ⊎ (is_named (issuer t card) n ≡ true)
 
-used_in : (t : Network) (n : ℕ) (i : ReadInput) (h : History) → UsedFacts t n h → UsedFacts t n (In i ∷ h)
+abbrev IsNamedApproval : Network → ℕ → Approval → Type 0
+IsNamedApproval t n a = (s : Issuer) × (issuer t (card_of a.request) ≡ Some s) × MayApprove t n (card_of a.request)
+
+pub record UsedFacts (t : Network) (n : ℕ) (h : History) : Type 0 where
+  pub named : (a : Approval) → IsIn a (approvals t h) → IsNamedApproval t n a
+  pub within : (card : List ℕ) (date : List ℕ) → used t n h card date + lent t n h card date ≤ cap_of (issuer t card) (day t n card + borrowed h card date)
+  pub borrows : BorrowsNamed t n (taken h)
+
+cap_more : (o : Option Issuer) (x y : ℕ) → x ≤ y → cap_of o x ≤ cap_of o y
+unfolding cap_of
+cap_more None x y le = omega arith
+cap_more (Some s) x y le = le
+
+cap_named : (o : Option Issuer) (m x : ℕ) → is_named o m ≡ true → cap_of o x ≡ x
+unfolding cap_of
+cap_named None m x e = absurd (not_both false e refl)
+cap_named (Some s) m x e = refl
+
+used_in : (t : Network) (n : ℕ) (i : ReadInput) (h : History) → refusal t n h i ≡ None → UsedFacts t n h → UsedFacts t n (In i ∷ h)
 unfolding used approvals
-used_in t n i h f = record {
+used_in t n i h ok f = record {
   named = f.named;
-  within = λ card date. (let a = f.within card date in let b = sum_less (counted t n (In i ∷ h) card date) (counted t n h card date) (approvals t h) (counted_more t n (In i) h card date) in omega (arith, a, b));
+  within = λ card date. ⊎_elim (same card date) (more card date) (lent_in t n h i ok card date);
+  borrows = borrows_in t n h i ok f.borrows;
 }
+  where
+    less : (card date : List ℕ) → used t n (In i ∷ h) card date ≤ used t n h card date
+    less card date = sum_less (counted t n (In i ∷ h) card date) (counted t n h card date) (approvals t h) (counted_more t n (In i) h card date)
+
+    wider : (card date : List ℕ) → cap_of (issuer t card) (day t n card + borrowed h card date) ≤ cap_of (issuer t card) (day t n card + borrowed (In i ∷ h) card date)
+    wider card date = let p = borrowed_in h i card date in cap_more (issuer t card) (day t n card + borrowed h card date) (day t n card + borrowed (In i ∷ h) card date) (omega (arith, p))
+
+    same : (card date : List ℕ) → lent t n (In i ∷ h) card date ≡ lent t n h card date → used t n (In i ∷ h) card date + lent t n (In i ∷ h) card date ≤ cap_of (issuer t card) (day t n card + borrowed (In i ∷ h) card date)
+    same card date e =
+        let a = f.within card date in
+        let b = less card date in
+        let c = wider card date in
+        omega (arith, a, b, c, e)
+
+    more : (card date : List ℕ) → LentMore t n h i card date → used t n (In i ∷ h) card date + lent t n (In i ∷ h) card date ≤ cap_of (issuer t card) (day t n card + borrowed (In i ∷ h) card date)
+    more card date e =
+        let a = e.1 in
+        let b = less card date in
+        let c = borrowed_in h i card date in
+        let d = cap_named (issuer t card) e.0.0 (day t n card + borrowed (In i ∷ h) card date) e.0.1 in
+        omega (arith, a, b, c, d)
+
+-- an approval within the allowance is of a card of which the node has a limit or borrowed
+approves : (t : Network) (n : ℕ) (h : History) (card date : List ℕ) → BorrowsNamed t n (taken h) → 0 < allowance t n h card date → MayApprove t n card
+unfolding borrowed
+approves t n h card date named some = ⊎_elim inl from (cases_lt 0 (day t n card))
+  where
+    from : day t n card ≤ 0 → MayApprove t n card
+    from none =
+        let r = borrowed_some card date (taken h) (omega (arith, some, none)) in
+        inr (subst (λ x. is_named (issuer t x) n ≡ true) r.2 (named r.0 r.1).0)
 
 used_out : (t : Network) (n : ℕ) (i : ReadInput) (o : ReadOutput) (h : History) → ((k : Key) → own_approval h i o ≡ Some k → Stood t n h k) → UsedFacts t n h → UsedFacts t n (Out i o ∷ h)
-unfolding used approvals cap_of
+unfolding used approvals cap_of lent grants borrowed taken
 used_out t n i o h stood f = go (own_approval h i o) refl
   where
+    cap : List ℕ → List ℕ → ℕ
+    cap card date = cap_of (issuer t card) (day t n card + borrowed h card date)
+
     step : (card : List ℕ) (date : List ℕ) → added (counted t n (Out i o ∷ h) card date) (approvals t h) ≤ added (counted t n h card date) (approvals t h)
     step card date = sum_less (counted t n (Out i o ∷ h) card date) (counted t n h card date) (approvals t h) (counted_more t n (Out i o) h card date)
 
-    named_more : (as' : List Approval) → approval_of t h (own_approval h i o) ≡ as' → ((a : Approval) → IsIn a as' → (s : Issuer) × (issuer t (card_of a.request) ≡ Some s) × (0 < (day t n (card_of a.request)))) → (a : Approval) → IsIn a (approval_of t h (own_approval h i o) ++ approvals t h) → (s : Issuer) × (issuer t (card_of a.request) ≡ Some s) × (0 < (day t n (card_of a.request)))
+    named_more : (as' : List Approval) → approval_of t h (own_approval h i o) ≡ as' → ((a : Approval) → IsIn a as' → IsNamedApproval t n a) → (a : Approval) → IsIn a (approval_of t h (own_approval h i o) ++ approvals t h) → IsNamedApproval t n a
     named_more [] e each a m = f.named a (rw e at m)
     named_more (b ∷ bs) e each a m = ⊎_elim (λ x. each a (inl x)) (λ r. rest bs (λ z q. each z (inr q)) r) (rw e at m)
       where
-        rest : (cs : List Approval) → ((z : Approval) → IsIn z cs → (s : Issuer) × (issuer t (card_of z.request) ≡ Some s) × (0 < (day t n (card_of z.request)))) → IsIn a (cs ++ approvals t h) → (s : Issuer) × (issuer t (card_of a.request) ≡ Some s) × (0 < (day t n (card_of a.request)))
+        rest : (cs : List Approval) → ((z : Approval) → IsIn z cs → IsNamedApproval t n z) → IsIn a (cs ++ approvals t h) → IsNamedApproval t n a
         rest [] each' r = f.named a r
         rest (c ∷ cs) each' r = ⊎_elim (λ x. each' a (inl x)) (λ q. rest cs (λ z w. each' z (inr w)) q) r
 
@@ -359,35 +492,40 @@ used_out t n i o h stood f = go (own_approval h i o) refl
         record {
           named = named_more [] none (λ a m. absurd m);
           within = λ card date. (let a = f.within card date in let b = step card date in rw none (omega (arith, a, b)));
+          borrows = f.borrows;
         }
     go (Some k) e =
         let s : Stood t n h k = stood k e in
-        let limit = stood_within t n h k s in
+        let within = stood_within t n h k s in
         let new : Approval = record { key = k; request = s.op.message } in
         let one : approval_of t h (own_approval h i o) ≡ new ∷ [] = ap (approval_of t h) e ∙ ap (approval_by k) s.opens in
         record {
-          named = named_more (new ∷ []) one (λ a m. ⊎_elim (λ same. subst (λ z. (s' : Issuer) × (issuer t (card_of (Approval.request z)) ≡ Some s') × (0 < (day t n (card_of (Approval.request z))))) same (s.s, s.issued, limit.some)) (λ bad. absurd bad) m);
+          named = named_more (new ∷ []) one (λ a m. ⊎_elim (λ same. subst (IsNamedApproval t n) same (s.s, s.issued, approves t n h (card_of s.op.message) (label_of s.op.message) f.borrows within.some)) (λ bad. absurd bad) m);
           within = λ card date. rw one (sums k s card date);
+          borrows = f.borrows;
         }
       where
-        sums : (k : Key) (s : Stood t n h k) (card : List ℕ) (date : List ℕ) → counted t n (Out i o ∷ h) card date (record { key = k; request = s.op.message }) + added (counted t n (Out i o ∷ h) card date) (approvals t h) ≤ cap_of (issuer t card) (day t n card)
+        sums : (k : Key) (s : Stood t n h k) (card : List ℕ) (date : List ℕ) → counted t n (Out i o ∷ h) card date (record { key = k; request = s.op.message }) + added (counted t n (Out i o ∷ h) card date) (approvals t h) + lent t n h card date ≤ cap card date
         sums k s card date = ⊎_elim none same (counted_of t n (Out i o ∷ h) card date (record { key = k; request = s.op.message }))
           where
-            none : counted t n (Out i o ∷ h) card date (record { key = k; request = s.op.message }) ≡ 0 → counted t n (Out i o ∷ h) card date (record { key = k; request = s.op.message }) + added (counted t n (Out i o ∷ h) card date) (approvals t h) ≤ cap_of (issuer t card) (day t n card)
+            none : counted t n (Out i o ∷ h) card date (record { key = k; request = s.op.message }) ≡ 0 → counted t n (Out i o ∷ h) card date (record { key = k; request = s.op.message }) + added (counted t n (Out i o ∷ h) card date) (approvals t h) + lent t n h card date ≤ cap card date
             none z = let a = f.within card date in let b = step card date in omega (arith, a, b, z)
 
-            same : (card_of s.op.message ≡ card) × (label_of s.op.message ≡ date) → counted t n (Out i o ∷ h) card date (record { key = k; request = s.op.message }) + added (counted t n (Out i o ∷ h) card date) (approvals t h) ≤ cap_of (issuer t card) (day t n card)
+            same : (card_of s.op.message ≡ card) × (label_of s.op.message ≡ date) → counted t n (Out i o ∷ h) card date (record { key = k; request = s.op.message }) + added (counted t n (Out i o ∷ h) card date) (approvals t h) + lent t n h card date ≤ cap card date
             same e =
-                let limit = stood_within t n h k s in
-                let a : used t n h card date + decimal (el s.op.message 4) ≤ (day t n card) = subst (λ c. used t n h c date + decimal (el s.op.message 4) ≤ (day t n c)) e.0 (subst (λ d. used t n h (card_of s.op.message) d + decimal (el s.op.message 4) ≤ (day t n (card_of s.op.message))) e.1 limit.all) in
+                let w : WithinLimits (allowance t n h card date) (used t n h card date + decimal (el s.op.message 4)) =
+                subst (λ c. WithinLimits (allowance t n h c date) (used t n h c date + decimal (el s.op.message 4))) e.0 (subst (λ d. WithinLimits (allowance t n h (card_of s.op.message) d) (used t n h (card_of s.op.message) d + decimal (el s.op.message 4))) e.1 (stood_within t n h k s))
+                in
+                let some = w.some in
+                let all = w.all in
                 let b = step card date in
                 let c = counted_at_most t n (Out i o ∷ h) card date (record { key = k; request = s.op.message }) in
-                let d : cap_of (issuer t card) (day t n card) ≡ (day t n card) = ap (λ z. cap_of z (day t n card)) (ap (issuer t) (sym e.0) ∙ s.issued) in
-                omega (arith, a, b, c, d)
+                let d : cap card date ≡ day t n card + borrowed h card date = ap (λ z. cap_of z (day t n card + borrowed h card date)) (ap (issuer t) (sym e.0) ∙ s.issued) in
+                omega (arith, some, all, b, c, d)
 
 no_used : (t : Network) (n : ℕ) → UsedFacts t n []
-unfolding used approvals
-no_used t n = record { named = λ a m. absurd m; within = λ card date. omega arith }
+unfolding used approvals lent grants taken
+no_used t n = record { named = λ a m. absurd m; within = λ card date. omega arith; borrows = λ g m. absurd m }
 
 -- within an entry
 record Both (t : Network) (n : ℕ) (past : History) (i : ReadInput) (h : History) : Type 0 where
@@ -410,6 +548,8 @@ own_in_entry t n past i form ok f = record {
     brought_in k (LinkDown l) r = r
     brought_in k Tick r = r
     brought_in k (NewDate d) r = r
+    brought_in k (TakePacket lk sr pk) r = r
+    brought_in k (Lend br cd dt am) r = r
 
 used_decide : (t : Network) (n : ℕ) (past : History) (i : ReadInput) → IsFormed i → refusal t n past i ≡ None → NodeFacts t n past → UsedFacts t n past → UsedFacts t n (decide t n past i)
 used_decide t n past i form ok f u =
@@ -419,7 +559,7 @@ used_decide t n past i form ok f u =
       all = used_out t n i o h (λ k e. own_case t n past i h o k q.own allowed e) q.all;
     })
     (keeps_issuers t n past f)
-    (record { own = own_in_entry t n past i form ok f; all = used_in t n i past u })).all
+    (record { own = own_in_entry t n past i form ok f; all = used_in t n i past ok u })).all
 
 pub legal_used : (t : Network) (n : ℕ) (es : List ReadEntry) → IsLegalRead t n es → UsedFacts t n (read_history es)
 unfolding read_history
@@ -428,11 +568,22 @@ legal_used t n (e ∷ es) l = subst (UsedFacts t n) (sym l.1.outputs) (used_deci
 
 -- the laws
 
+any_contains : (n : ℕ) (ns : List ℕ) → list_any (λ m. eqb m n) ns ≡ true → Contains ns n
+any_contains n [] e = absurd (not_both false e refl)
+any_contains n (m ∷ ns) e = go (eqb m n) refl (any_contains n ns)
+  where
+    go : (b : Bool) → eqb m n ≡ b → (list_any (λ k. eqb k n) ns ≡ true → Contains ns n) → Contains (m ∷ ns) n
+    go true at rest = (0, omega arith, eqb-true m n at)
+    go false at rest = let r = rest (rw at at e) in (suc r.0, (let less = r.1 in omega (arith, less)), r.2)
+
+names : (t : Network) (n : ℕ) (card : List ℕ) (s : Issuer) → IsBounded t → n < length t.nodes → issuer t card ≡ Some s → MayApprove t n card → Contains s.named n
+names t n card s bounded less is may = ⊎_elim (λ some. bounded.named card s n is less some) (λ named. any_contains n s.named (ap (λ z. is_named z n) (sym is) ∙ named)) may
+
 pub NamedApprovers_holds : (t : Network) (traces : ℕ → List ReadEntry) → IsReadRun t traces → IsBounded t → NamedApprovers t (histories traces)
 unfolding read_history approvals
 NamedApprovers_holds t traces run bounded n a m =
     let f = (legal_used t n (traces n) (legal_at run n)).named a m in
-    (f.0, f.1, bounded.named (card_of a.request) f.0 n f.1 (live (traces n) refl m) f.2)
+    (f.0, f.1, names t n (card_of a.request) f.0 bounded (live (traces n) refl m) f.1 f.2)
   where
     -- a node that approved has a trace
     live : (es : List ReadEntry) → traces n ≡ es → IsIn a (approvals t (read_history es)) → n < length t.nodes
@@ -445,41 +596,13 @@ NamedApprovers_holds t traces run bounded n a m =
 pub within_limits : (t : Network) (n : ℕ) (es : List ReadEntry) → IsBounded t → n < length t.nodes → IsLegalRead t n es → IsWithinLimits t n (read_history es)
 unfolding cap_of
 within_limits t n es bounded less l = record {
-  named = λ a m. (let f = u.named a m in (f.0, f.1, bounded.named (card_of a.request) f.0 n f.1 less f.2));
+  named = λ a m. (let f = u.named a m in (f.0, f.1, names t n (card_of a.request) f.0 bounded less f.1 f.2));
   within = λ card date. go card date (issuer t card) (u.within card date);
 }
   where
     u : UsedFacts t n (read_history es)
     u = legal_used t n es l
 
-    go : (card date : List ℕ) (o : Option Issuer) → used t n (read_history es) card date ≤ cap_of o (day t n card) → used t n (read_history es) card date ≤ day t n card
+    go : (card date : List ℕ) (o : Option Issuer) → used t n (read_history es) card date + lent t n (read_history es) card date ≤ cap_of o (day t n card + borrowed (read_history es) card date) → used t n (read_history es) card date ≤ allowance t n (read_history es) card date
     go card date None le = omega (arith, le)
-    go card date (Some s) le = le
-
-total_less : (f g : ℕ → ℕ) (n : ℕ) → ((k : ℕ) → f k ≤ g k) → sum_below f n ≤ sum_below g n
-total_less f g zero le = omega arith
-total_less f g (suc n) le =
-    let a = le n in
-    let b = total_less f g n le in
-    omega (arith, a, b)
-
-total_zero : (f : ℕ → ℕ) (n : ℕ) → ((k : ℕ) → f k ≤ 0) → sum_below f n ≤ 0
-total_zero f zero le = omega arith
-total_zero f (suc n) le =
-    let a = le n in
-    let b = total_zero f n le in
-    omega (arith, a, b)
-
-pub WithinCeiling_holds : (t : Network) (traces : ℕ → List ReadEntry) → IsReadRun t traces → IsBounded t → WithinCeiling t (histories traces)
-unfolding cap_of
-WithinCeiling_holds t traces run bounded card date = go (issuer t card) refl
-  where
-    cap : (o : Option Issuer) → issuer t card ≡ o → (n : ℕ) → used t n (read_history (traces n)) card date ≤ cap_of o (day t n card)
-    cap o e n = rw e at ((legal_used t n (traces n) (legal_at run n)).within card date)
-
-    go : (o : Option Issuer) → issuer t card ≡ o → AtMost o (exposure t (histories traces) card date)
-    go None e = total_zero (λ n. used t n (read_history (traces n)) card date) (length t.nodes) (cap None e)
-    go (Some s) e =
-        let a = total_less (λ n. used t n (read_history (traces n)) card date) (λ n. day t n card) (length t.nodes) (cap (Some s) e) in
-        let b = bounded.within card s e in
-        omega (arith, a, b)
+    go card date (Some s) le = omega (arith, le)

@@ -11,8 +11,9 @@ use Rattle.network_law.specs.Refusals.{refusal}
 use Rattle.network_law.specs.Entries.{Input, Take, Put, Entry, read_history, spelled, spelled_input, spelled_trace}
 use Rattle.network_law.specs.Checked.{IsChecked, IsRanked, Falls}
 use Rattle.network_law.specs.Runs.{IsLegal, IsRun}
-use Rattle.network_law.specs.Worked.{base, limited, diamond, reversed_run, base_ranks}
+use Rattle.network_law.specs.Worked.{base, limited, diamond, lenders, reversed_run, lent_run, base_ranks, card_number}
 use Rattle.network_law.proofs.ReadRuns.{IsLegalRead}
+use Rattle.network_law.proofs.Packets.{within_is}
 use Rattle.network_law.proofs.Spelled.{legal_spelled}
 
 pub base_checked : IsChecked base
@@ -23,6 +24,9 @@ limited_checked = search rules
 
 pub diamond_checked : IsChecked diamond
 diamond_checked = search rules
+
+pub lenders_checked : IsChecked lenders
+lenders_checked = search rules
 
 pub base_ranked : IsRanked base base_ranks
 unfolding route_links
@@ -90,3 +94,50 @@ put_of (suc (suc n)) e has = absurd has
 
 pub base_run : IsRun base (λ n. spelled_trace (reversed_run n))
 base_run = record { legal = legal_each; no_others = none; linked = λ n l s bytes e has is. subst (HasPut n) is (put_of n e has) }
+
+-- the run with a grant
+
+lent_a : IsLegalRead lenders 0 (lent_run 0)
+unfolding read_history decide refusal
+lent_a = (
+  (omega arith, record { own = omega arith; formed = omega arith; accepted = refl; outputs = refl }),
+  record { own = refl; formed = omega arith; accepted = refl; outputs = refl },
+)
+
+lent_b : IsLegalRead lenders 1 (lent_run 1)
+unfolding read_history decide refusal
+lent_b = (
+  (omega arith, record { own = refl; formed = omega arith; accepted = refl; outputs = refl }),
+  record { own = refl; formed = omega arith; accepted = refl; outputs = refl },
+)
+
+lent_each : (n : ℕ) → n < 3 → IsLegal lenders n (spelled_trace (lent_run n))
+unfolding spelled_input Rattle.network_law.proofs.Spelled.trace_good
+lent_each zero less = legal_spelled lenders 0 (lent_run 0) refl (tt, ((within_is 8 19 card_number refl, within_is 4 4 (0 ∷ 3 ∷ 1 ∷ 4 ∷ []) refl, omega arith), tt)) (omega arith) lent_a
+lent_each (suc zero) less = legal_spelled lenders 1 (lent_run 1) refl (tt, (tt, tt)) (omega arith) lent_b
+lent_each (suc (suc n)) less = legal_spelled lenders (suc (suc n)) [] refl tt (omega arith) (omega arith)
+
+lent_none : (n : ℕ) → 3 ≤ n → spelled_trace (lent_run n) ≡ []
+unfolding spelled_trace
+lent_none zero le = absurd (omega (arith, le))
+lent_none (suc zero) le = absurd (omega (arith, le))
+lent_none (suc (suc n)) le = refl
+
+abbrev LentPut : ℕ → Input → Type 0
+LentPut n (Take l s bytes) = (f : Entry) × IsIn f (spelled_trace (lent_run (other_end lenders n l))) × IsIn (Put l s bytes) f.outputs
+LentPut n _ = ⊤
+
+lent_put : (n : ℕ) (e : Entry) → IsIn e (spelled_trace (lent_run n)) → LentPut n e.input
+unfolding spelled_trace spelled spelled_input
+lent_put zero e has = ⊎_elim (λ p. at p (_, inr (inl refl), inl refl)) (λ has. ⊎_elim (λ p. at p tt) (λ bad. absurd bad) has) has
+  where
+    at : {x : Entry} → x ≡ e → LentPut 0 x.input → LentPut 0 e.input
+    at p h = subst (λ (z : Entry). LentPut 0 z.input) p h
+lent_put (suc zero) e has = ⊎_elim (λ p. at p (_, inr (inl refl), inl refl)) (λ has. ⊎_elim (λ p. at p (_, inr (inl refl), inl refl)) (λ bad. absurd bad) has) has
+  where
+    at : {x : Entry} → x ≡ e → LentPut 1 x.input → LentPut 1 e.input
+    at p h = subst (λ (z : Entry). LentPut 1 z.input) p h
+lent_put (suc (suc n)) e has = absurd has
+
+pub lent_is_run : IsRun lenders (λ n. spelled_trace (lent_run n))
+lent_is_run = record { legal = lent_each; no_others = lent_none; linked = λ n l s bytes e has is. subst (LentPut n) is (lent_put n e has) }

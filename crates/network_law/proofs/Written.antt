@@ -1,5 +1,5 @@
 -- Every message of a legal history can be written, and is read as itself.
-use Rattle.std.proofs.Common.{◌≡◌, ℕ, ◌+◌, ◌≤◌, length, [], ◌∷◌, map, Option, Some, None, Bool, true, false, cond, not, ◌&&◌, refl, sym, ap, ◌∙◌, subst, inl, inr, ⊎_elim, eqb, nat_lt, bytes_eq, List}
+use Rattle.std.proofs.Common.{◌≡◌, ℕ, suc, arith, ◌+◌, ◌≤◌, ◌<◌, length, [], ◌∷◌, map, Option, Some, None, Bool, true, false, cond, not, ◌&&◌, refl, sym, ap, ◌∙◌, subst, inl, inr, ⊎_elim, eqb, nat_lt, bytes_eq, List}
 use Rattle.std.proofs.lemmas.Bool.{cond_both, and_parts}
 use Rattle.std.proofs.lemmas.Option.{same_Some}
 use Rattle.std.specs.Prelude.{⊤}
@@ -14,19 +14,22 @@ use Rattle.iso_message.specs.Keys.{key_of, key_eq}
 use Rattle.iso_message.specs.Codes.{code_of, code_00, code_57, code_61, code_91, code_94}
 use Rattle.iso_message.specs.Made.{response, made_stand_in, made_reversal}
 use Rattle.iso_message.specs.Spelling.{IsMessage}
-use Rattle.net_rows.specs.Network.{Network, day}
-use Rattle.network_law.specs.Cards.{text_of, Bytes, card_of}
+use Rattle.net_rows.specs.Network.{Network}
+use Rattle.network_law.specs.Cards.{text_of, label_of, Bytes, card_of}
 use Rattle.network_law.specs.Tables.{node_id, single}
-use Rattle.network_law.specs.Traces.{Source, Gate, ByLink, ReadInput, Enter, Take, LinkUp, LinkDown, Tick, HostAnswer, NewDate, ReadOutput, Put, Answer, Ask, Post, Event, In, Out, History, IsIn, date_of, count_of, Handled, handled, dated, Opening, opening, opened_by, answer, answers, sent, own_approval, Advice, advices, acked_by, add_made, add_accepted, late_key, failed_key, is_ok_ack, as_kept, used}
-use Rattle.network_law.specs.Decision.{decide, reply_output, standin_code, code_by_limits}
+use Rattle.network_law.specs.Grants.{Grant, Granting, Received}
+use Rattle.network_law.proofs.Packets.{IsPacket, IsGrant, IsNumbered, pad_good}
+use Rattle.network_law.specs.Traces.{Source, Gate, ByLink, ReadInput, Enter, Take, LinkUp, LinkDown, Tick, HostAnswer, NewDate, TakePacket, Lend, Lent, lent_acked, grants, ReadOutput, Put, Answer, Ask, Post, PutPacket, Event, In, Out, History, IsIn, date_of, count_of, Handled, handled, dated, Opening, opening, opened_by, answer, answers, sent, own_approval, Advice, advices, acked_by, add_made, add_accepted, late_key, failed_key, is_ok_ack, as_kept, used}
+use Rattle.network_law.specs.Decision.{decide, reply_output, standin_code, limit, code_by_limits}
 use Rattle.network_law.specs.Refusals.{refusal, required_taken}
-use Rattle.network_law.specs.Entries.{IsCode}
-use Rattle.card_digits.specs.Digits.{IsDateLabel}
-use Rattle.network_law.proofs.Ids.{IsIdText}
+use Rattle.network_law.specs.Entries.{IsCode, ReadEntry, read_history, put_out}
+use Rattle.card_digits.specs.Digits.{IsDateLabel, IsCard}
+use Rattle.std.proofs.lemmas.List.{length-map}
+use Rattle.network_law.proofs.Ids.{IsIdText, FitsId}
 use Rattle.network_law.proofs.Whole.{kind_is, remove_is, date_is, response_is, stand_in_is, reversal_is, code_good}
 use Rattle.network_law.proofs.ReadRuns.{HasLengths}
 use Rattle.network_law.proofs.Refused.{TakenFacts, taken_facts, IsWhole, is_there}
-use Rattle.network_law.proofs.Emits.{Allowed, forwarding, asking, standing_in, passing, declining, repeating, refusing, acking, sending, posting, Brought, by_link, by_host, Kept, due, reversing, standing, accepting, decide_keeps, KeepsIssuers}
+use Rattle.network_law.proofs.Emits.{Allowed, forwarding, asking, standing_in, passing, declining, repeating, refusing, acking, sending, posting, putting_packet, Brought, by_link, by_host, Kept, due, reversing, standing, accepting, decide_keeps, KeepsIssuers}
 use Rattle.network_law.proofs.Node.{el_dated, el_remove, dated_kind}
 use Rattle.network_law.proofs.Provenance.{in_made, in_accepted, in_acked, opened_of_key}
 
@@ -37,6 +40,8 @@ InputIs (Enter m) = IsMessage m × (is_request m.kind ≡ true → HasLengths m)
 InputIs (Take l s m) = IsMessage m × (is_request m.kind ≡ true → HasLengths m)
 InputIs (HostAnswer a c) = IsCode c
 InputIs (NewDate d) = IsDateLabel d
+InputIs (TakePacket l s p) = IsNumbered p
+InputIs (Lend m c d a) = IsCard c × IsDateLabel d × (a < 1000000000000)
 InputIs _ = ⊤
 
 abbrev pub OutputIs : ReadOutput → Type 0
@@ -44,6 +49,7 @@ OutputIs (Put l s m) = IsMessage m
 OutputIs (Answer m) = IsMessage m
 OutputIs (Ask a m) = IsMessage m
 OutputIs (Post m) = IsMessage m
+OutputIs (PutPacket l s p) = IsPacket p
 
 abbrev pub EventIs : Event → Type 0
 EventIs (In i) = InputIs i
@@ -71,7 +77,38 @@ answer_needs K0430 e = cc
 abbrev pub IsOpened : Fields → Type 0
 IsOpened m = IsMessage m × HasLengths m
 
-module _ (t : Network) (n : ℕ) (date : IsDateLabel t.settings.date) (id : IsIdText (node_id t n)) where
+in_acked_grants : (lender : Bytes) (number : ℕ) (gs : List Lent) (g : Lent) → IsIn g (map (lent_acked lender number) gs) → (x : Lent) × IsIn x gs × (x.grant ≡ g.grant)
+in_acked_grants lender number [] g m = absurd m
+in_acked_grants lender number (x ∷ gs) g m = ⊎_elim (λ e. (x, inl refl, ap (λ (z : Lent). z.grant) e)) (λ old. (let r = in_acked_grants lender number gs g old in (r.0, inr r.1, r.2))) m
+
+-- an entry makes at most one grant
+grants_step : (t : Network) (n : ℕ) (i : ReadInput) (h : History) → length (grants t n (In i ∷ h)) ≤ suc (length (grants t n h))
+unfolding grants
+grants_step t n (Enter m) h = omega arith
+grants_step t n (Take l s m) h = omega arith
+grants_step t n (LinkUp l) h = omega arith
+grants_step t n (LinkDown l) h = omega arith
+grants_step t n Tick h = omega arith
+grants_step t n (HostAnswer a c) h = omega arith
+grants_step t n (NewDate d) h = omega arith
+grants_step t n (TakePacket l s (Granting g)) h = omega arith
+grants_step t n (TakePacket l s (Received lender number)) h = let e = length-map (grants t n h) (lent_acked lender number) in omega (arith, e)
+grants_step t n (Lend m c d a) h = omega arith
+
+pub grants_few : (t : Network) (n : ℕ) (es : List ReadEntry) → length (grants t n (read_history es)) ≤ length es
+unfolding grants read_history
+grants_few t n [] = omega arith
+grants_few t n (e ∷ es) =
+    let a = grants_few t n es in
+    let b = grants_step t n e.input (read_history es) in
+    let c = ap length (below e.outputs (In e.input ∷ read_history es)) in
+    omega (arith, a, b, c)
+  where
+    below : (os : List ReadOutput) (h : History) → grants t n (put_out e.input os h) ≡ grants t n h
+    below [] h = refl
+    below (o ∷ os) h = below os (Out e.input o ∷ h)
+
+module _ (t : Network) (n : ℕ) (date : IsDateLabel t.settings.date) (id : IsIdText (node_id t n)) (ids : (m : ℕ) → FitsId (node_id t m)) where
   date_written : (h : History) → AreWritten h → IsDateLabel (date_of t h)
   unfolding date_of
   date_written [] w = date
@@ -82,6 +119,8 @@ module _ (t : Network) (n : ℕ) (date : IsDateLabel t.settings.date) (id : IsId
   date_written (In (LinkDown l) ∷ h) w = date_written h w.1
   date_written (In Tick ∷ h) w = date_written h w.1
   date_written (In (HostAnswer a c) ∷ h) w = date_written h w.1
+  date_written (In (TakePacket l s p) ∷ h) w = date_written h w.1
+  date_written (In (Lend m c d a) ∷ h) w = date_written h w.1
   date_written (Out i o ∷ h) w = date_written h w.1
 
   abbrev IsHandled : Fields → Type 0
@@ -114,6 +153,8 @@ module _ (t : Network) (n : ℕ) (date : IsDateLabel t.settings.date) (id : IsId
   handled_written past Tick x w g e = cc
   handled_written past (HostAnswer a c) x w g e = cc
   handled_written past (NewDate d) x w g e = cc
+  handled_written past (TakePacket l s p) x w g e = cc
+  handled_written past (Lend m c d a) x w g e = cc
 
   opened_written : (k : Key) (count : ℕ) (i : ReadInput) (o : Option Handled) (op : Opening) → ((x : Handled) → o ≡ Some x → IsHandled x.message) → opened_by k count i o ≡ Some op → IsOpened op.message
   opened_written k count i None op g e = cc
@@ -144,6 +185,7 @@ module _ (t : Network) (n : ℕ) (date : IsDateLabel t.settings.date) (id : IsId
   sent_written (Answer x) m g e = subst IsMessage (same_Some x m e) g
   sent_written (Ask a x) m g e = cc
   sent_written (Post x) m g e = cc
+  sent_written (PutPacket l s p) m g e = cc
 
   answers_written : (k : Key) (o : Option Fields) (m : Fields) → ((x : Fields) → o ≡ Some x → IsMessage x) → answers k o ≡ Some m → IsMessage m
   answers_written k None m g e = cc
@@ -205,7 +247,7 @@ module _ (t : Network) (n : ℕ) (date : IsDateLabel t.settings.date) (id : IsId
 
   stood_code : (h : History) (m : Fields) → IsCode (standin_code t n h m)
   unfolding standin_code
-  stood_code h m = limits_code (day t n (card_of m)) (single t n (card_of m)) t.settings.currency _ m (decimal (el m 4))
+  stood_code h m = limits_code (limit t n h (card_of m) (label_of m)) (single t n (card_of m)) t.settings.currency _ m (decimal (el m 4))
 
   reply_written : (src : Source) (m : Fields) (h : History) → IsMessage m → OutputIs (reply_output src m h)
   reply_written Gate m h g = g
@@ -228,18 +270,46 @@ module _ (t : Network) (n : ℕ) (date : IsDateLabel t.settings.date) (id : IsId
   kept_written past i h x w g (standing key op o1 s si e) = let f = opening_written (In i ∷ past) key op (g, w) o1 in subst IsMessage (sym e) (stand_in_is op.message (node_id t n) f.0 id)
   kept_written past i h x w g (accepting a) = subst IsMessage (sym a.is) (kind_is _ a.message (handled_written past i (record { message = a.message; source = a.source }) w g a.is_handled).0)
 
-  output_written : (past : History) (i : ReadInput) (h : History) (o : ReadOutput) → AreWritten past → InputIs i → refusal t n past i ≡ None → Allowed t n past i h o → OutputIs o
-  output_written past i h o w g ok (forwarding f) = subst OutputIs (sym f.is) (kind_is K0100 f.message (handled_written past i (record { message = f.message; source = f.source }) w g f.is_handled).0)
-  output_written past i h o w g ok (asking f) = subst OutputIs (sym f.is) (kind_is K0100 f.message (handled_written past i (record { message = f.message; source = f.source }) w g f.is_handled).0)
-  output_written past i h o w g ok (standing_in f) = subst OutputIs (sym f.is) (reply_written f.op.source (response f.op.message (standin_code t n h f.op.message)) h (response_is f.op.message (standin_code t n h f.op.message) (opening_written (In i ∷ past) f.opens.key f.op (g, w) f.opens.is).0 (stood_code h f.op.message)))
-  output_written past i h o w g ok (passing f) = subst OutputIs (sym f.is) (reply_written f.op.source (response f.op.message f.code) h (response_is f.op.message f.code (opening_written past f.key f.op w f.opens).0 (⊎_elim (λ c. c) (λ b. brought_code past i f.code g ok b) f.code_from)))
-  output_written past i h o w g ok (declining f) = subst OutputIs (sym f.is) (reply_written f.op.source (response f.op.message f.code) h (response_is f.op.message f.code (opening_written (In i ∷ past) f.opens.key f.op (g, w) f.opens.is).0 f.is_code))
-  output_written past i h o w g ok (repeating f) = subst OutputIs (sym f.is) (reply_written f.source f.before h (answer_written past f.key f.before w f.answered))
-  output_written past i h o w g ok (refusing f) = subst OutputIs (sym f.is) (reply_written f.source (response f.message code_94) h (response_is f.message code_94 (handled_written past i (record { message = f.message; source = f.source }) w g f.is_handled).0 (refl, refl)))
-  output_written past i h o w g ok (acking f) = subst OutputIs (sym f.is) (reply_written f.source (response f.message f.code) h (response_is f.message f.code (handled_written past i (record { message = f.message; source = f.source }) w g f.is_handled).0 f.is_code))
-  output_written past i h o w g ok (sending f) = subst OutputIs (sym f.is) (kind_is _ f.message (kept_written past i h f.message w g f.kept))
-  output_written past i h o w g ok (posting f) = subst OutputIs (sym f.is) (kept_written past i h f.message w g f.kept)
+  -- the grants that were made can be written
+  grants_written : (h : History) (g : Lent) → AreWritten h → length (grants t n h) < 10000000000 → IsIn g (grants t n h) → IsGrant g.grant
+  unfolding grants
+  grants_written [] g w few m = absurd m
+  grants_written (Out i o ∷ h) g w few m = grants_written h g w.1 few m
+  grants_written (In (Enter x) ∷ h) g w few m = grants_written h g w.1 few m
+  grants_written (In (Take l s x) ∷ h) g w few m = grants_written h g w.1 few m
+  grants_written (In (LinkUp l) ∷ h) g w few m = grants_written h g w.1 few m
+  grants_written (In (LinkDown l) ∷ h) g w few m = grants_written h g w.1 few m
+  grants_written (In Tick ∷ h) g w few m = grants_written h g w.1 few m
+  grants_written (In (HostAnswer a c) ∷ h) g w few m = grants_written h g w.1 few m
+  grants_written (In (NewDate d) ∷ h) g w few m = grants_written h g w.1 few m
+  grants_written (In (TakePacket l s (Granting x)) ∷ h) g w few m = grants_written h g w.1 few m
+  grants_written (In (TakePacket l s (Received lender number)) ∷ h) g w few m =
+      let e = length-map (grants t n h) (lent_acked lender number) in
+      let r = in_acked_grants lender number (grants t n h) g m in
+      subst IsGrant r.2 (grants_written h r.0 w.1 (omega (arith, few, e)) r.1)
+  grants_written (In (Lend k c d a) ∷ h) g w few m = ⊎_elim
+      (λ e. subst (λ (z : Lent). IsGrant z.grant) e (record { lender = pad_good (node_id t n) (ids n); number = omega (arith, few); borrower = pad_good (node_id t k) (ids k); card = w.0.0; date = w.0.1; amount = w.0.2 }))
+      (λ old. grants_written h g w.1 (omega (arith, few)) old) m
+
+  output_written : (past : History) (i : ReadInput) (h : History) (o : ReadOutput) → AreWritten past → InputIs i → refusal t n past i ≡ None → length (grants t n past) < 1000000 → Allowed t n past i h o → OutputIs o
+  output_written past i h o w g ok few (forwarding f) = subst OutputIs (sym f.is) (kind_is K0100 f.message (handled_written past i (record { message = f.message; source = f.source }) w g f.is_handled).0)
+  output_written past i h o w g ok few (asking f) = subst OutputIs (sym f.is) (kind_is K0100 f.message (handled_written past i (record { message = f.message; source = f.source }) w g f.is_handled).0)
+  output_written past i h o w g ok few (standing_in f) = subst OutputIs (sym f.is) (reply_written f.op.source (response f.op.message (standin_code t n h f.op.message)) h (response_is f.op.message (standin_code t n h f.op.message) (opening_written (In i ∷ past) f.opens.key f.op (g, w) f.opens.is).0 (stood_code h f.op.message)))
+  output_written past i h o w g ok few (passing f) = subst OutputIs (sym f.is) (reply_written f.op.source (response f.op.message f.code) h (response_is f.op.message f.code (opening_written past f.key f.op w f.opens).0 (⊎_elim (λ c. c) (λ b. brought_code past i f.code g ok b) f.code_from)))
+  output_written past i h o w g ok few (declining f) = subst OutputIs (sym f.is) (reply_written f.op.source (response f.op.message f.code) h (response_is f.op.message f.code (opening_written (In i ∷ past) f.opens.key f.op (g, w) f.opens.is).0 f.is_code))
+  output_written past i h o w g ok few (repeating f) = subst OutputIs (sym f.is) (reply_written f.source f.before h (answer_written past f.key f.before w f.answered))
+  output_written past i h o w g ok few (refusing f) = subst OutputIs (sym f.is) (reply_written f.source (response f.message code_94) h (response_is f.message code_94 (handled_written past i (record { message = f.message; source = f.source }) w g f.is_handled).0 (refl, refl)))
+  output_written past i h o w g ok few (acking f) = subst OutputIs (sym f.is) (reply_written f.source (response f.message f.code) h (response_is f.message f.code (handled_written past i (record { message = f.message; source = f.source }) w g f.is_handled).0 f.is_code))
+  output_written past i h o w g ok few (sending f) = subst OutputIs (sym f.is) (kind_is _ f.message (kept_written past i h f.message w g f.kept))
+  output_written past i h o w g ok few (posting f) = subst OutputIs (sym f.is) (kept_written past i h f.message w g f.kept)
+  output_written past i h o w g ok few (putting_packet f) = subst OutputIs (sym f.is) (⊎_elim own acked f.from)
+    where
+      own : (x : Lent) × IsIn x (grants t n (In i ∷ past)) × (f.packet ≡ Granting x.grant) → IsPacket f.packet
+      own r = let e = grants_step t n i past in subst IsPacket (sym r.2) (grants_written (In i ∷ past) r.0 (g, w) (omega (arith, few, e)) r.1)
+
+      acked : (l : ℕ) × (s : ℕ) × (x : Grant) × (i ≡ TakePacket l s (Granting x)) × (f.packet ≡ Received x.lender x.number) → IsPacket f.packet
+      acked r = subst IsPacket (sym r.4) (subst InputIs r.3 g)
 
   -- the decision writes only messages that can be written
-  pub decide_written : (past : History) (i : ReadInput) → AreWritten past → InputIs i → refusal t n past i ≡ None → KeepsIssuers t past → AreWritten (decide t n past i)
-  decide_written past i w g ok keeps = decide_keeps t n past i AreWritten (λ h o q allowed. ((g, output_written past i h o w g ok allowed), q)) keeps (g, w)
+  pub decide_written : (past : History) (i : ReadInput) → AreWritten past → InputIs i → refusal t n past i ≡ None → length (grants t n past) < 1000000 → KeepsIssuers t past → AreWritten (decide t n past i)
+  decide_written past i w g ok few keeps = decide_keeps t n past i AreWritten (λ h o q allowed. ((g, output_written past i h o w g ok few allowed), q)) keeps (g, w)

@@ -10,11 +10,12 @@ use Rattle.iso_message.specs.Fields.{Fields}
 use Rattle.iso_message.specs.Groups.{is_request, is_answer}
 use Rattle.iso_message.specs.Keys.{key_of, key_eq, content, identity_of, identity_eq}
 use Rattle.iso_message.specs.Codes.{code_of, code_94, code_00}
-use Rattle.net_rows.specs.Network.{Network, issuer, day, other_end}
+use Rattle.net_rows.specs.Network.{Network, issuer, other_end}
 use Rattle.net_rows.specs.declared.row.Issuer.{Issuer}
 use Rattle.network_law.specs.Cards.{card_of}
 use Rattle.network_law.specs.Checked.{sum_below}
-use Rattle.network_law.specs.Traces.{ReadInput, Take, HostAnswer, ReadOutput, Put, Ask, Post, In, Out, Has, IsIn, History, Opening, opening, Approval, approvals, Advice, advices, stored, is_at_home, reverses_key, answer, answers, sent, forwarded, used, ask_key, is_00_of, is_link}
+use Rattle.network_law.specs.Grants.{Grant, Granting}
+use Rattle.network_law.specs.Traces.{ReadInput, Take, TakePacket, HostAnswer, ReadOutput, Put, Ask, Post, In, Out, Has, IsIn, History, Opening, opening, Approval, approvals, Advice, advices, stored, is_at_home, reverses_key, answer, answers, sent, forwarded, used, borrowed, lent, allowance, ask_key, is_00_of, is_link}
 
 -- n has put the request x of k on link l with serial s
 pub record IsForward (at : ℕ → History) (k : Key) (n l s : ℕ) (x : Fields) : Type 0 where
@@ -147,10 +148,18 @@ pub record AdvicesKept (t : Network) (at : ℕ → History) : Type 0 where
   pub once : (id : AdviceId) (n m : ℕ) → 0 < post_count (at n) id → 0 < post_count (at m) id → n ≡ m
   pub one : (id : AdviceId) (n : ℕ) → post_count (at n) id ≤ 1
 
--- a node approves only what it is named for, and no more of a card and date than its limit for a day
+-- over all nodes no more of a card and date is borrowed than was lent
+abbrev pub BorrowedWasLent : Network → (ℕ → History) → Type 0
+BorrowedWasLent t at = (card date : List ℕ) → sum_below (λ n. borrowed (at n) card date) (length t.nodes) ≤ sum_below (λ n. lent t n (at n) card date) (length t.nodes)
+
+-- a lender's number has one content, wherever and however often it is taken
+abbrev pub OneContent : (ℕ → History) → Type 0
+OneContent at = (n l s n' l' s' : ℕ) (g g' : Grant) → Has (In (TakePacket l s (Granting g))) (at n) → Has (In (TakePacket l' s' (Granting g'))) (at n') → g.lender ≡ g'.lender → g.number ≡ g'.number → g ≡ g'
+
+-- a node approves only what it is named for, and no more of a card and date than its allowance
 pub record IsWithinLimits (t : Network) (n : ℕ) (h : History) : Type 0 where
   pub named : (a : Approval) → IsIn a (approvals t h) → (s : Issuer) × (issuer t (card_of a.request) ≡ Some s) × Contains s.named n
-  pub within : (card date : List ℕ) → used t n h card date ≤ day t n card
+  pub within : (card date : List ℕ) → used t n h card date ≤ allowance t n h card date
 
 -- a network is safe: no node is sent a request by two nodes or a second time, only named nodes approve by themselves, and what they
 -- approve stays within the issuer's ceiling

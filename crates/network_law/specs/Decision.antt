@@ -1,11 +1,12 @@
 -- The decision: what a node puts out for an input. Each part adds outputs to the history h. Terms are read at the history before the
 -- input (past), but for used amounts, serials, asks, whether an advice was put before, and the links, which are read at h.
-use Rattle.std.specs.Prelude.{ℕ, suc, ◌+◌, ◌-◌, ◌%◌, List, [], ◌∷◌, filter, reverse, find, Bool, true, false, ◌&&◌, not, if◌then◌else◌, ◌==◌, nat_lt, bytes_eq, Option, Some, None, is_none}
+use Rattle.std.specs.Prelude.{ℕ, suc, ◌+◌, ◌-◌, ◌%◌, List, [], ◌∷◌, ◌++◌, length, map, filter, reverse, find, Bool, true, false, ◌&&◌, not, if◌then◌else◌, ◌==◌, nat_lt, bytes_eq, Option, Some, None, is_none}
 use Rattle.card_digits.specs.Numbers.{decimal}
-use Rattle.net_rows.specs.Network.{Network, issuer, day}
+use Rattle.net_rows.specs.Network.{Network, issuer, stand_in}
 use Rattle.net_rows.specs.declared.row.Issuer.{Issuer}
-use Rattle.network_law.specs.Tables.{is_home, node_id, route_links, single}
-use Rattle.network_law.specs.Traces.{Source, Gate, ByLink, ReadInput, Enter, Take, LinkUp, LinkDown, Tick, HostAnswer, NewDate, ReadOutput, Put, Answer, Ask, Post, Event, In, Out, History, count_of, is_up, put_count, ask_count, ask_key, Handled, handled, Opening, opening, opened, answer, pending, forwarded, fails, Advice, advices, known, reversed, stored, load, was_put, used, as_kept, is_at_home, comes_late, is_link, is_advice_group}
+use Rattle.network_law.specs.Tables.{is_home, node_id, route_links, single, links_between}
+use Rattle.network_law.specs.Grants.{Packet, Granting, Received}
+use Rattle.network_law.specs.Traces.{Source, Gate, ByLink, ReadInput, Enter, Take, LinkUp, LinkDown, Tick, HostAnswer, NewDate, TakePacket, Lend, ReadOutput, Put, Answer, Ask, Post, PutPacket, Event, In, Out, History, count_of, is_up, put_count, ask_count, ask_key, Handled, handled, Opening, opening, opened, answer, pending, forwarded, fails, Advice, advices, known, reversed, Lent, grants, taken, load, was_put, used, borrowed, lent, allowance, as_kept, is_at_home, comes_late, is_link, is_advice_group}
 use Rattle.network_law.specs.Cards.{label_of, Bytes, is_good_card, card_of}
 use Rattle.iso_message.specs.Fields.{Fields, el, get, as_kind, set_element, remove_element}
 use Rattle.iso_message.specs.declared.kind.Kind.{Kind}
@@ -71,7 +72,7 @@ keep t n past i x h = if known t n past (identity_of x) then h else if is_at_hom
 
 -- stand-in
 
--- day and single are the node's limits for the card, and used_now what is used of day
+-- day and single are the node's limits for the card, and used_now what is used of day, which is the allowance
 abbrev pub code_by_limits : (day single : ℕ) → Bytes → ℕ → Fields → ℕ → Bytes
 code_by_limits day single currency used_now m amount =
     if day == 0 then code_91
@@ -80,9 +81,13 @@ code_by_limits day single currency used_now m amount =
     else if nat_lt day (used_now + amount) then code_61
     else code_00
 
+-- the allowance, where the node has a stand-in row for the card
+abbrev pub limit : Network → ℕ → History → List ℕ → List ℕ → ℕ
+limit t n h card date = if is_none (stand_in t n card) then 0 else allowance t n h card date
+
 unfoldable pub standin_code : Network → ℕ → History → Fields → Bytes
-unfolding el card_of label_of used
-standin_code t n h m = code_by_limits (day t n (card_of m)) (single t n (card_of m)) t.settings.currency (used t n h (card_of m) (label_of m)) m (decimal (el m 4))
+unfolding el card_of label_of used borrowed lent
+standin_code t n h m = code_by_limits (limit t n h (card_of m) (label_of m)) (single t n (card_of m)) t.settings.currency (used t n h (card_of m) (label_of m)) m (decimal (el m 4))
 
 abbrev pub standin_by : Network → ℕ → History → ReadInput → Opening → Bytes → History → History
 standin_by t n past i op c h =
@@ -106,23 +111,68 @@ unfolding fail opening
 fail_all t n past i [] h = h
 fail_all t n past i (k ∷ ks) h = fail_all t n past i ks (fail t n past i (opening t past k) h)
 
-unfoldable pub send_all : Network → ℕ → ReadInput → List Advice → History → History
-unfolding send
-send_all t n i [] h = h
-send_all t n i (a ∷ others) h = send_all t n i others (send t n i a.message h)
-
 -- the keys that fail at an input, in opening order
 unfoldable pub failing : Network → History → ReadInput → List Key
 unfolding opened opening answer forwarded Rattle.network_law.specs.Traces.asked count_of
 failing t past i = filter (fails t past i) (reverse (opened t past))
 
--- the advices that are due at this count, in stored order
-abbrev pub advice_due : ℕ → ℕ → Advice → Bool
-advice_due ticks now a = nat_lt a.count now && ((now - a.count) % ticks == 0)
+-- grants
 
-unfoldable pub due_advices : Network → ℕ → History → List Advice
-unfolding stored count_of
-due_advices t n past = filter (advice_due t.settings.advice_ticks (suc (count_of past))) (stored t n past)
+-- a grant goes out on the first link in table order that joins the two nodes and is up
+abbrev pub send_grant_by : ReadInput → Lent → Option ℕ → History → History
+send_grant_by i g None h = h
+send_grant_by i g (Some l) h = Out i (PutPacket l (suc (put_count h l)) (Granting g.grant)) ∷ h
+
+unfoldable pub send_grant : Network → ℕ → ReadInput → Lent → History → History
+unfolding links_between is_up put_count
+send_grant t n i g h = send_grant_by i g (first_up h (links_between t n g.borrower)) h
+
+-- the newest of these grants goes out
+abbrev pub send_newest : Network → ℕ → ReadInput → List Lent → History → History
+send_newest t n i [] h = h
+send_newest t n i (g ∷ others) h = send_grant t n i g h
+
+-- a taken grant is acknowledged on the link that it came by
+abbrev pub on_packet : ReadInput → ℕ → Packet → History → History
+on_packet i l (Granting g) h = Out i (PutPacket l (suc (put_count h l)) (Received g.lender g.number)) ∷ h
+on_packet i l (Received lender number) h = h
+
+-- what is due
+
+pub data Due : Type 0 where
+  DueAdvice : (advice : Advice) → Due
+  DueGrant : (grant : Lent) → Due
+
+-- all advices and grants in one order, the newest first
+abbrev pub grants_made_after : ℕ → List Lent → List Due
+grants_made_after advices others = map DueGrant (filter (λ g. g.advices == advices) others)
+
+abbrev pub in_order : List Advice → List Lent → List Due
+in_order [] others = grants_made_after 0 others
+in_order (a ∷ older) others = grants_made_after (suc (length older)) others ++ DueAdvice a ∷ in_order older others
+
+-- stored at this count, and due at that one
+abbrev pub is_due_again : ℕ → ℕ → ℕ → Bool
+is_due_again ticks now count = nat_lt count now && ((now - count) % ticks == 0)
+
+-- the advice or grant is stored, and due
+abbrev pub is_sent_again : Network → ℕ → ℕ → Due → Bool
+is_sent_again t n now (DueAdvice a) = not a.acked && not (is_at_home t n a.message) && is_due_again t.settings.advice_ticks now a.count
+is_sent_again t n now (DueGrant g) = not g.acked && is_due_again t.settings.advice_ticks now g.count
+
+-- the advices and grants that are due at the next tick, in stored order
+unfoldable pub due : Network → ℕ → History → List Due
+unfolding advices grants card_of count_of
+due t n past = filter (is_sent_again t n (suc (count_of past))) (reverse (in_order (advices t n past) (grants t n past)))
+
+abbrev pub send_due : Network → ℕ → ReadInput → Due → History → History
+send_due t n i (DueAdvice a) h = send t n i a.message h
+send_due t n i (DueGrant g) h = send_grant t n i g h
+
+unfoldable pub send_all : Network → ℕ → ReadInput → List Due → History → History
+unfolding send send_grant
+send_all t n i [] h = h
+send_all t n i (x ∷ others) h = send_all t n i others (send_due t n i x h)
 
 -- requests
 
@@ -228,11 +278,13 @@ on_handled t n past i (Some x) = on_group t n past i x.message x.source (group x
 
 -- the history after the entry of an input
 unfoldable pub decide : Network → ℕ → History → ReadInput → History
-unfolding on_request on_reversal on_advice on_answer on_host handled opening fail_all failing send_all due_advices ask_key get find_element el put without set_element remove_element own_key original_key key_of content identity_of code_of response made_from made_stand_in made_reversal
+unfolding on_request on_reversal on_advice on_answer on_host handled opening fail_all failing send_all due send_grant grants put_count ask_key get find_element el put without set_element remove_element own_key original_key key_of content identity_of code_of response made_from made_stand_in made_reversal
 decide t n past (Enter m) = on_handled t n past (Enter m) (handled t past (Enter m))
 decide t n past (Take l s m) = on_handled t n past (Take l s m) (handled t past (Take l s m))
 decide t n past (LinkUp l) = In (LinkUp l) ∷ past
 decide t n past (LinkDown l) = fail_all t n past (LinkDown l) (failing t past (LinkDown l)) (In (LinkDown l) ∷ past)
-decide t n past Tick = fail_all t n past Tick (failing t past Tick) (send_all t n Tick (due_advices t n past) (In Tick ∷ past))
+decide t n past Tick = fail_all t n past Tick (failing t past Tick) (send_all t n Tick (due t n past) (In Tick ∷ past))
 decide t n past (HostAnswer a c) = on_host t n past (HostAnswer a c) c (ask_key past a)
 decide t n past (NewDate date) = In (NewDate date) ∷ past
+decide t n past (TakePacket l s p) = on_packet (TakePacket l s p) l p (In (TakePacket l s p) ∷ past)
+decide t n past (Lend m card date amount) = send_newest t n (Lend m card date amount) (grants t n (In (Lend m card date amount) ∷ past)) (In (Lend m card date amount) ∷ past)

@@ -1,5 +1,5 @@
 -- What a node is given and puts out, with the bytes of messages; and the same with the messages that the bytes spell.
-use Rattle.std.specs.Prelude.{ℕ, ◌≡◌, List, [], ◌∷◌, length, map, Result, Ok, Err}
+use Rattle.std.specs.Prelude.{ℕ, ◌≡◌, List, [], ◌∷◌, length, map, Option, Some, None, Result, Ok, Err}
 use Rattle.iso_message.specs.declared.fault.DecodeFault.{DecodeFault}
 use Rattle.iso_message.specs.declared.form.Class.TheVariants.{Text}
 use Rattle.iso_message.specs.Grammar.{AreOf}
@@ -7,6 +7,7 @@ use Rattle.iso_message.specs.Fields.{Fields}
 use Rattle.iso_message.specs.Messages.{read}
 use Rattle.iso_message.specs.Spelling.{spelling}
 use Rattle.network_law.specs.Cards.{Bytes}
+use Rattle.network_law.specs.Grants.{Packet, read_packet, packet_bytes}
 use Rattle.network_law.specs.Traces.{ReadInput, ReadOutput, In, Out, History}
 use Rattle.network_law.specs.Traces as messages
 
@@ -14,8 +15,8 @@ use Rattle.network_law.specs.Traces as messages
 abbrev pub IsCode : Bytes → Type 0
 IsCode code = (length code ≡ 2) × AreOf Text code
 
--- the bytes of a message that an acquirer enters or that comes by a link; a link of the node; the host's code for an ask of the
--- node; the digits of the new settlement date
+-- the bytes of a message that an acquirer enters or that comes by a link, as a grant and what acknowledges one may; a link of the
+-- node; the host's code for an ask of the node; the digits of the new settlement date; what the node is to lend to another
 pub data Input : Type 0 where
   Enter : (bytes : Bytes) → Input
   Take : (link serial : ℕ) (bytes : Bytes) → Input
@@ -24,6 +25,7 @@ pub data Input : Type 0 where
   Tick : Input
   HostAnswer : (ask : ℕ) (code : Bytes) → Input
   NewDate : (date : List ℕ) → Input
+  Lend : (borrower : ℕ) (card date : List ℕ) (amount : ℕ) → Input
 
 -- serials of a node's puts on one link, and its asks, count from 1
 pub data Output : Type 0 where
@@ -42,17 +44,23 @@ abbrev pub read_as : {X : Type 0} → (Fields → X) → Result Fields DecodeFau
 read_as f (Ok m) = Ok (f m)
 read_as f (Err fault) = Err fault
 
+-- a packet, or else the message that the bytes spell
+abbrev pub packet_or : {X : Type 0} → (Packet → X) → Option Packet → Result X DecodeFault → Result X DecodeFault
+packet_or f (Some p) other = Ok (f p)
+packet_or f None other = other
+
 unfoldable pub read_input : Input → Result ReadInput DecodeFault
 read_input (Enter bytes) = read_as messages.Enter (read bytes)
-read_input (Take l s bytes) = read_as (messages.Take l s) (read bytes)
+read_input (Take l s bytes) = packet_or (messages.TakePacket l s) (read_packet bytes) (read_as (messages.Take l s) (read bytes))
 read_input (LinkUp l) = Ok (messages.LinkUp l)
 read_input (LinkDown l) = Ok (messages.LinkDown l)
 read_input Tick = Ok messages.Tick
 read_input (HostAnswer a code) = Ok (messages.HostAnswer a code)
 read_input (NewDate date) = Ok (messages.NewDate date)
+read_input (Lend m card date amount) = Ok (messages.Lend m card date amount)
 
 unfoldable pub read_output : Output → Result ReadOutput DecodeFault
-read_output (Put l s bytes) = read_as (messages.Put l s) (read bytes)
+read_output (Put l s bytes) = packet_or (messages.PutPacket l s) (read_packet bytes) (read_as (messages.Put l s) (read bytes))
 read_output (Answer bytes) = read_as messages.Answer (read bytes)
 read_output (Ask a bytes) = read_as (messages.Ask a) (read bytes)
 read_output (Post bytes) = read_as messages.Post (read bytes)
@@ -108,6 +116,7 @@ spelled (messages.Put l s m) = Put l s (spelling m)
 spelled (messages.Answer m) = Answer (spelling m)
 spelled (messages.Ask a m) = Ask a (spelling m)
 spelled (messages.Post m) = Post (spelling m)
+spelled (messages.PutPacket l s p) = Put l s (packet_bytes p)
 
 unfoldable pub spelled_input : ReadInput → Input
 unfolding spelling
@@ -118,6 +127,8 @@ spelled_input (messages.LinkDown l) = LinkDown l
 spelled_input messages.Tick = Tick
 spelled_input (messages.HostAnswer a code) = HostAnswer a code
 spelled_input (messages.NewDate date) = NewDate date
+spelled_input (messages.TakePacket l s p) = Take l s (packet_bytes p)
+spelled_input (messages.Lend m card date amount) = Lend m card date amount
 
 -- the trace with its messages spelled
 unfoldable pub spelled_trace : List ReadEntry → List Entry

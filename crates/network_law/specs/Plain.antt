@@ -1,5 +1,5 @@
 -- The terms of a history once more, in plain words: as lists in the order of time, of which they are the first, the last or a sum.
-use Rattle.std.specs.Prelude.{ℕ, ◌≡◌, List, [], ◌∷◌, ◌++◌, map, filter, find, sum, length, Bool, true, false, not, ◌&&◌, if◌then◌else◌, bytes_eq, Option, Some, None, is_none, ◌==◌, reverse}
+use Rattle.std.specs.Prelude.{ℕ, ◌≡◌, ◌≤◌, unwrap_or, List, [], ◌∷◌, ◌++◌, map, filter, find, sum, length, Bool, true, false, not, ◌&&◌, if◌then◌else◌, bytes_eq, Option, Some, None, is_none, ◌==◌, reverse}
 use Rattle.std.specs.Option.{option_map, option_map_or}
 use Rattle.card_digits.specs.Numbers.{decimal}
 use Rattle.card_digits.specs.declared.key.Key.{Key}
@@ -9,9 +9,9 @@ use Rattle.iso_message.specs.Keys.{key_of, key_eq}
 use Rattle.iso_message.specs.Codes.{code_of, code_94}
 use Rattle.iso_message.specs.Made.{made_reversal}
 use Rattle.net_rows.specs.Network.{Network}
-use Rattle.network_law.specs.Cards.{card_of, label_of}
+use Rattle.network_law.specs.Cards.{card_of, label_of, actual_amount}
 use Rattle.network_law.specs.Tables.{node_id}
-use Rattle.network_law.specs.Traces.{LinkUp, LinkDown, NewDate, is_up, date_of, ask_count, put_count, ReadInput, Tick, ReadOutput, Put, Answer, Ask, Post, In, Out, History, IsIn, count_of, Handled, handled, Opening, opening, answer, forwarded, fails, approvals, reversed, used, advices, late_key, ask_key}
+use Rattle.network_law.specs.Traces.{LinkUp, LinkDown, NewDate, is_up, date_of, ask_count, put_count, ReadInput, Tick, ReadOutput, Put, Answer, Ask, Post, PutPacket, In, Out, History, IsIn, count_of, Handled, handled, Opening, opening, answer, forwarded, fails, Advice, Approval, approvals, reverses_key, reversed, left, used, advices, late_key, ask_key}
 use Rattle.network_law.specs.Decision.{failing, decide, keep}
 
 -- the inputs and the outputs, the oldest first
@@ -73,6 +73,7 @@ said_in (Put l s m) = m ∷ []
 said_in (Answer m) = m ∷ []
 said_in (Ask a m) = []
 said_in (Post m) = []
+said_in (PutPacket l s p) = []
 
 -- the messages that were put and given as answers
 unfoldable pub said : History → List Fields
@@ -120,12 +121,24 @@ all_asked (Out i o ∷ h) = all_asked h ++ asked_in o
 abbrev pub AskedByNumber : Type 0
 AskedByNumber = (h : History) (a : ℕ) → ask_key h a ≡ option_map (λ p. key_of p.message) (find (λ p. a == p.ask) (all_asked h))
 
+-- the links on which something was put
+
+abbrev pub link_in : ReadOutput → List ℕ
+link_in (Put l s m) = l ∷ []
+link_in (PutPacket l s p) = l ∷ []
+link_in _ = []
+
+unfoldable pub links_put : History → List ℕ
+links_put [] = []
+links_put (In i ∷ h) = links_put h
+links_put (Out i o ∷ h) = links_put h ++ link_in o
+
 -- asks and serials count what was put out
 abbrev pub CountsAsks : Type 0
 CountsAsks = (h : History) → ask_count h ≡ length (all_asked h)
 
 abbrev pub CountsPuts : Type 0
-CountsPuts = (h : History) (l : ℕ) → put_count h l ≡ length (filter (λ p. p.link == l) (puts h))
+CountsPuts = (h : History) (l : ℕ) → put_count h l ≡ length (filter (λ k. k == l) (links_put h))
 
 -- links and dates
 
@@ -166,9 +179,16 @@ CountsTicks = (h : History) → count_of h ≡ length (filter is_tick (inputs h)
 
 -- used amounts
 
--- used is the sum of the amounts of all approvals of the card and the date whose keys aren't reversed
+-- used is the sum of what is left of the amounts of all approvals of the card and the date
 abbrev pub UsedIsSum : Type 0
-UsedIsSum = (t : Network) (n : ℕ) (h : History) (card date : List ℕ) → used t n h card date ≡ sum (map (λ a. decimal (el a.request 4)) (filter (λ a. bytes_eq (card_of a.request) card && bytes_eq (label_of a.request) date && not (reversed t n h a.key)) (approvals t h)))
+UsedIsSum = (t : Network) (n : ℕ) (h : History) (card date : List ℕ) → used t n h card date ≡ sum (map (left t n h) (filter (λ a. bytes_eq (card_of a.request) card && bytes_eq (label_of a.request) date) (approvals t h)))
+
+-- no more is left than the actual amount of any accepted reversal of the key, and all where there is none
+abbrev pub LeavesLeast : Type 0
+LeavesLeast = (t : Network) (n : ℕ) (h : History) (a : Approval) (x : Advice) → IsIn x (advices t n h) → x.own ≡ false → reverses_key a.key x ≡ true → left t n h a ≤ unwrap_or (actual_amount x.message) 0
+
+abbrev pub LeavesAll : Type 0
+LeavesAll = (t : Network) (n : ℕ) (h : History) (a : Approval) → reversed t n h a.key ≡ false → left t n h a ≡ decimal (el a.request 4)
 
 -- late approvals
 

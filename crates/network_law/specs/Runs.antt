@@ -1,6 +1,6 @@
 -- Legal traces of a node, and runs of a network.
 use Rattle.std.specs.Prelude.{ℕ, ◌<◌, ◌≤◌, ◌≡◌, List, [], ◌∷◌, length, map, true, nat_le, if◌then◌else◌, Option, Some, None, Result, Ok, Err, ⊤}
-use Rattle.card_digits.specs.Digits.{IsDateLabel}
+use Rattle.card_digits.specs.Digits.{IsDateLabel, IsCard}
 use Rattle.iso_message.specs.declared.fault.DecodeFault.{DecodeFault}
 use Rattle.net_rows.specs.Network.{Network, other_end}
 use Rattle.network_law.specs.declared.fault.StepFault.{StepFault}
@@ -10,7 +10,7 @@ use Rattle.network_law.specs.Tables.{is_link_of}
 use Rattle.network_law.specs.Traces.{ReadInput, History, IsIn}
 use Rattle.network_law.specs.Decision.{decide}
 use Rattle.network_law.specs.Refusals.{refusal}
-use Rattle.network_law.specs.Entries.{Input, Take, LinkUp, LinkDown, HostAnswer, NewDate, Output, Put, Entry, read_input, history, spelled, newest_outputs, IsCode}
+use Rattle.network_law.specs.Entries.{Input, Take, LinkUp, LinkDown, HostAnswer, NewDate, Lend, Output, Put, Entry, read_input, history, spelled, newest_outputs, IsCode}
 
 -- the input names no link but the node's own
 abbrev pub NamesOwnLink : Network → ℕ → Input → Type 0
@@ -19,10 +19,11 @@ NamesOwnLink t n (LinkUp l) = is_link_of t n l ≡ true
 NamesOwnLink t n (LinkDown l) = is_link_of t n l ≡ true
 NamesOwnLink t n _ = ⊤
 
--- a code is two characters, and a date four digits
+-- a code is two characters, a date four digits, a card 8 to 19, and an amount has at most twelve digits
 abbrev pub IsTyped : Input → Type 0
 IsTyped (HostAnswer ask code) = IsCode code
 IsTyped (NewDate date) = IsDateLabel date
+IsTyped (Lend m card date amount) = IsCard card × IsDateLabel date × (amount < 1000000000000)
 IsTyped _ = ⊤
 
 -- the first fault of an input after these entries

@@ -1,9 +1,9 @@
 -- What a node looks up in the tables.
-use Rattle.std.specs.Prelude.{ℕ, List, [], slice_get, Bool, false, ◌&&◌, ◌||◌, ◌==◌, bytes_eq}
+use Rattle.std.specs.Prelude.{ℕ, zero, suc, List, [], ◌∷◌, ◌++◌, length, filter, slice_get, Bool, false, ◌&&◌, ◌||◌, ◌==◌, bytes_eq, Option, Some, None}
 use Rattle.std.specs.List.{list_any}
 use Rattle.std.specs.Option.{option_map_or}
 use Rattle.card_digits.specs.Numbers.{pad11}
-use Rattle.net_rows.specs.Network.{Network, route, stand_in}
+use Rattle.net_rows.specs.Network.{Network, route, stand_in, other_end}
 use Rattle.net_rows.specs.declared.row.Issuer.{Issuer}
 use Rattle.network_law.specs.Cards.{Bytes}
 
@@ -33,3 +33,20 @@ is_attached t n acquirer = list_any (λ row. (row.node == n) && bytes_eq (pad11 
 
 abbrev pub is_home : Issuer → ℕ → Bool
 is_home i n = i.home == n
+
+-- the card's issuer names the node
+abbrev pub is_named : Option Issuer → ℕ → Bool
+is_named None n = false
+is_named (Some s) n = list_any (λ m. m == n) s.named
+
+-- the numbers below n, in order
+abbrev pub numbers_below : ℕ → List ℕ
+numbers_below zero = []
+numbers_below (suc n) = numbers_below n ++ n ∷ []
+
+abbrev pub joins : Network → ℕ → ℕ → ℕ → Bool
+joins t n m l = is_link_of t n l && other_end t n l == m
+
+-- the links that join two nodes, in table order
+unfoldable pub links_between : Network → ℕ → ℕ → List ℕ
+links_between t n m = filter (joins t n m) (numbers_below (length t.links))

@@ -1,14 +1,16 @@
 -- What follows from a node's trace. A history is a trace as a list of events, the newest first: each entry is its input, and then its
 -- outputs, each with the input that it came from. So an entry that is decided in part has a history too, and each part of a decision
 -- counts the parts before it.
-use Rattle.std.specs.Prelude.{ℕ, suc, ◌≡◌, ◌⊎◌, ◌+◌, ◌*◌, List, [], ◌∷◌, ◌++◌, length, map, filter, reverse, count_by, Bool, true, false, cond, ◌&&◌, ◌||◌, not, if◌then◌else◌, ◌==◌, bytes_eq, Option, Some, None, is_some, is_none}
+use Rattle.std.specs.Prelude.{ℕ, suc, ◌≡◌, ◌⊎◌, ◌+◌, ◌-◌, ◌*◌, min, unwrap_or, List, [], ◌∷◌, ◌++◌, length, map, filter, reverse, count_by, Bool, true, false, cond, ◌&&◌, ◌||◌, not, if◌then◌else◌, ◌==◌, bytes_eq, Option, Some, None, is_some, is_none}
 use Rattle.std.specs.Option.{option_or, option_and_then}
 use Rattle.std.specs.List.{list_any}
 use Rattle.card_digits.specs.Numbers.{decimal}
-use Rattle.net_rows.specs.Network.{Network, issuer}
+use Rattle.card_digits.specs.Numbers.{pad11}
+use Rattle.net_rows.specs.Network.{Network, issuer, day}
 use Rattle.net_rows.specs.declared.row.Issuer.{Issuer}
 use Rattle.network_law.specs.Tables.{is_home, node_id, link_ticks}
-use Rattle.network_law.specs.Cards.{label_of, text_of, Bytes, card_of}
+use Rattle.network_law.specs.Grants.{Grant, Packet, Granting, Received}
+use Rattle.network_law.specs.Cards.{label_of, text_of, Bytes, card_of, actual_amount}
 use Rattle.iso_message.specs.Fields.{Fields, el, set_element, remove_element, as_kind, get}
 use Rattle.iso_message.specs.declared.kind.Group.{Group}
 use Rattle.iso_message.specs.Groups.{group, is_request, is_answer, is_04xx}
@@ -35,12 +37,15 @@ pub data ReadInput : Type 0 where
   Tick : ReadInput
   HostAnswer : (ask : ℕ) (code : Bytes) → ReadInput
   NewDate : (date : List ℕ) → ReadInput
+  TakePacket : (link serial : ℕ) (packet : Packet) → ReadInput
+  Lend : (borrower : ℕ) (card date : List ℕ) (amount : ℕ) → ReadInput
 
 pub data ReadOutput : Type 0 where
   Put : (link serial : ℕ) (message : Fields) → ReadOutput
   Answer : (message : Fields) → ReadOutput
   Ask : (ask : ℕ) (message : Fields) → ReadOutput
   Post : (message : Fields) → ReadOutput
+  PutPacket : (link serial : ℕ) (packet : Packet) → ReadOutput
 
 pub data Event : Type 0 where
   In : (input : ReadInput) → Event
@@ -95,6 +100,7 @@ is_up (Out i o ∷ h) l = is_up h l
 
 abbrev pub puts_on : ℕ → ReadOutput → ℕ
 puts_on l (Put k s m) = if k == l then 1 else 0
+puts_on l (PutPacket k s p) = if k == l then 1 else 0
 puts_on l _ = 0
 
 -- how often the node put on a link
@@ -179,6 +185,7 @@ sent (Put l s m) = Some m
 sent (Answer m) = Some m
 sent (Ask a m) = None
 sent (Post m) = None
+sent (PutPacket l s p) = None
 
 abbrev pub answers : Key → Option Fields → Option Fields
 answers k None = None
@@ -406,10 +413,53 @@ unfoldable pub stored : Network → ℕ → History → List Advice
 unfolding advices card_of
 stored t n h = reverse (filter (λ a. not a.acked && not (is_at_home t n a.message)) (advices t n h))
 
--- the places taken: one by each stored advice, two by each pending request
+-- grants
+
+-- a grant that the node made
+pub record Lent : Type 0 where
+  pub grant : Grant
+  pub borrower : ℕ
+  pub count : ℕ  -- at its storing
+  pub advices : ℕ  -- made or accepted before it, so many
+  pub acked : Bool
+
+abbrev pub lent_acked : Bytes → ℕ → Lent → Lent
+lent_acked lender number g = record { grant = g.grant; borrower = g.borrower; count = g.count; advices = g.advices; acked = g.acked || (bytes_eq lender g.grant.lender && number == g.grant.number) }
+
+abbrev pub lent_after : Network → ℕ → ℕ → ℕ → ReadInput → List Lent → List Lent
+lent_after t n count advices (Lend m card date amount) others = record { grant = record { lender = pad11 (node_id t n); number = suc (length others); borrower = pad11 (node_id t m); card = card; date = date; amount = amount }; borrower = m; count = count; advices = advices; acked = false } ∷ others
+lent_after t n count advices (TakePacket l s (Received lender number)) others = map (lent_acked lender number) others
+lent_after t n count advices _ others = others
+
+-- all grants that the node made, the newest first
+unfoldable pub grants : Network → ℕ → History → List Lent
+unfolding advices count_of
+grants t n [] = []
+grants t n (In i ∷ h) = lent_after t n (count_of h) (length (advices t n h)) i (grants t n h)
+grants t n (Out i o ∷ h) = grants t n h
+
+-- those that aren't acknowledged are stored
+unfoldable pub stored_grants : Network → ℕ → History → List Lent
+unfolding grants
+stored_grants t n h = filter (λ g. not g.acked) (grants t n h)
+
+abbrev pub has_number : Grant → Grant → Bool
+has_number a b = bytes_eq a.lender b.lender && a.number == b.number
+
+abbrev pub taken_after : ReadInput → List Grant → List Grant
+taken_after (TakePacket l s (Granting g)) others = if list_any (has_number g) others then others else g ∷ others
+taken_after _ others = others
+
+-- the grants that were taken, of each lender's number the first one
+unfoldable pub taken : History → List Grant
+taken [] = []
+taken (In i ∷ h) = taken_after i (taken h)
+taken (Out i o ∷ h) = taken h
+
+-- the places taken: one by each stored advice and grant, two by each pending request
 unfoldable pub load : Network → ℕ → History → ℕ
-unfolding stored opened opening answer
-load t n h = length (stored t n h) + 2 * count_by (pending t h) (opened t h)
+unfolding stored stored_grants opened opening answer
+load t n h = length (stored t n h) + length (stored_grants t n h) + 2 * count_by (pending t h) (opened t h)
 
 abbrev pub is_put_of : AdviceId → ReadOutput → Bool
 is_put_of id (Put l s m) = is_advice_group (group m.kind) && identity_eq (identity_of m) id
@@ -422,14 +472,42 @@ was_put [] id = false
 was_put (In i ∷ h) id = was_put h id
 was_put (Out i o ∷ h) id = was_put h id || is_put_of id o
 
--- used of a card and date: the amounts of the own approvals whose keys aren't reversed
+-- what is left of an amount: the least of it and the actual amounts of the key's accepted reversals, of which one without an actual
+-- amount is whole and leaves nothing
+abbrev pub left_by : Key → Advice → ℕ → ℕ
+left_by k a amount = if not a.own && reverses_key k a then min (unwrap_or (actual_amount a.message) 0) amount else amount
+
+abbrev pub left_of : Key → List Advice → ℕ → ℕ
+left_of k [] amount = amount
+left_of k (a ∷ others) amount = left_by k a (left_of k others amount)
+
+unfoldable pub left : Network → ℕ → History → Approval → ℕ
+unfolding advices el actual_amount
+left t n h a = left_of a.key (advices t n h) (decimal (el a.request 4))
+
+-- used of a card and date: what is left of the amounts of the own approvals
 abbrev pub counted : Network → ℕ → History → List ℕ → List ℕ → Approval → ℕ
-counted t n h card date a = if bytes_eq (card_of a.request) card && bytes_eq (label_of a.request) date && not (reversed t n h a.key) then decimal (el a.request 4) else 0
+counted t n h card date a = if bytes_eq (card_of a.request) card && bytes_eq (label_of a.request) date then left t n h a else 0
 
 abbrev pub added : {X : Type 0} → (X → ℕ) → List X → ℕ
 added f [] = 0
 added f (x ∷ xs) = f x + added f xs
 
 unfoldable pub used : Network → ℕ → History → List ℕ → List ℕ → ℕ
-unfolding approvals reversed el card_of label_of
+unfolding approvals left card_of label_of
 used t n h card date = added (counted t n h card date) (approvals t h)
+
+-- the allowance of a card and date: the node's limit, more by what it borrowed, and less by what it lent
+abbrev pub amount_for : List ℕ → List ℕ → Grant → ℕ
+amount_for card date g = if bytes_eq g.card card && bytes_eq g.date date then g.amount else 0
+
+unfoldable pub borrowed : History → List ℕ → List ℕ → ℕ
+unfolding taken
+borrowed h card date = added (amount_for card date) (taken h)
+
+unfoldable pub lent : Network → ℕ → History → List ℕ → List ℕ → ℕ
+unfolding grants
+lent t n h card date = added (λ g. amount_for card date g.grant) (grants t n h)
+
+abbrev pub allowance : Network → ℕ → History → List ℕ → List ℕ → ℕ
+allowance t n h card date = day t n card + borrowed h card date - lent t n h card date

@@ -8,7 +8,8 @@ use Rattle.net_rows.specs.declared.row.Settings.{Settings}
 use Rattle.net_rows.specs.declared.row.Node.{Node}
 use Rattle.net_rows.specs.declared.row.Link.{Link}
 use Rattle.net_rows.specs.declared.row.Route.{Route}
-use Rattle.network_law.specs.Traces.{ReadInput, Enter, Take, LinkDown, Tick, ReadOutput, Put, Answer, Post, History}
+use Rattle.network_law.specs.Grants.{Packet, Granting, Received}
+use Rattle.network_law.specs.Traces.{ReadInput, Enter, Take, TakePacket, LinkDown, Tick, Lend, ReadOutput, Put, PutPacket, Answer, Post, History}
 use Rattle.network_law.specs.Decision.{decide}
 use Rattle.network_law.specs.Entries.{ReadEntry, newest_outputs}
 
@@ -57,6 +58,19 @@ diamond = record {
   stand_ins = record { node = 0; prefix = 4 ∷ []; day = 1000; single = 1000 } ∷ [];
 }
 
+-- A, B and H are nodes 0 to 2; A and B may approve 300 and 200 a day, and each has a link to H, over which it routes, and link 0 to
+-- the other
+abbrev pub lenders : Network
+lenders = record {
+  settings = settings;
+  nodes = node (codes "A") (codes "1001") ∷ node (codes "B") (codes "1003") ∷ node (codes "H") (codes "1002") ∷ [];
+  links = link (codes "AB") 0 1 ∷ link (codes "AH") 0 2 ∷ link (codes "BH") 1 2 ∷ [];
+  acquirers = record { id = codes "400001"; node = 0 } ∷ record { id = codes "400002"; node = 1 } ∷ [];
+  issuers = record { name = codes "I"; prefix = 4 ∷ []; home = 2; named = 0 ∷ 1 ∷ []; ceiling = 500 } ∷ [];
+  routes = route 0 (1 ∷ []) ∷ route 1 (2 ∷ []) ∷ [];
+  stand_ins = record { node = 0; prefix = 4 ∷ []; day = 300; single = 1000 } ∷ record { node = 1; prefix = 4 ∷ []; day = 200; single = 1000 } ∷ [];
+}
+
 -- messages
 
 abbrev card : List ℕ
@@ -75,6 +89,13 @@ entered_in currency trace amount = record { kind = K0100; elements = (2, card) �
 
 abbrev pub entered : List ℕ → List ℕ → Fields
 entered = entered_in (codes "840")
+
+-- the same of the acquirer at B, and as B answers it
+abbrev pub entered_at_b : List ℕ → List ℕ → Fields
+entered_at_b trace amount = record { kind = K0100; elements = (2, card) ∷ (3, codes "000000") ∷ (4, amount) ∷ (7, time) ∷ (11, trace) ∷ (32, codes "400002") ∷ (49, codes "840") ∷ [] }
+
+abbrev pub answered_at_b : List ℕ → List ℕ → List ℕ → Fields
+answered_at_b trace amount code = record { kind = K0110; elements = (2, card) ∷ (3, codes "000000") ∷ (4, amount) ∷ (7, time) ∷ (11, trace) ∷ (15, codes "0314") ∷ (32, codes "400002") ∷ (39, code) ∷ (49, codes "840") ∷ [] }
 
 -- with another card number, with further elements behind, and under another type
 abbrev pub entered_with : Kind → List ℕ → List (ℕ × List ℕ) → Fields
@@ -112,6 +133,10 @@ stand_in trace amount = record { kind = K0120; elements = (2, card) ∷ (3, code
 abbrev pub reversal_by_acquirer : Kind → List ℕ → List ℕ → Fields
 reversal_by_acquirer kind trace amount = record { kind = kind; elements = (2, card) ∷ (3, codes "000000") ∷ (4, amount) ∷ (7, codes "0314091600") ∷ (11, codes "000002") ∷ (32, codes "400001") ∷ (49, codes "840") ∷ (90, original trace) ∷ [] }
 
+-- a partial one, with its actual amount
+abbrev pub partial_reversal : List ℕ → List ℕ → List ℕ → Fields
+partial_reversal actual trace amount = record { kind = K0400; elements = (reversal_by_acquirer K0400 trace amount).elements ++ (95, actual ++ codes "000000000000C00000000C00000000") ∷ [] }
+
 abbrev pub reversal_reply : List ℕ → List ℕ → Fields
 reversal_reply trace amount = record { kind = K0410; elements = (2, card) ∷ (3, codes "000000") ∷ (4, amount) ∷ (7, codes "0314091600") ∷ (11, codes "000002") ∷ (32, codes "400001") ∷ (39, codes "00") ∷ (49, codes "840") ∷ (90, original trace) ∷ [] }
 
@@ -136,11 +161,33 @@ twenty_dollars = codes "000000002000"
 abbrev pub six_dollars : List ℕ
 six_dollars = codes "000000000600"
 
+abbrev pub three_dollars : List ℕ
+three_dollars = codes "000000000300"
+
+abbrev pub two_dollars : List ℕ
+two_dollars = codes "000000000200"
+
 abbrev pub four_dollars : List ℕ
 four_dollars = codes "000000000400"
 
 abbrev pub one_cent : List ℕ
 one_cent = codes "000000000001"
+
+-- lent amounts
+
+abbrev date : List ℕ
+date = 0 ∷ 3 ∷ 1 ∷ 4 ∷ []
+
+-- A is to lend so much to B
+abbrev pub lend_to_b : ℕ → ReadInput
+lend_to_b amount = Lend 1 card_number date amount
+
+-- and its first grant says so
+abbrev pub granted : ℕ → Packet
+granted amount = Granting (record { lender = codes "00000001001"; number = 1; borrower = codes "00000001003"; card = card_number; date = date; amount = amount })
+
+abbrev pub received : Packet
+received = Received (codes "00000001001") 1
 
 -- steps
 
@@ -227,6 +274,36 @@ own_reversal_frees =
     ∷ entry (Enter (entered one six_dollars)) (Put 0 1 (forwarded one six_dollars) ∷ [])
     ∷ []
 
+-- a partial reversal frees the whole amount
+abbrev pub partial_frees_all : List ReadEntry
+partial_frees_all =
+    entry (Enter (entered two ten_dollars)) (Answer (answered two ten_dollars (codes "00")) ∷ [])
+    ∷ entry (Enter (partial_reversal four_dollars one ten_dollars)) (Answer (reversal_reply one ten_dollars) ∷ [])
+    ∷ entry (Enter (entered one ten_dollars)) (Answer (answered one ten_dollars (codes "00")) ∷ [])
+    ∷ entry (LinkDown 0) []
+    ∷ []
+
+-- a borrower counts a repeated grant again
+abbrev pub repeated_grant_counted : List ReadEntry
+repeated_grant_counted =
+    entry (Enter (entered_at_b one four_dollars)) (Answer (answered_at_b one four_dollars (codes "00")) ∷ [])
+    ∷ entry (LinkDown 2) []
+    ∷ entry (TakePacket 0 1 (granted 100)) (PutPacket 0 2 received ∷ [])
+    ∷ entry (TakePacket 0 1 (granted 100)) (PutPacket 0 1 received ∷ [])
+    ∷ []
+
+-- a lender's own limit isn't lessened
+abbrev pub lent_amount_used : List ReadEntry
+lent_amount_used =
+    entry (Enter (entered one three_dollars)) (Answer (answered one three_dollars (codes "00")) ∷ [])
+    ∷ entry (LinkDown 1) []
+    ∷ entry (lend_to_b 100) (PutPacket 0 1 (granted 100) ∷ [])
+    ∷ []
+
+-- a grant is dropped when it is put
+abbrev pub grant_dropped_when_put : List ReadEntry
+grant_dropped_when_put = quiet_ticks 50 (entry (lend_to_b 100) (PutPacket 0 1 (granted 100) ∷ []) ∷ [])
+
 -- a run: the request fails at A at its third tick, H posts the reversal, and A takes the acknowledgement
 
 abbrev at_a : List ReadEntry
@@ -244,6 +321,12 @@ abbrev pub reversed_run : ℕ → List ReadEntry
 reversed_run zero = at_a
 reversed_run (suc zero) = at_h
 reversed_run (suc (suc n)) = []
+
+-- a run: A lends to B, which takes the grant twice and acknowledges it twice, and A takes what acknowledges it first
+abbrev pub lent_run : ℕ → List ReadEntry
+lent_run zero = entry (TakePacket 0 1 received) [] ∷ entry (lend_to_b 100) (PutPacket 0 1 (granted 100) ∷ []) ∷ []
+lent_run (suc zero) = entry (TakePacket 0 1 (granted 100)) (PutPacket 0 2 received ∷ []) ∷ entry (TakePacket 0 1 (granted 100)) (PutPacket 0 1 received ∷ []) ∷ []
+lent_run (suc (suc n)) = []
 
 -- A stands above H for every card
 abbrev pub base_ranks : ℕ → List ℕ → Option ℕ

@@ -21,8 +21,8 @@ pub enum StepFault {
     /// A host's answer to an ask that was never made.
     #[error("an answer to nothing that was asked")]
     UnknownAsk,
-    /// A reversal with replacement amounts.
-    #[error("a reversal with replacement amounts")]
+    /// A partial reversal whose actual amount is no number, or is above its amount.
+    #[error("a partial reversal without a right actual amount")]
     Replacement,
     /// The trace has as many entries as it may.
     #[error("the history is full")]
@@ -32,4 +32,7 @@ pub enum StepFault {
     /// No place is left for an advice.
     #[error("no place for an advice")]
     NoPlace,
+    /// An amount that may not be lent, or a grant for another node.
+    #[error("an amount that may not be lent")]
+    NotLent,
 }

@@ -15,14 +15,14 @@ ghost use Rattle.net_rows.specs.Network.{Network};
 ghost use Rattle.network_law.specs.Checked.{IsChecked, IsBounded, IsRanked, Ranks};
 ghost use Rattle.network_law.specs.Entries.{Entry, history};
 ghost use Rattle.network_law.specs.Runs.{IsLegal, IsRun};
-ghost use Rattle.network_law.specs.Claims.{Safe, Covered, IsWithinLimits};
+ghost use Rattle.network_law.specs.Claims.{Safe, Covered, IsWithinLimits, BorrowedWasLent, OneContent};
 ghost use Rattle.network_law.specs.Legal.{FailsAreMarked, FailsAreReversed, IsReadAsDecided, ForwardsOnce};
 
 pub use fault::StepFault;
-pub use words::plain_words;
+pub use words::{plain_words, plain_words_of_lent_amounts};
 pub use worked::{
-    worked_answers, worked_limits, worked_refusals, worked_reversals, worked_run,
-    wrong_traces_are_not_legal,
+    worked_answers, worked_lent_amounts, worked_limits, worked_partial_reversals, worked_refusals,
+    worked_reversals, worked_run, wrong_traces_are_not_legal,
 };
 
 /// Where the tables are sound, ranks fall along each route and limits stay within ceilings, every run is safe and nothing in it is
@@ -32,7 +32,14 @@ pub fn every_run_is_safe()
     ensures covered { (t : Network) (ranks : Ranks) (traces : ℕ → List Entry) → IsChecked t → IsRanked t ranks → IsRun t traces → Covered t (λ n. history (traces n)) }
 {}
 
-/// Whatever the other nodes do: a node whose trace is legal approves by itself only what it is named for, within its own limits.
+/// What nodes lend each other cancels out over all of them, though grants are lost and repeated: each counts where it was taken first,
+/// at one node, and less at its lender.
+pub fn no_more_is_borrowed_than_was_lent()
+    ensures sums { (t : Network) (traces : ℕ → List Entry) → IsChecked t → IsRun t traces → BorrowedWasLent t (λ n. history (traces n)) }
+    ensures one_content { (t : Network) (traces : ℕ → List Entry) → IsChecked t → IsRun t traces → OneContent (λ n. history (traces n)) }
+{}
+
+/// Whatever the other nodes do: a node whose trace is legal approves by itself only what it is named for, within its allowances.
 pub fn every_legal_trace_is_within_limits()
     ensures { (t : Network) (n : ℕ) (trace : List Entry) → IsChecked t → IsBounded t → n < length t.nodes → IsLegal t n trace → IsWithinLimits t n (history trace) }
 {}

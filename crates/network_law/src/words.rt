@@ -1,5 +1,6 @@
 //! The terms by which a node decides, in plain words.
-ghost use Rattle.network_law.specs.Plain.{OpenedByFirst, OpenedOnce, EachIsOfItsKey, FailInOpeningOrder, AnsweredByFirst, ForwardedByFirst, AskedByNumber, CountsAsks, CountsPuts, UpByLast, DatedByLast, CountsTicks, UsedIsSum, LateIsReversed};
+ghost use Rattle.network_law.specs.Plain.{OpenedByFirst, OpenedOnce, EachIsOfItsKey, FailInOpeningOrder, AnsweredByFirst, ForwardedByFirst, AskedByNumber, CountsAsks, CountsPuts, UpByLast, DatedByLast, CountsTicks, UsedIsSum, LeavesLeast, LeavesAll, LateIsReversed};
+ghost use Rattle.network_law.specs.PlainGrants.{PacketsAreExact, GrantsAreLends, TakenByFirst, BorrowedIsSum, LentIsSum, StoredGrantsAreDue, StoredAdvicesAreDue};
 
 /// The terms that are defined event by event are the firsts, the filters and the sums that they stand for.
 pub fn plain_words()
@@ -16,5 +17,18 @@ pub fn plain_words()
     ensures dates { DatedByLast }
     ensures count { CountsTicks }
     ensures used { UsedIsSum }
+    ensures left_least { LeavesLeast }
+    ensures left_all { LeavesAll }
     ensures late { LateIsReversed }
+{}
+
+/// And so those of lent amounts; what is due is all that is stored and due, each in its order.
+pub fn plain_words_of_lent_amounts()
+    ensures bytes { PacketsAreExact }
+    ensures made { GrantsAreLends }
+    ensures taken { TakenByFirst }
+    ensures borrowed { BorrowedIsSum }
+    ensures lent { LentIsSum }
+    ensures due_grants { StoredGrantsAreDue }
+    ensures due_advices { StoredAdvicesAreDue }
 {}

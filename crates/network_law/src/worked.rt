@@ -1,13 +1,14 @@
 //! Steps, traces and a run that are worked by hand: the definitions say what they should.
-ghost use Rattle.std.specs.Prelude.{◌≡◌, ℕ, List, [], ◌∷◌, codes, Some, None};
+ghost use Rattle.std.specs.Prelude.{◌≡◌, ℕ, List, [], ◌∷◌, ◌++◌, codes, Some, None};
+ghost use Rattle.network_law.specs.Grants.{packet_bytes, read_packet};
 ghost use Rattle.iso_message.specs.declared.kind.Kind.TheVariants.{K0100, K0400, K0420, K0421};
-ghost use Rattle.network_law.specs.Traces.{used, Enter, Take, LinkDown, Tick, HostAnswer, NewDate, Put, Answer, Ask, Post};
-ghost use Rattle.network_law.specs.declared.fault.StepFault.TheVariants.{ForeignAcquirer, Missing, TypeNotForGate, UnknownAsk, Replacement};
+ghost use Rattle.network_law.specs.Traces.{used, Enter, Take, TakePacket, LinkUp, LinkDown, Tick, HostAnswer, NewDate, Lend, Put, PutPacket, Answer, Ask, Post};
+ghost use Rattle.network_law.specs.declared.fault.StepFault.TheVariants.{ForeignAcquirer, Missing, TypeNotForGate, UnknownAsk, Replacement, NotLent};
 ghost use Rattle.network_law.specs.Refusals.{refusal};
 ghost use Rattle.network_law.specs.Entries.{spelled_trace};
 ghost use Rattle.network_law.specs.Checked.{IsChecked, IsRanked, IsBounded};
 ghost use Rattle.network_law.specs.Runs.{IsLegal, IsRun};
-ghost use Rattle.network_law.specs.Worked.{next_alternate_in_time, twenty_dollars, entered_with, base, limited, diamond, entered, entered_in, forwarded, answered, answered_in, reversal, reversal_as, acknowledged, stand_in, reversal_by_acquirer, reversal_reply, one, two, three, four, ten_dollars, six_dollars, four_dollars, one_cent, history_after, outputs_after, card_number, ticks, next_alternate, stood_in_though_reversed, late_approval_dropped, same_tick_not_counted, advice_dropped_when_sent, own_reversal_frees, reversed_run, base_ranks};
+ghost use Rattle.network_law.specs.Worked.{next_alternate_in_time, twenty_dollars, entered_with, base, limited, diamond, entered, entered_in, forwarded, answered, answered_in, reversal, reversal_as, acknowledged, stand_in, reversal_by_acquirer, partial_reversal, reversal_reply, one, two, three, four, ten_dollars, six_dollars, four_dollars, one_cent, history_after, outputs_after, card_number, ticks, next_alternate, stood_in_though_reversed, late_approval_dropped, same_tick_not_counted, advice_dropped_when_sent, own_reversal_frees, reversed_run, lent_run, base_ranks, lenders, lend_to_b, granted, received, entered_at_b, answered_at_b, three_dollars, two_dollars, partial_frees_all, repeated_grant_counted, lent_amount_used, grant_dropped_when_put};
 
 /// A request is forwarded with its settlement date, asked of the host, and answered; a repeat gets the same answer, and the answer
 /// again gives nothing.
@@ -53,6 +54,45 @@ pub fn worked_limits()
     ensures same_tick { outputs_after limited 0 (ticks 3 (Enter (entered two six_dollars) ∷ Enter (entered one six_dollars) ∷ [])) ≡ Put 0 3 (reversal one six_dollars) ∷ Answer (answered one six_dollars (codes "00")) ∷ Put 0 4 (stand_in one six_dollars) ∷ Put 0 5 (reversal two six_dollars) ∷ Answer (answered two six_dollars (codes "61")) ∷ [] }
 {}
 
+/// A partial reversal leaves its actual amount, and frees the rest once.
+pub fn worked_partial_reversals()
+    ensures accepted { outputs_after limited 0 (Enter (partial_reversal four_dollars one ten_dollars) ∷ Enter (entered one ten_dollars) ∷ LinkDown 0 ∷ []) ≡ Answer (reversal_reply one ten_dollars) ∷ [] }
+    ensures rest_freed { outputs_after limited 0 (Enter (entered two six_dollars) ∷ Enter (partial_reversal four_dollars one ten_dollars) ∷ Enter (entered one ten_dollars) ∷ LinkDown 0 ∷ []) ≡ Answer (answered two six_dollars (codes "00")) ∷ [] }
+    ensures no_more_freed { outputs_after limited 0 (Enter (entered three one_cent) ∷ Enter (entered two six_dollars) ∷ Enter (partial_reversal four_dollars one ten_dollars) ∷ Enter (entered one ten_dollars) ∷ LinkDown 0 ∷ []) ≡ Answer (answered three one_cent (codes "61")) ∷ [] }
+    ensures again { outputs_after limited 0 (Enter (partial_reversal four_dollars one ten_dollars) ∷ Enter (entered two six_dollars) ∷ Enter (partial_reversal four_dollars one ten_dollars) ∷ Enter (entered one ten_dollars) ∷ LinkDown 0 ∷ []) ≡ Answer (reversal_reply one ten_dollars) ∷ [] }
+    ensures freed_once { outputs_after limited 0 (Enter (entered three one_cent) ∷ Enter (partial_reversal four_dollars one ten_dollars) ∷ Enter (entered two six_dollars) ∷ Enter (partial_reversal four_dollars one ten_dollars) ∷ Enter (entered one ten_dollars) ∷ LinkDown 0 ∷ []) ≡ Answer (answered three one_cent (codes "61")) ∷ [] }
+    ensures used { used limited 0 (history_after limited 0 (Enter (partial_reversal four_dollars one ten_dollars) ∷ Enter (entered one ten_dollars) ∷ LinkDown 0 ∷ [])) card_number (0 ∷ 3 ∷ 1 ∷ 4 ∷ []) ≡ 400 }
+{}
+
+/// A node lends a part of its limit to another: its grant is put again until it is acknowledged, and counts once however often it is
+/// taken.
+pub fn worked_lent_amounts()
+    ensures lent { outputs_after lenders 0 (lend_to_b 100 ∷ []) ≡ PutPacket 0 1 (granted 100) ∷ [] }
+    ensures spelled { packet_bytes (granted 100) ≡ codes "GRNT0000000100100000000010000000100316411111111111111103140000000001" ++ codes "00" }
+    ensures read { read_packet (codes "GRNT0000000100100000000010000000100316411111111111111103140000000001" ++ codes "00") ≡ Some (granted 100) }
+    ensures read_received { read_packet (codes "GACK000000010010000000001") ≡ Some received }
+    ensures too_long { read_packet (codes "GACK0000000100100000000010") ≡ None }
+    ensures taken { outputs_after lenders 1 (TakePacket 0 1 (granted 100) ∷ []) ≡ PutPacket 0 1 received ∷ [] }
+    ensures taken_again { outputs_after lenders 1 (TakePacket 0 1 (granted 100) ∷ TakePacket 0 1 (granted 100) ∷ []) ≡ PutPacket 0 2 received ∷ [] }
+    ensures borrowed { outputs_after lenders 1 (Enter (entered_at_b one three_dollars) ∷ LinkDown 2 ∷ TakePacket 0 1 (granted 100) ∷ TakePacket 0 1 (granted 100) ∷ []) ≡ Answer (answered_at_b one three_dollars (codes "00")) ∷ [] }
+    ensures no_more { outputs_after lenders 1 (Enter (entered_at_b two one_cent) ∷ Enter (entered_at_b one three_dollars) ∷ LinkDown 2 ∷ TakePacket 0 1 (granted 100) ∷ TakePacket 0 1 (granted 100) ∷ []) ≡ Answer (answered_at_b two one_cent (codes "61")) ∷ [] }
+    ensures left_to_lender { outputs_after lenders 0 (Enter (entered one two_dollars) ∷ LinkDown 1 ∷ lend_to_b 100 ∷ []) ≡ Answer (answered one two_dollars (codes "00")) ∷ [] }
+    ensures no_more_left { outputs_after lenders 0 (Enter (entered two one_cent) ∷ Enter (entered one two_dollars) ∷ LinkDown 1 ∷ lend_to_b 100 ∷ []) ≡ Answer (answered two one_cent (codes "61")) ∷ [] }
+    ensures not_taken { outputs_after lenders 1 (Enter (entered_at_b two one_cent) ∷ Enter (entered_at_b one two_dollars) ∷ LinkDown 2 ∷ []) ≡ Answer (answered_at_b two one_cent (codes "61")) ∷ [] }
+    ensures all_lent { outputs_after lenders 0 (Enter (entered one one_cent) ∷ LinkDown 1 ∷ lend_to_b 300 ∷ []) ≡ Answer (answered one one_cent (codes "91")) ∷ [] }
+    ensures put_again { outputs_after lenders 0 (ticks 50 (lend_to_b 100 ∷ [])) ≡ PutPacket 0 2 (granted 100) ∷ [] }
+    ensures grant_first { outputs_after lenders 0 (ticks 50 (LinkUp 1 ∷ LinkDown 1 ∷ Enter (entered one one_cent) ∷ lend_to_b 100 ∷ [])) ≡ PutPacket 0 2 (granted 100) ∷ Put 1 2 (reversal one one_cent) ∷ Put 1 3 (stand_in one one_cent) ∷ [] }
+    ensures advices_first { outputs_after lenders 0 (ticks 50 (lend_to_b 100 ∷ LinkUp 1 ∷ LinkDown 1 ∷ Enter (entered one one_cent) ∷ [])) ≡ Put 1 2 (reversal one one_cent) ∷ Put 1 3 (stand_in one one_cent) ∷ PutPacket 0 2 (granted 100) ∷ [] }
+    ensures acknowledged { outputs_after lenders 0 (ticks 50 (TakePacket 0 1 received ∷ lend_to_b 100 ∷ [])) ≡ [] }
+    ensures link_down { outputs_after lenders 0 (lend_to_b 100 ∷ LinkDown 0 ∷ []) ≡ [] }
+    ensures above { refusal lenders 0 [] (lend_to_b 301) ≡ Some NotLent }
+    ensures nothing { refusal lenders 0 [] (lend_to_b 0) ≡ Some NotLent }
+    ensures not_named { refusal lenders 0 [] (Lend 2 card_number (0 ∷ 3 ∷ 1 ∷ 4 ∷ []) 100) ≡ Some NotLent }
+    ensures not_joined { refusal lenders 0 [] (Lend 0 card_number (0 ∷ 3 ∷ 1 ∷ 4 ∷ []) 100) ≡ Some NotLent }
+    ensures for_another { refusal lenders 0 [] (TakePacket 0 1 (granted 100)) ≡ Some NotLent }
+    ensures may { refusal lenders 0 [] (lend_to_b 300) ≡ None }
+{}
+
 /// What a node refuses, and with which fault.
 pub fn worked_refusals()
     ensures none { refusal base 0 [] (Enter (entered one ten_dollars)) ≡ None }
@@ -64,16 +104,21 @@ pub fn worked_refusals()
     ensures strange_original { refusal base 0 [] (Enter (entered_with K0400 (codes "4111111111111111") ((32, codes "400001") ∷ (49, codes "840") ∷ (90, codes "010000000103140915300000040000200000000000") ∷ []))) ≡ Some (Missing 90) }
     ensures answer_entered { refusal base 0 [] (Enter (answered one ten_dollars (codes "00"))) ≡ Some TypeNotForGate }
     ensures reversal_taken { refusal base 1 [] (Take 0 1 (reversal_by_acquirer K0400 one ten_dollars)) ≡ Some TypeNotForGate }
-    ensures replacement { refusal base 0 [] (Enter (entered_with K0400 (codes "4111111111111111") ((32, codes "400001") ∷ (49, codes "840") ∷ (90, codes "010000000103140915300000040000100000000000") ∷ (95, codes "000000000500000000000000C00000000C00000000") ∷ []))) ≡ Some Replacement }
+    ensures partial { refusal limited 0 [] (Enter (partial_reversal four_dollars one ten_dollars)) ≡ None }
+    ensures partial_above { refusal limited 0 [] (Enter (partial_reversal (codes "000000001001") one ten_dollars)) ≡ Some Replacement }
+    ensures partial_no_number { refusal limited 0 [] (Enter (partial_reversal (codes "00000000 400") one ten_dollars)) ≡ Some Replacement }
     ensures unknown_ask { refusal base 1 [] (HostAnswer 1 (codes "00")) ≡ Some UnknownAsk }
 {}
 
-/// The premises of the law are met by the base network and a run of it, in which a reversal is made, sent, posted and acknowledged.
+/// The premises of the law are met by the base network and a run of it, in which a reversal is made, sent, posted and acknowledged;
+/// and in a run of another a grant is taken twice.
 pub fn worked_run()
     ensures checked { IsChecked base }
     ensures ranked { IsRanked base base_ranks }
     ensures bounded { IsBounded base }
     ensures run { IsRun base (λ n. spelled_trace (reversed_run n)) }
+    ensures lenders_checked { IsChecked lenders }
+    ensures lent_run { IsRun lenders (λ n. spelled_trace (lent_run n)) }
 {}
 
 /// Traces of nodes that decide otherwise aren't legal.
@@ -84,5 +129,9 @@ pub fn wrong_traces_are_not_legal()
     ensures late_approval_dropped { IsLegal base 0 (spelled_trace late_approval_dropped) → ⊥ }
     ensures same_tick_not_counted { IsLegal limited 0 (spelled_trace same_tick_not_counted) → ⊥ }
     ensures advice_dropped_when_sent { IsLegal base 0 (spelled_trace advice_dropped_when_sent) → ⊥ }
+    ensures partial_frees_all { IsLegal limited 0 (spelled_trace partial_frees_all) → ⊥ }
+    ensures repeated_grant_counted { IsLegal lenders 1 (spelled_trace repeated_grant_counted) → ⊥ }
+    ensures lent_amount_used { IsLegal lenders 0 (spelled_trace lent_amount_used) → ⊥ }
+    ensures grant_dropped_when_put { IsLegal lenders 0 (spelled_trace grant_dropped_when_put) → ⊥ }
     ensures own_reversal_frees { IsLegal limited 0 (spelled_trace own_reversal_frees) → ⊥ }
 {}

@@ -38,9 +38,17 @@ pub returns-clause-reversal_taken : goal.returns-clause-reversal_taken
 unfolding refusal
 returns-clause-reversal_taken c = refl
 
-pub returns-clause-replacement : goal.returns-clause-replacement
+pub returns-clause-partial : goal.returns-clause-partial
 unfolding refusal
-returns-clause-replacement c = refl
+returns-clause-partial c = refl
+
+pub returns-clause-partial_above : goal.returns-clause-partial_above
+unfolding refusal
+returns-clause-partial_above c = refl
+
+pub returns-clause-partial_no_number : goal.returns-clause-partial_no_number
+unfolding refusal
+returns-clause-partial_no_number c = refl
 
 pub returns-clause-unknown_ask : goal.returns-clause-unknown_ask
 unfolding refusal

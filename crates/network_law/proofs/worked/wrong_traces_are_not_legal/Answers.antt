@@ -4,9 +4,9 @@ use Rattle.iso_message.specs.Codes.{code_of}
 use Rattle.network_law.specs.Traces.{Answer, Out, History}
 use Rattle.network_law.specs.Decision.{decide}
 use Rattle.network_law.specs.Entries.{read_history}
-use Rattle.network_law.specs.Worked.{next_alternate_in_time, base, limited, diamond, next_alternate, stood_in_though_reversed, late_approval_dropped, same_tick_not_counted, advice_dropped_when_sent, own_reversal_frees}
+use Rattle.network_law.specs.Worked.{next_alternate_in_time, base, limited, diamond, next_alternate, stood_in_though_reversed, late_approval_dropped, same_tick_not_counted, advice_dropped_when_sent, own_reversal_frees, lenders, partial_frees_all, repeated_grant_counted, lent_amount_used, grant_dropped_when_put}
 use Rattle.network_law.proofs.Spelled.{trace_good, legal_in_messages}
-use Rattle.network_law.proofs.WorkedRun.{base_checked, limited_checked, diamond_checked}
+use Rattle.network_law.proofs.WorkedRun.{base_checked, limited_checked, diamond_checked, lenders_checked}
 use Rattle.network_law.proofs.worked.wrong_traces_are_not_legal.Goals as goal
 
 pub returns-clause-next_alternate : goal.returns-clause-next_alternate
@@ -54,6 +54,39 @@ pub returns-clause-own_reversal_frees : goal.returns-clause-own_reversal_frees
 unfolding trace_good read_history decide newest_code
 returns-clause-own_reversal_frees c l =
     let p : true ≡ false = ap (λ h. bytes_eq (newest_code h) (codes "00")) ((legal_in_messages limited 0 limited_checked (omega arith) own_reversal_frees refl l).1.outputs) in
+    no p
+  where
+    no : true ≡ false → ⊥
+    no p = cc
+
+pub returns-clause-repeated_grant_counted : goal.returns-clause-repeated_grant_counted
+unfolding trace_good read_history decide newest_code
+returns-clause-repeated_grant_counted c l =
+    let p : true ≡ false = ap (λ h. bytes_eq (newest_code h) (codes "00")) ((legal_in_messages lenders 1 lenders_checked (omega arith) repeated_grant_counted refl l).1.outputs) in
+    no p
+  where
+    no : true ≡ false → ⊥
+    no p = cc
+
+pub returns-clause-lent_amount_used : goal.returns-clause-lent_amount_used
+unfolding trace_good read_history decide newest_code
+returns-clause-lent_amount_used c l =
+    let p : true ≡ false = ap (λ h. bytes_eq (newest_code h) (codes "00")) ((legal_in_messages lenders 0 lenders_checked (omega arith) lent_amount_used refl l).1.outputs) in
+    no p
+  where
+    no : true ≡ false → ⊥
+    no p = cc
+
+pub returns-clause-grant_dropped_when_put : goal.returns-clause-grant_dropped_when_put
+unfolding trace_good read_history decide
+returns-clause-grant_dropped_when_put c l =
+    let p : ◌≡◌ {A = ℕ} 52 53 = ap length ((legal_in_messages lenders 0 lenders_checked (omega arith) grant_dropped_when_put refl l).1.outputs) in
+    omega (arith, p)
+
+pub returns-clause-partial_frees_all : goal.returns-clause-partial_frees_all
+unfolding trace_good read_history decide newest_code
+returns-clause-partial_frees_all c l =
+    let p : true ≡ false = ap (λ h. bytes_eq (newest_code h) (codes "00")) ((legal_in_messages limited 0 limited_checked (omega arith) partial_frees_all refl l).1.outputs) in
     no p
   where
     no : true ≡ false → ⊥
