@@ -2,7 +2,7 @@
 //! argument is the number of rounds of a thousand messages, and a second argument `time` prints the times as well.
 #![tactic(auto)]
 
-use iso_message::{DecodeFault, Kind, Message, decode, encode};
+use iso_message::{DecodeFault, Kind, Message, decode, encode, encode_into};
 use std::alloc::{AllocError, Global};
 use std::io;
 use std::time::Instant;
@@ -83,6 +83,21 @@ fn decode_frames(alloc: Global, frames: &[u8]) -> usize {
     elements
 }
 
+/// Decodes each frame of the buffer in the place of one message, and counts the elements.
+fn read_frames(message: &mut Message, frames: &[u8]) -> usize {
+    let mut elements: usize = 0;
+    let mut rest = frames;
+    for _ in 0..FRAMES {
+        if let Some((bytes, later)) = first_frame(rest) {
+            if message.read_again(bytes).is_ok() {
+                elements = elements.wrapping_add(message.len());
+            }
+            rest = later;
+        }
+    }
+    elements
+}
+
 /// Decodes and encodes so many rounds of a message's frames, and prints what was counted.
 fn measure(
     rt: &HostRuntime,
@@ -107,12 +122,34 @@ fn measure(
         }
     }
     let both = start.elapsed(rt)?;
-    println!(rt; "{name}: {elements} elements read, {written} bytes written")?;
+    let mut place = message.copy()?;
+    let again = Instant::now(rt)?;
+    let mut more: usize = 0;
+    for _ in 0..rounds {
+        more = more.wrapping_add(read_frames(&mut place, &frames));
+    }
+    let in_place = again.elapsed(rt)?;
+    let put = Instant::now(rt)?;
+    let mut out = Vec::new(alloc);
+    let mut behind: usize = 0;
+    for _ in 0..rounds {
+        for _ in 0..FRAMES {
+            out.clear();
+            encode_into(&mut out, &place)?;
+            behind = behind.wrapping_add(out.len());
+        }
+    }
+    let putting = put.elapsed(rt)?;
+    println!(rt;
+        "{name}: {elements} elements read, {more} in place, {written} bytes written, {behind} in place"
+    )?;
     if timed {
         let reading = decoded.as_micros();
         let all = both.as_micros();
+        let place = in_place.as_micros();
+        let puts = putting.as_micros();
         println!(rt;
-            "{name}: {rounds} thousand messages, decoded in {reading} us, decoded and encoded in {all} us"
+            "{name}: {rounds} thousand messages, decoded in {reading} us, decoded and encoded in {all} us, decoded in place in {place} us, encoded in place in {puts} us"
         )?;
     }
     Ok(())

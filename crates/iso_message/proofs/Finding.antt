@@ -11,7 +11,7 @@ use Rattle.iso_message.proofs.SpansMore.{range_last, seen_more, within_more}
 use Rattle.iso_message.specs.Spans.{shown, seen, IsWithin, AreWithin, placed}
 
 abbrev any : Span
-any = record { number = 0; start = 0; end = 0 }
+any = record { number = 0; text = 0; start = 0; end = 0 }
 
 drop_past : (i : ℕ) (spans : List Span) → length spans ≤ i → drop i spans ≡ []
 drop_past i spans h = drop_of_length-le spans h
@@ -102,5 +102,5 @@ seen_put values more spans s h i j =
     ∙ ap (λ (v : List ℕ). put s.number v (seen (values ++ more) spans)) (range_last values more s.start s.end i j)
     ∙ ap (put s.number more) (seen_more values more spans h)
 
-pub within_put : (values more : List ℕ) (spans : List Span) (s : Span) → AreWithin values spans → s.start ≡ length values → s.end ≡ length values + length more → AreWithin (values ++ more) (placed s spans)
-within_put values more spans s h i j = within_placed (values ++ more) s spans (record { order = omega arith; inside = omega (arith, length-append values more) }) (within_more values more spans h)
+pub within_put : (values more : List ℕ) (spans : List Span) (s : Span) → AreWithin values spans → s.start ≡ length values → s.end ≡ length values + length more → s.text ≡ s.end → AreWithin (values ++ more) (placed s spans)
+within_put values more spans s h i j e = within_placed (values ++ more) s spans (record { order = omega arith; inside = omega (arith, length-append values more); spelled = λ lt. absurd (omega arith) }) (within_more values more spans h)

@@ -14,3 +14,7 @@ pub mod Changes
 pub mod MessageLemmas
 pub mod KeyLemmas
 pub mod FrameLemmas
+pub mod LaneLemmas
+pub mod KnownLemmas
+pub mod PartLemmas
+pub mod Together

@@ -10,7 +10,7 @@ use Rattle.iso_message.specs.Spelling.{Ascends, bits, low_numbers, high_numbers,
 use Rattle.iso_message.proofs.Canonical.{marks_bits, parted, weaker}
 
 abbrev pub any : Span
-any = record { number = 0; start = 0; end = 0 }
+any = record { number = 0; text = 0; start = 0; end = 0 }
 
 pub next : (spans : List Span) (i : ℕ) → i < length spans → drop i spans ≡ get_or spans i any ∷ drop (i + 1) spans
 next spans i h = rw (add-one) (drop-cons spans i any h)
@@ -55,3 +55,12 @@ written m low high a b c l h ea eb ec =
     ap (λ x. two_maps x high) l ∙ ap (two_maps (bits 64 (low_numbers (numbers_of m)))) h ∙ maps_two (low_numbers (numbers_of m)) (high_numbers (numbers_of m)) in
     ec ∙ ap (λ x. x ++ pieces m.elements) (eb ∙ ap (λ x. x ++ two_maps low high) ea ∙ ap (λ x. kind_text m.kind ++ x) maps)
     ∙ append_assoc (kind_text m.kind) (maps_text (low_numbers (numbers_of m)) (high_numbers (numbers_of m))) (pieces m.elements)
+
+-- the same behind other bytes
+pub written_behind : (m : Fields) (old : List ℕ) (low high : ℕ) (a b c : List ℕ) → low ≡ bits 64 (low_numbers (numbers_of m)) → high ≡ bits 128 (high_numbers (numbers_of m))
+    → a ≡ old ++ kind_text m.kind → b ≡ a ++ two_maps low high → c ≡ b ++ pieces m.elements → c ≡ old ++ spelling m
+written_behind m old low high a b c l h ea eb ec =
+    let maps = two_maps low high in
+    let kind = kind_text m.kind in
+    ec ∙ ap (λ x. x ++ pieces m.elements) (eb ∙ ap (λ x. x ++ maps) ea ∙ append_assoc old kind maps) ∙ append_assoc old (kind ++ maps) (pieces m.elements)
+    ∙ ap (λ x. old ++ x) (written m low high kind (kind ++ maps) ((kind ++ maps) ++ pieces m.elements) l h refl refl refl)

@@ -174,7 +174,7 @@ good_put n value (e ∷ es) v g =
 -- ---- spans
 
 abbrev pub any : Span
-any = record { number = 0; start = 0; end = 0 }
+any = record { number = 0; text = 0; start = 0; end = 0 }
 
 pub within_kept : (keeps : Span → Bool) (values : List ℕ) (spans : List Span) → AreWithin values spans → AreWithin values (filter keeps spans)
 within_kept keeps values [] h = tt

@@ -12,3 +12,5 @@ pub mod Keys
 pub mod Codes
 pub mod Made
 pub mod Frames
+pub mod Known
+pub mod Parts

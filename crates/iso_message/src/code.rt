@@ -4,7 +4,7 @@ ghost use Rattle.iso_message.specs.Grammar.{AreOf};
 ghost use Rattle.iso_message.specs.declared.form.Class.TheVariants.{Text};
 
 use crate::form::Class;
-use crate::reading::are_of;
+use crate::runs::are_of;
 use std::marker::Model;
 
 /// A response code (ISO 8583, element 39): two bytes from 0x20 to 0x7E.

@@ -1,21 +1,44 @@
 //! Elements, kept as places in one buffer.
-ghost use Rattle.std.specs.Prelude.{◌≡◌, ◌≤◌, [], ◌∷◌, ◌++◌, length, map, OnOk, OnErr, IfOk, MatchOption, MatchResult, slice_set, insert, drop, ◌<◌, ◌+◌};
+ghost use Rattle.std.specs.Prelude.{◌≡◌, ◌≤◌, [], ◌∷◌, ◌++◌, length, map, OnOk, OnErr, IfOk, MatchOption, MatchResult, slice_set, slice_range, insert, drop, ◌<◌, ◌+◌};
 ghost use Rattle.iso_message.specs.Finding.{find_element, put, without};
 ghost use Rattle.iso_message.specs.Made.{kept};
 ghost use Rattle.iso_message.specs.Spelling.{Ascends, AreGood, bits, low_numbers, high_numbers, pieces};
 ghost use Rattle.iso_message.specs.Spans.{seen, AreWithin, placed, numbers};
 ghost use Rattle.iso_message.specs.declared.elements.Span.{Span};
 
+mod parts;
+
 use crate::writing::push_piece;
+pub(crate) use parts::Parts;
 use std::alloc::{AllocError, Global};
 use std::marker::Model;
+use std::mem;
 
 /// Where an element's bytes stand.
 #[derive(Clone, Copy, Debug)]
 pub(crate) struct Span {
     number: u8,
-    start: usize,
-    end: usize,
+    /// Where its piece begins as it is spelled, before the end of its bytes. The end itself where it doesn't stand there.
+    text: u32,
+    start: u32,
+    end: u32,
+}
+
+/// The span of so many bytes from a place on. There is none where the buffer would have 4 GiB.
+fn span_after(number: u8, start: usize, len: usize) -> Result<Span, AllocError>
+    ensures { IfOk result (λ s. s ≡ record { number = number; text = start + len; start = start; end = start + len }) }
+{
+    let most = u32::MAX as usize;
+    if start > most || len > most - start {
+        return Err(AllocError);
+    }
+    let end = (start + len) as u32;
+    Ok(Span {
+        number,
+        text: end,
+        start: start as u32,
+        end,
+    })
 }
 
 /// Numbers and their bytes, in the order of adding.
@@ -64,10 +87,9 @@ impl Elements {
         ensures ok { OnOk result (self.new ≡ self.old ++ (number, content.now) ∷ []) }
         ensures err { OnErr result (self.new ≡ self.old) }
     {
-        let start = self.values.len();
+        let span = span_after(number, self.values.len(), content.len())?;
         self.values.extend_from_slice(content)?;
-        let end = self.values.len();
-        self.spans.push(Span { number, start, end })?;
+        self.spans.push(span)?;
         Ok(())
     }
 
@@ -97,12 +119,11 @@ impl Elements {
         ensures ok { OnOk result (self.new ≡ put number content.now self.old) }
         ensures err { OnErr result (self.new ≡ self.old) }
     {
-        let start = self.values.len();
+        let span = span_after(number, self.values.len(), content.len())?;
         self.values.extend_from_slice(content)?;
-        let end = self.values.len();
         match search(&self.spans, number) {
-            Ok(place) => self.spans[place] = Span { number, start, end },
-            Err(place) => self.spans.insert(place, Span { number, start, end })?,
+            Ok(place) => self.spans[place] = span,
+            Err(place) => self.spans.insert(place, span)?,
         }
         Ok(())
     }
@@ -139,6 +160,15 @@ impl Elements {
         let mut elements = Elements::with_capacity(alloc, self.spans.len(), self.values.len())?;
         copy_kept(&self.spans, &self.values, numbers, &mut elements)?;
         Ok(elements)
+    }
+
+    /// Takes the elements out, and leaves none.
+    pub(crate) fn take(&mut self) -> Elements
+        ensures taken { result ≡ self.old }
+        ensures none { self.new ≡ [] }
+    {
+        let none = Elements::new(self.allocator());
+        mem::replace(self, none)
     }
 
     pub(crate) fn allocator(&self) -> Global {
@@ -187,7 +217,7 @@ fn value_of<'a>(spans: &[Span], values: &'a [u8], number: u8) -> Option<&'a [u8]
 {
     for span in spans {
         if span.number == number {
-            return Some(&values[span.start..span.end]);
+            return Some(&values[span.start as usize..span.end as usize]);
         }
     }
     None
@@ -200,7 +230,7 @@ fn element_at<'a>(spans: &[Span], values: &'a [u8], place: usize) -> (u8, &'a [u
     ensures { drop place (seen values.now spans.now) ≡ (result.0, result.1.now) ∷ drop (place + 1) (seen values.now spans.now) }
 {
     let span = spans[place];
-    (span.number, &values[span.start..span.end])
+    (span.number, &values[span.start as usize..span.end as usize])
 }
 
 /// Adds the values of the spans with these numbers.
@@ -215,7 +245,7 @@ fn copy_kept(
 {
     for span in spans {
         if numbers.contains(&span.number) {
-            elements.push(span.number, &values[span.start..span.end])?;
+            elements.push(span.number, &values[span.start as usize..span.end as usize])?;
         }
     }
     Ok(())
@@ -240,14 +270,65 @@ pub(crate) fn maps_of(spans: &[Span]) -> (u64, u64)
     (low, high)
 }
 
+/// Writes a part of the buffer, which is often empty.
+#[inline(always)]
+fn push_part(out: &mut Vec<u8>, values: &[u8], from: usize, to: usize) -> Result<(), AllocError>
+    requires order { from ≤ to }
+    requires inside { to ≤ length values.now }
+    ensures { OnOk result (out.new.items ≡ out.old.items ++ slice_range values.now from to) }
+{
+    if from == to {
+        return Ok(());
+    }
+    out.extend_from_slice(&values[from..to])
+}
+
 /// Writes the pieces of the spans' values.
 fn push_pieces(out: &mut Vec<u8>, spans: &[Span], values: &[u8]) -> Result<(), AllocError>
     requires within { AreWithin values.now spans.now }
     requires good { AreGood (seen values.now spans.now) }
     ensures { OnOk result (out.new.items ≡ out.old.items ++ pieces (seen values.now spans.now)) }
 {
+    // What was read begins with a piece in the buffer, and what was set with none.
+    if !spans.is_empty() && spans[0].text < spans[0].end {
+        return push_together(out, spans, values);
+    }
+    push_each(out, spans, values)
+}
+
+/// Each piece is written by itself.
+fn push_each(out: &mut Vec<u8>, spans: &[Span], values: &[u8]) -> Result<(), AllocError>
+    requires within { AreWithin values.now spans.now }
+    requires good { AreGood (seen values.now spans.now) }
+    ensures { OnOk result (out.new.items ≡ out.old.items ++ pieces (seen values.now spans.now)) }
+{
     for span in spans {
-        push_piece(out, span.number, &values[span.start..span.end])?;
+        let value = &values[span.start as usize..span.end as usize];
+        push_piece(out, span.number, value)?;
     }
     Ok(())
+}
+
+/// Those that stand in the buffer one behind the other are written together.
+fn push_together(out: &mut Vec<u8>, spans: &[Span], values: &[u8]) -> Result<(), AllocError>
+    requires within { AreWithin values.now spans.now }
+    requires good { AreGood (seen values.now spans.now) }
+    ensures { OnOk result (out.new.items ≡ out.old.items ++ pieces (seen values.now spans.now)) }
+{
+    let mut from: usize = 0;
+    let mut to: usize = 0;
+    for span in spans {
+        let text = span.text as usize;
+        let end = span.end as usize;
+        if text >= end {
+            push_part(out, values, from, to)?;
+            push_piece(out, span.number, &values[span.start as usize..end])?;
+            from = end;
+        } else if text != to {
+            push_part(out, values, from, to)?;
+            from = text;
+        }
+        to = end;
+    }
+    push_part(out, values, from, to)
 }

@@ -12,6 +12,7 @@ pub mod laws;
 mod made;
 mod message;
 mod reading;
+mod runs;
 mod writing;
 
 pub use code::Code;
@@ -22,5 +23,5 @@ pub use keys::{
     AdviceId, AdviceKind, advice_id, code_of, has_own_key, key_of, original_key, same_content,
 };
 pub use kind::{Group, Kind};
-pub use message::{Message, encode, value_fault};
+pub use message::{Message, encode, encode_into, value_fault};
 pub use reading::decode;

@@ -1,18 +1,20 @@
 //! Messages.
-ghost use Rattle.std.specs.Prelude.{◌≡◌, ◌↔◌, ◌⊎◌, ◌<◌, ◌+◌, ◌^◌, ◌++◌, ◌∷◌, [], length, drop, IsTrue, Some, None, IfOk, OnOk, OnErr, IfErr};
+ghost use Rattle.std.specs.Prelude.{◌≡◌, ◌↔◌, ◌⊎◌, ◌<◌, ◌+◌, ◌^◌, ◌++◌, ◌∷◌, [], length, drop, IsTrue, Some, None, Ok, IfOk, OnOk, OnErr, IfErr};
 ghost use Rattle.std.specs.Option.{option_copied};
 ghost use Rattle.iso_message.specs.declared.fault.DecodeFault.TheVariants.{Memory};
 ghost use Rattle.iso_message.specs.Elements.{set_fault};
 ghost use Rattle.iso_message.specs.Table.{form_of};
-ghost use Rattle.iso_message.specs.Grammar.{Spells};
+ghost use Rattle.iso_message.specs.Grammar.{Spells, IsFault};
+ghost use Rattle.iso_message.specs.Messages.{read, Gives};
 ghost use Rattle.iso_message.specs.Spelling.{IsMessage, spelling, two_maps};
-ghost use Rattle.iso_message.specs.Fields.{get, has, set_element, remove_element, as_kind};
+ghost use Rattle.iso_message.specs.Fields.{Fields, get, has, set_element, remove_element, as_kind};
 
 use crate::elements::Elements;
 use crate::fault::DecodeFault;
 use crate::form::{Form, form_at};
 use crate::kind::Kind;
-use crate::reading::are_of;
+use crate::reading::read_into;
+use crate::runs::are_of;
 use crate::writing::{push_map, text_of};
 use std::alloc::{AllocError, Global};
 use std::marker::Model;
@@ -135,6 +137,28 @@ impl Message {
         self.elements.remove(number);
     }
 
+    /// Reads the message that the bytes spell in the place and the memory of this one, as `decode` reads it into new memory.
+    /// After a fault there are no elements.
+    pub fn read_again(&mut self, bytes: &[u8]) -> Result<(), DecodeFault>
+        ensures found { IfOk result (λ _. Spells bytes.now self.new) }
+        ensures only { (m : Fields) → Spells bytes.now m → Gives (λ _. self.new) result (Ok m) }
+        ensures fault { IfErr result (λ e. (e ≡ Memory) ⊎ IsFault bytes.now e) }
+        ensures exact { Gives (λ _. self.new) result (read bytes.now) }
+        ensures err { OnErr result (self.new ≡ record { kind = self.old.kind; elements = [] }) }
+    {
+        self.fill(bytes)
+    }
+
+    /// The same, by what reading gives.
+    fn fill(&mut self, bytes: &[u8]) -> Result<(), DecodeFault>
+        ensures exact { Gives (λ _. self.new) result (read bytes.now) }
+        ensures err { OnErr result (self.new ≡ record { kind = self.old.kind; elements = [] }) }
+    {
+        let found = read_into(&mut self.elements, bytes)?;
+        self.kind = found;
+        Ok(())
+    }
+
     pub fn copy(&self) -> Result<Message, AllocError>
         ensures { IfOk result (λ m. m ≡ self.now) }
     {
@@ -151,12 +175,21 @@ pub fn encode(alloc: Global, message: &Message) -> Result<Vec<u8>, AllocError>
     ensures spelling { IfOk result (λ bytes. bytes.items ≡ spelling message.now) }
     ensures spells { IfOk result (λ bytes. Spells bytes.items message.now) }
 {
-    let (low, high) = message.elements.maps();
-    let mut out = Vec::with_capacity(alloc, message.elements.room().saturating_add(OTHER_ROOM))?;
-    out.extend_from_slice(text_of(message.kind))?;
-    push_maps(&mut out, low, high)?;
-    message.elements.push_to(&mut out)?;
+    let mut out = Vec::new(alloc);
+    encode_into(&mut out, message)?;
+    let _ = message.kind();
     Ok(out)
+}
+
+/// Writes the bytes that spell the message behind those that are there.
+pub fn encode_into(out: &mut Vec<u8>, message: &Message) -> Result<(), AllocError>
+    ensures { OnOk result (out.new.items ≡ out.old.items ++ spelling message.now) }
+{
+    let (low, high) = message.elements.maps();
+    out.reserve(message.elements.room().saturating_add(OTHER_ROOM))?;
+    out.extend_from_slice(text_of(message.kind))?;
+    push_maps(out, low, high)?;
+    message.elements.push_to(out)
 }
 
 /// The room for a type, two bit maps, and the second digits of the three binary elements.

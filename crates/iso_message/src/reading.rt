@@ -1,9 +1,11 @@
 //! Reading a message.
-ghost use Rattle.std.specs.Prelude.{◌≡◌, ◌<◌, ◌≤◌, ◌⊎◌, true, length, IfOk, IfErr, Ok};
+ghost use Rattle.std.specs.Prelude.{◌≡◌, ◌<◌, ◌≤◌, ◌⊎◌, true, [], length, IfOk, IfErr, OnErr, Ok};
 ghost use Rattle.std.specs.List.{list_all};
 ghost use Rattle.iso_message.specs.Types.{kind_of};
 ghost use Rattle.iso_message.specs.Elements.{fits, decimal, content_at, length_at, counted_at, binary_at, field_at, with_next, with_all};
 ghost use Rattle.iso_message.specs.Table.{form_of};
+ghost use Rattle.iso_message.specs.Known.{IsKnown};
+ghost use Rattle.iso_message.specs.Parts.{IsEnd};
 ghost use Rattle.iso_message.specs.declared.form.Class.TheVariants.{Digits};
 ghost use Rattle.iso_message.specs.declared.fault.DecodeFault.TheVariants.{Memory};
 ghost use Rattle.iso_message.specs.Grammar.{Spells, IsFault};
@@ -11,38 +13,34 @@ ghost use Rattle.iso_message.specs.Spelling.{IsMessage};
 ghost use Rattle.iso_message.specs.Fields.{Fields};
 ghost use Rattle.iso_message.specs.Messages.{marks, kind_at, map_at, second_at, read, Reads, Gives};
 
-use crate::elements::Elements;
+use crate::elements::{Elements, Parts};
 use crate::fault::DecodeFault;
 use crate::form::{Class, Form, form_at};
 use crate::kind::Kind;
 use crate::message::Message;
+use crate::runs::Known;
 use std::alloc::Global;
 
-pub(crate) fn are_of(class: Class, content: &[u8]) -> bool
-    ensures { result ≡ list_all (fits class) content.now }
-{
-    match class {
-        Class::Digits => content.iter().all(|b| b.is_ascii_digit()),
-        Class::Text => content.iter().all(|b| 0x20 <= *b && *b <= 0x7E),
-    }
-}
-
 #[tactic(auto, unfolding(crate::specs::Elements::content_at))]
-fn content_of(
+#[inline(always)]
+fn content_of<'a>(
     class: Class,
     size: usize,
     number: u8,
-    bytes: &[u8],
-) -> Result<(&[u8], &[u8]), DecodeFault>
-    ensures { Reads (λ x. (x.0.now, x.1.now)) result (content_at class size number bytes.now) }
+    bytes: &'a [u8],
+    known: &mut Known,
+) -> Result<(&'a [u8], &'a [u8]), DecodeFault>
+    requires { IsKnown known.old bytes.now }
+    ensures value { Reads (λ x. (x.0.now, x.1.now)) result (content_at class size number bytes.now) }
+    ensures known { IfOk result (λ x. IsKnown known.new x.1.now) }
 {
     if bytes.len() < size {
         return Err(DecodeFault::Short);
     }
-    let (content, rest) = bytes.split_at(size);
-    if !are_of(class, content) {
+    if !known.is_front(class, size, bytes) {
         return Err(DecodeFault::Character(number));
     }
+    let (content, rest) = bytes.split_at(size);
     Ok((content, rest))
 }
 
@@ -60,22 +58,26 @@ fn number_of(digits: &[u8]) -> usize
 }
 
 #[tactic(auto, unfolding(crate::specs::Elements::length_at))]
-fn length_of(
+#[inline(always)]
+fn length_of<'a>(
     width: usize,
     most: usize,
     number: u8,
-    bytes: &[u8],
-) -> Result<(usize, &[u8]), DecodeFault>
-    requires { width < 4 }
-    ensures { Reads (λ x. (x.0, x.1.now)) result (length_at width most number bytes.now) }
+    bytes: &'a [u8],
+    known: &mut Known,
+) -> Result<(usize, &'a [u8]), DecodeFault>
+    requires few { width < 4 }
+    requires known { IsKnown known.old bytes.now }
+    ensures value { Reads (λ x. (x.0, x.1.now)) result (length_at width most number bytes.now) }
+    ensures known { IfOk result (λ x. IsKnown known.new x.1.now) }
 {
     if bytes.len() < width {
         return Err(DecodeFault::Short);
     }
-    let (digits, rest) = bytes.split_at(width);
-    if !are_of(Class::Digits, digits) {
+    if !known.is_front(Class::Digits, width, bytes) {
         return Err(DecodeFault::Length(number));
     }
+    let (digits, rest) = bytes.split_at(width);
     let len = number_of(digits);
     if len > most {
         return Err(DecodeFault::Length(number));
@@ -84,18 +86,22 @@ fn length_of(
 }
 
 #[tactic(auto, unfolding(crate::specs::Elements::counted_at))]
-fn counted_of(
+#[inline(always)]
+fn counted_of<'a>(
     width: usize,
     class: Class,
     most: usize,
     number: u8,
-    bytes: &[u8],
-) -> Result<(&[u8], &[u8]), DecodeFault>
-    requires { width < 4 }
-    ensures { Reads (λ x. (x.0.now, x.1.now)) result (counted_at width class most number bytes.now) }
+    bytes: &'a [u8],
+    known: &mut Known,
+) -> Result<(&'a [u8], &'a [u8]), DecodeFault>
+    requires few { width < 4 }
+    requires known { IsKnown known.old bytes.now }
+    ensures value { Reads (λ x. (x.0.now, x.1.now)) result (counted_at width class most number bytes.now) }
+    ensures known { IfOk result (λ x. IsKnown known.new x.1.now) }
 {
-    let (len, rest) = length_of(width, most, number, bytes)?;
-    content_of(class, len, number, rest)
+    let (len, rest) = length_of(width, most, number, bytes, known)?;
+    content_of(class, len, number, rest, known)
 }
 
 #[tactic(auto, unfolding(crate::specs::Elements::binary_at))]
@@ -113,48 +119,68 @@ fn binary_of(number: u8, bytes: &[u8]) -> Result<([u8; 8], &[u8]), DecodeFault>
     }
 }
 
-/// Reads the element of a form, and adds it.
+/// Reads the element of a number, and adds it.
+#[inline(always)]
 #[tactic(auto, unfolding(crate::specs::Elements::with_next))]
 fn add_next<'a>(
-    elements: &mut Elements,
-    form: Option<Form>,
+    parts: &mut Parts,
     number: u8,
     bytes: &'a [u8],
+    known: &mut Known,
 ) -> Result<&'a [u8], DecodeFault>
-    ensures { Gives (λ rest. (elements.new, rest.now)) result (with_next elements.old form number bytes.now) }
+    requires known { IsKnown known.old bytes.now }
+    requires end { IsEnd bytes.now parts.old.body }
+    ensures value { Gives (λ rest. (parts.new.elements, rest.now)) result (with_next parts.old.elements (form_of number) number bytes.now) }
+    ensures known { IfOk result (λ rest. IsKnown known.new rest.now) }
+    ensures end { IfOk result (λ rest. IsEnd rest.now parts.new.body) }
 {
-    let (content, rest) = match form {
-        None => return Err(DecodeFault::Element(number)),
-        Some(Form::Fixed(class, size)) => content_of(class, size, number, bytes)?,
-        Some(Form::Llvar(class, most)) => counted_of(2, class, most, number, bytes)?,
-        Some(Form::Lllvar(class, most)) => counted_of(3, class, most, number, bytes)?,
+    match form_at(number) {
+        None => Err(DecodeFault::Element(number)),
+        Some(Form::Fixed(class, size)) => {
+            let (content, rest) = content_of(class, size, number, bytes, known)?;
+            parts.add(number, bytes, content, rest)?;
+            Ok(rest)
+        }
+        Some(Form::Llvar(class, most)) => {
+            let (content, rest) = counted_of(2, class, most, number, bytes, known)?;
+            parts.add(number, bytes, content, rest)?;
+            Ok(rest)
+        }
+        Some(Form::Lllvar(class, most)) => {
+            let (content, rest) = counted_of(3, class, most, number, bytes, known)?;
+            parts.add(number, bytes, content, rest)?;
+            Ok(rest)
+        }
         Some(Form::Binary) => {
             let (value, rest) = binary_of(number, bytes)?;
-            elements.push(number, &value)?;
-            return Ok(rest);
+            parts.add_binary(number, &value)?;
+            Ok(rest)
         }
-    };
-    elements.push(number, content)?;
-    Ok(rest)
+    }
 }
 
 /// Reads the elements of a bit map's set bits, and adds them.
 fn add_all<'a>(
-    elements: &mut Elements,
+    parts: &mut Parts,
     last: u8,
     map: u64,
     bytes: &'a [u8],
+    known: &mut Known,
 ) -> Result<&'a [u8], DecodeFault>
     requires least { 64 ≤ last }
     requires most { last ≤ 128 }
-    ensures { Gives (λ rest. (elements.new, rest.now)) result (with_all elements.old (marks last 64 map) bytes.now) }
+    requires known { IsKnown known.old bytes.now }
+    requires end { IsEnd bytes.now parts.old.body }
+    ensures value { Gives (λ rest. (parts.new.elements, rest.now)) result (with_all parts.old.elements (marks last 64 map) bytes.now) }
+    ensures known { IfOk result (λ rest. IsKnown known.new rest.now) }
+    ensures end { IfOk result (λ rest. IsEnd rest.now parts.new.body) }
 {
     let mut left = map;
     let mut rest = bytes;
     while left != 0 {
         let place = 63 - left.leading_zeros();
         let number = last - place as u8;
-        rest = add_next(elements, form_at(number), number, rest)?;
+        rest = add_next(parts, number, rest, known)?;
         left -= 1 << place;
     }
     Ok(rest)
@@ -219,29 +245,35 @@ fn second_map(first: u64, bytes: &[u8]) -> Result<(u64, &[u8]), DecodeFault>
     bit_map(bytes)
 }
 
-/// The type and the elements that the bytes spell.
+/// Puts the elements that the bytes spell in the place and the memory of older ones, and returns the type. After a fault there
+/// are none.
 #[tactic(auto, unfolding(crate::specs::Messages::read))]
-fn parts(alloc: Global, bytes: &[u8]) -> Result<(Kind, Elements), DecodeFault>
-    ensures exact { Gives (λ x. record { kind = x.0; elements = x.1 }) result (read bytes.now) }
+pub(crate) fn read_into(elements: &mut Elements, bytes: &[u8]) -> Result<Kind, DecodeFault>
+    ensures exact { Gives (λ kind. record { kind = kind; elements = elements.new }) result (read bytes.now) }
+    ensures none { OnErr result (elements.new ≡ []) }
 {
+    let old = elements.take();
     let (kind, rest) = read_kind(bytes)?;
     let (first, rest) = bit_map(rest)?;
-    let (second, rest) = second_map(first, rest)?;
+    let (second, body) = second_map(first, rest)?;
     let low = first % (1 << 63);
     let count = low.count_ones() + second.count_ones();
-    let mut elements = Elements::with_capacity(alloc, count as usize, rest.len())?;
-    let rest = add_all(&mut elements, 64, low, rest)?;
-    let rest = add_all(&mut elements, 128, second, rest)?;
+    let mut parts = Parts::of(old, count as usize, body)?;
+    let mut known = Known::of(body);
+    let rest = add_all(&mut parts, 64, low, body, &mut known)?;
+    let rest = add_all(&mut parts, 128, second, rest, &mut known)?;
     if !rest.is_empty() {
         return Err(DecodeFault::Trailing);
     }
-    Ok((kind, elements))
+    *elements = parts.into_elements();
+    Ok(kind)
 }
 
 fn whole(alloc: Global, bytes: &[u8]) -> Result<Message, DecodeFault>
     ensures exact { Gives (λ m. m) result (read bytes.now) }
 {
-    let (kind, elements) = parts(alloc, bytes)?;
+    let mut elements = Elements::new(alloc);
+    let kind = read_into(&mut elements, bytes)?;
     Ok(Message { kind, elements })
 }
 

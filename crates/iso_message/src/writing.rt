@@ -49,6 +49,7 @@ pub(crate) fn push_map(out: &mut Vec<u8>, bits: u64) -> Result<(), AllocError>
 }
 
 /// Writes the piece of an element.
+#[inline(always)]
 pub(crate) fn push_piece(out: &mut Vec<u8>, number: u8, value: &[u8]) -> Result<(), AllocError>
     requires { IsGood (form_of number) value.now }
     ensures { OnOk result (out.new.items ≡ out.old.items ++ piece (form_of number) value.now) }

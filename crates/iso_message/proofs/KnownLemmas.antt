@@ -1,0 +1,46 @@
+-- What is known of bytes, as these are read.
+use Rattle.std.proofs.Common.{◌≡◌, ℕ, ◌+◌, ◌-◌, ◌≤◌, true, List, ◌++◌, Ok, length, take, drop, refl, sym, ap, subst, ◌∙◌, arith, inl, inr}
+use Rattle.std.proofs.lemmas.Bool.{and_parts, cases_lt}
+use Rattle.std.proofs.lemmas.List.{take-append-drop, length-append, length-take-le}
+use Rattle.std.proofs.lemmas.List.Folds.{list_all-append}
+use Rattle.std.proofs.Math.Seq.{take-append-add}
+use Rattle.std.specs.List.{list_all}
+use Rattle.iso_message.specs.Elements.{fits, binary_at}
+use Rattle.iso_message.proofs.Pieces.{binary_takes}
+use Rattle.iso_message.specs.declared.form.Class.{Class}
+use Rattle.iso_message.specs.declared.form.Class.TheVariants.{Digits, Text}
+use Rattle.iso_message.specs.declared.runs.Known.{Known}
+use Rattle.iso_message.specs.Known.{IsKnown}
+
+-- the same holds of the bytes behind a front
+behind : (class : Class) (left : ℕ) (v rest : List ℕ) → list_all (fits class) (take (length (v ++ rest) - left) (v ++ rest)) ≡ true → list_all (fits class) (take (length rest - left) rest) ≡ true
+behind class left v rest h =
+    elim (cases_lt (length rest) left) [
+      | inl few ↦ let none : length rest - left ≡ 0 = omega arith in rw none refl
+      | inr le ↦
+          let n : length (v ++ rest) - left ≡ length v + (length rest - left) = omega (arith, length-append v rest) in
+          let parts = ap (λ k. take k (v ++ rest)) n ∙ take-append-add v rest (length rest - left) in
+          (and_parts (list_all (fits class) v) (list_all (fits class) (take (length rest - left) rest)) (sym (list_all-append (fits class) v (take (length rest - left) rest)) ∙ ap (list_all (fits class)) (sym parts) ∙ h)).1
+    ]
+
+pub known_behind : (k : Known) (v rest : List ℕ) → IsKnown k (v ++ rest) → IsKnown k rest
+known_behind k v rest h = record { digits = behind Digits k.digits v rest h.digits; text = behind Text k.text v rest h.text }
+
+pub known_dropped : (k : Known) (n : ℕ) (bytes : List ℕ) → IsKnown k bytes → IsKnown k (drop n bytes)
+known_dropped k n bytes h = known_behind k (take n bytes) (drop n bytes) (subst (λ (bs : List ℕ). IsKnown k bs) (sym (take-append-drop n bytes)) h)
+
+-- a front that ends before the bytes of which nothing is known
+pub front_known : (class : Class) (left n : ℕ) (bytes : List ℕ) → n ≤ length bytes → left ≤ length bytes - n → list_all (fits class) (take (length bytes - left) bytes) ≡ true → list_all (fits class) (take n bytes) ≡ true
+front_known class left n bytes le few h =
+    let v = take n bytes in
+    let rest = drop n bytes in
+    let whole : v ++ rest ≡ bytes = take-append-drop n bytes in
+    let long : length v ≡ n = length-take-le n bytes le in
+    let more : length bytes - left ≡ length v + (length bytes - left - n) = omega (arith, long) in
+    let parts : take (length bytes - left) bytes ≡ v ++ take (length bytes - left - n) rest = ap (λ m. take m bytes) more ∙ ap (take (length v + (length bytes - left - n))) (sym whole) ∙ take-append-add v rest (length bytes - left - n) in
+    (and_parts (list_all (fits class) v) (list_all (fits class) (take (length bytes - left - n) rest)) (sym (list_all-append (fits class) v (take (length bytes - left - n) rest)) ∙ ap (list_all (fits class)) (sym parts) ∙ h)).0
+
+pub binary_behind : (k : Known) (n : ℕ) (bytes v rest : List ℕ) → binary_at n bytes ≡ Ok (v, rest) → IsKnown k bytes → IsKnown k rest
+binary_behind k n bytes v rest e h =
+    let b = binary_takes n bytes v rest e in
+    known_behind k b.0 rest (subst (λ (bs : List ℕ). IsKnown k bs) b.1 h)

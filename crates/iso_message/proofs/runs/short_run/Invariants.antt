@@ -1,0 +1,13 @@
+use Rattle.std.proofs.Common.{◌≤◌, ◌-◌, length}
+use Rattle.iso_message.specs.Elements.{fits}
+use Rattle.iso_message.specs.Known.{PassBetween}
+use Rattle.iso_message.proofs.runs.short_run.Given as goal
+
+abbrev pub invariant-loop-done : goal.invariant-loop-done
+invariant-loop-done l = record {
+  bound : l.done ≤ length l.bytes;
+  class : PassBetween (fits l.class) l.bytes 0 l.done;
+}
+
+abbrev pub decreases-loop-done : goal.decreases-loop-done
+decreases-loop-done l = length l.bytes - l.done

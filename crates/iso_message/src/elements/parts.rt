@@ -1,0 +1,102 @@
+//! Elements as they are read.
+ghost use Rattle.std.specs.Prelude.{◌≡◌, [], ◌∷◌, ◌++◌, OnOk, IfOk};
+ghost use Rattle.iso_message.specs.Parts.{IsEnd, IsPart};
+
+use super::{Elements, Span, span_after};
+use std::alloc::AllocError;
+use std::marker::Model;
+
+/// Elements of a body: places in a copy of it, behind which the bytes of binary elements stand.
+#[derive(Debug, Drop)]
+pub(crate) struct Parts {
+    spans: Vec<Span>,
+    values: Vec<u8>,
+    size: usize,
+}
+
+impl Model for Parts {
+    ghost use Rattle.std.specs.Prelude.{◌≤◌, ◌<◌, ◌^◌, length, take};
+    ghost use Rattle.iso_message.specs.Spans.{seen, AreWithin};
+    ghost use Rattle.iso_message.specs.Parts.{Body};
+
+    ghost Value = { Body };
+
+    ghost view = { λ a. record { body = take a.size a.values.items; elements = seen a.values.items a.spans.items } };
+
+    ghost invariant = { λ a. (a.size ≤ length a.values.items) × (a.size < 2 ^ 32) × AreWithin a.values.items a.spans.items };
+}
+
+/// The bytes of the three binary elements.
+const BINARY_ROOM: usize = 3 * 8;
+
+impl Parts {
+    /// No elements yet of a body, in the memory of older elements.
+    pub(crate) fn of(old: Elements, count: usize, body: &[u8]) -> Result<Parts, AllocError>
+        ensures { IfOk result (λ p. p ≡ record { body = body.now; elements = [] }) }
+    {
+        let Elements {
+            mut spans,
+            mut values,
+        } = old;
+        spans.clear();
+        values.clear();
+        if body.len() > u32::MAX as usize {
+            return Err(AllocError);
+        }
+        spans.reserve(count)?;
+        values.reserve(body.len().saturating_add(BINARY_ROOM))?;
+        values.extend_from_slice(body)?;
+        let size = body.len();
+        Ok(Parts {
+            spans,
+            values,
+            size,
+        })
+    }
+
+    /// Adds the element whose content stands in the body behind its length and before the rest.
+    #[inline(always)]
+    pub(crate) fn add(
+        &mut self,
+        number: u8,
+        bytes: &[u8],
+        content: &[u8],
+        rest: &[u8],
+    ) -> Result<(), AllocError>
+        requires end { IsEnd bytes.now self.old.body }
+        requires part { IsPart number bytes.now content.now rest.now }
+        ensures { OnOk result (self.new ≡ record { body = self.old.body; elements = self.old.elements ++ (number, content.now) ∷ [] }) }
+    {
+        let text = self.size - bytes.len();
+        let end = self.size - rest.len();
+        let start = end - content.len();
+        self.spans.push(Span {
+            number,
+            text: text as u32,
+            start: start as u32,
+            end: end as u32,
+        })?;
+        Ok(())
+    }
+
+    /// Adds an element whose bytes don't stand in the body.
+    pub(crate) fn add_binary(&mut self, number: u8, value: &[u8]) -> Result<(), AllocError>
+        ensures { OnOk result (self.new ≡ record { body = self.old.body; elements = self.old.elements ++ (number, value.now) ∷ [] }) }
+    {
+        let span = span_after(number, self.values.len(), value.len())?;
+        self.values.extend_from_slice(value)?;
+        self.spans.push(span)?;
+        Ok(())
+    }
+
+    pub(crate) fn into_elements(self) -> Elements
+        ensures { result ≡ self.elements }
+    {
+        let Parts {
+            spans,
+            values,
+            size: _,
+        } = self;
+        Elements { spans, values }
+    }
+}

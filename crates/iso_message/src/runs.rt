@@ -1,0 +1,170 @@
+//! How far bytes are of a class, tested sixteen at a time and once for all elements that they make up.
+ghost use Rattle.std.specs.Prelude.{◌≡◌, ◌≤◌, ◌+◌, length, take};
+ghost use Rattle.std.specs.List.{list_all};
+ghost use Rattle.iso_message.specs.Elements.{fits};
+ghost use Rattle.iso_message.specs.Grammar.{AreOf};
+ghost use Rattle.iso_message.specs.declared.form.Class.TheVariants.{Digits, Text};
+ghost use Rattle.iso_message.specs.Known.{IsKnown, PassIn, lanes_before};
+
+use crate::form::Class;
+use std::simd::prelude::*;
+
+/// How many of the last bytes may be of another class: all bytes before them are digits, or text.
+#[derive(Clone, Copy, Debug)]
+pub(crate) struct Known {
+    digits: usize,
+    text: usize,
+}
+
+const LANES: usize = 16;
+
+pub(crate) fn are_of(class: Class, content: &[u8]) -> bool
+    ensures { result ≡ list_all (fits class) content.now }
+{
+    match class {
+        Class::Digits => content.iter().all(|b| b.is_ascii_digit()),
+        Class::Text => content.iter().all(|b| 0x20 <= *b && *b <= 0x7E),
+    }
+}
+
+/// How many lanes, at most sixteen, come before the first that stops.
+#[inline(always)]
+fn lanes_before(stops: u64) -> usize
+    ensures { result ≡ lanes_before stops }
+{
+    if stops == 0 {
+        LANES
+    } else {
+        stops.trailing_zeros() as usize
+    }
+}
+
+/// How many of sixteen bytes are digits before another comes.
+#[inline(always)]
+fn digits_in(bytes: &[u8], at: usize) -> usize
+    requires { at + LANES ≤ length bytes.now }
+    ensures { PassIn (fits Digits) bytes.now at LANES result }
+{
+    let from_zero = u8x16::from_slice(&bytes[at..]) - u8x16::splat(b'0');
+    lanes_before(from_zero.simd_ge(u8x16::splat(10)).to_bitmask())
+}
+
+/// How many of sixteen bytes are text before another comes.
+#[inline(always)]
+fn text_in(bytes: &[u8], at: usize) -> usize
+    requires { at + LANES ≤ length bytes.now }
+    ensures { PassIn (fits Text) bytes.now at LANES result }
+{
+    let from_space = u8x16::from_slice(&bytes[at..]) - u8x16::splat(0x20);
+    lanes_before(from_space.simd_ge(u8x16::splat(0x5F)).to_bitmask())
+}
+
+#[inline(always)]
+fn fits_class(class: Class, byte: u8) -> bool
+    ensures { result ≡ fits class byte }
+{
+    match class {
+        Class::Digits => byte.is_ascii_digit(),
+        Class::Text => 0x20 <= byte && byte <= 0x7E,
+    }
+}
+
+/// How many of sixteen bytes are of the class before another comes.
+#[inline(always)]
+fn run_in(class: Class, bytes: &[u8], at: usize) -> usize
+    requires { at + LANES ≤ length bytes.now }
+    ensures { PassIn (fits class) bytes.now at LANES result }
+{
+    match class {
+        Class::Digits => return digits_in(bytes, at),
+        Class::Text => return text_in(bytes, at),
+    }
+}
+
+/// A number of bytes from the first on that are of the class, one at a time.
+fn short_run(class: Class, bytes: &[u8]) -> usize
+    ensures bound { result ≤ length bytes.now }
+    ensures class { AreOf class (take result bytes.now) }
+{
+    let mut done = 0;
+    while done < bytes.len() {
+        if !fits_class(class, bytes[done]) {
+            return done;
+        }
+        done += 1;
+    }
+    done
+}
+
+/// A number of bytes from the first on that are of the class.
+#[inline(always)]
+fn run_of(class: Class, bytes: &[u8]) -> usize
+    ensures bound { result ≤ length bytes.now }
+    ensures class { AreOf class (take result bytes.now) }
+{
+    if bytes.len() < LANES {
+        return short_run(class, bytes);
+    }
+    // The last sixteen may overlap those before them.
+    let last = bytes.len() - LANES;
+    let mut done = 0;
+    while done < last {
+        let run = run_in(class, bytes, done);
+        if run < LANES {
+            return done + run;
+        }
+        done += LANES;
+    }
+    last + run_in(class, bytes, last)
+}
+
+impl Known {
+    ghost use Rattle.std.specs.Prelude.{◌≡◌, ◌≤◌, ◌-◌, length, take};
+    ghost use Rattle.std.specs.List.{list_all};
+    ghost use Rattle.iso_message.specs.Elements.{fits};
+    ghost use Rattle.iso_message.specs.Grammar.{AreOf};
+    ghost use Rattle.iso_message.specs.Known.{IsKnown};
+
+    /// What is known of the bytes before they are read: how far they are text.
+    pub(crate) fn of(bytes: &[u8]) -> Known
+        ensures { IsKnown result bytes.now }
+    {
+        Known {
+            digits: bytes.len(),
+            text: bytes.len() - run_of(Class::Text, bytes),
+        }
+    }
+
+    /// How many of the last bytes may be of another class. Digits are looked for where they are not known so far.
+    #[inline(always)]
+    fn left(&mut self, class: Class, after: usize, bytes: &[u8]) -> usize
+        requires { IsKnown self.old bytes.now }
+        ensures value { AreOf class (take (length bytes.now - result) bytes.now) }
+        ensures known { IsKnown self.new bytes.now }
+    {
+        match class {
+            Class::Text => return self.text,
+            Class::Digits => {
+                if self.digits <= after {
+                    return self.digits;
+                }
+                let run = run_of(Class::Digits, bytes);
+                self.digits = bytes.len() - run;
+                return self.digits;
+            }
+        }
+    }
+
+    /// Whether so many bytes from the first on are of the class.
+    #[inline(always)]
+    pub(crate) fn is_front(&mut self, class: Class, size: usize, bytes: &[u8]) -> bool
+        requires size { size ≤ length bytes.now }
+        requires known { IsKnown self.old bytes.now }
+        ensures value { result ≡ list_all (fits class) (take size bytes.now) }
+        ensures known { IsKnown self.new bytes.now }
+    {
+        let after = bytes.len() - size;
+        let left = self.left(class, after, bytes);
+        left <= after || are_of(class, &bytes[..size])
+    }
+}
