@@ -1,14 +1,9 @@
--- The row of the longest front that a map finds is the longest row.
-use Rattle.std.proofs.Common.{◌≡◌, ℕ, ◌+◌, ◌-◌, zero, suc, ◌<◌, ◌≤◌, Bool, true, false, cond, ◌==◌, ◌&&◌, ◌⊎◌, List, [], ◌∷◌, length, get_or, take, drop, drop-cons, length-take, add-one, min, Bor, Option, Some, None, IfSome, MatchOption, refl, sym, ap, ◌∙◌, inl, inr, arith}
+-- The row of the longest front that is found is the longest row.
+use Rattle.std.proofs.Common.{◌≡◌, ℕ, ◌+◌, ◌-◌, zero, suc, ◌<◌, ◌≤◌, Bool, true, false, ◌==◌, ◌⊎◌, List, [], ◌∷◌, length, get_or, take, length-take, Bor, Option, Some, None, IfSome, MatchOption, refl, sym, ap, ◌∙◌, inl, inr, arith}
 use Rattle.std.specs.Prelude.{slice_get}
 use Rattle.std.specs.List.{filter, find, position_from, AllByRecursion}
-use Rattle.std.specs.Option.{option_eq, option_cmp, option_copied}
-use Rattle.std.specs.declared.cmp.Ordering.{Ordering}
-use Rattle.std.specs.declared.cmp.Ordering.TheVariants.{Less, Equal, Greater}
-use Rattle.std.specs.Ordering.{nat_cmp, ordering_then, is_eq}
-use Rattle.std.specs.Cmp.{unsigned_ties}
-use Rattle.std.specs.Cmp.Lexicographic.{slice_cmp, pointwise, texts_ties}
-use Rattle.std.specs.BTreeMap.{BTreeMap, get, Updates}
+use Rattle.std.specs.Option.{option_eq, option_copied}
+use Rattle.std.specs.Cmp.Lexicographic.{pointwise}
 use Rattle.std.proofs.lemmas.Bool.{cases_Bool, and_parts, false≢true, cases_lt, lt-ltb, le-ltb, eqb-true, eq-eqb}
 use Rattle.std.proofs.lemmas.Option.{same_Some, slice_get_past}
 use Rattle.card_digits.specs.Digits.{AreDigitsWithin}
@@ -16,25 +11,10 @@ use Rattle.card_digits.specs.Longest.{begins, better, longest}
 use Rattle.card_digits.proofs.Fronts.{begins-starts_with}
 use Rattle.card_digits.proofs.Classes.{NoneLonger, longest_at_class}
 use Rattle.net_rows.specs.declared.prefixed.RowKey.{RowKey}
-use Rattle.net_rows.specs.Index.{key_cmp, is_of, IsIndexedFrom}
-
-is_eq-then : (a b : Ordering) → is_eq (ordering_then a b) ≡ (is_eq a && is_eq b)
-is_eq-then Less b = refl
-is_eq-then Equal b = refl
-is_eq-then Greater b = refl
-
-options_tie : (a b : Option ℕ) → is_eq (option_cmp nat_cmp a b) ≡ option_eq ◌==◌ a b
-options_tie None None = refl
-options_tie None (Some y) = refl
-options_tie (Some x) None = refl
-options_tie (Some x) (Some y) = sym (unsigned_ties x y)
+use Rattle.net_rows.specs.Index.{is_of}
 
 abbrev pub key : Option ℕ → List ℕ → RowKey
 key n p = record { node = n; prefix = p }
-
--- the map compares keys as the rows do
-is_eq-key : (n : Option ℕ) (p : List ℕ) (q : RowKey) → is_eq (key_cmp (key n p) q) ≡ (option_eq ◌==◌ n q.node && pointwise ◌==◌ p q.prefix)
-is_eq-key n p q = is_eq-then (option_cmp nat_cmp n q.node) (slice_cmp nat_cmp p q.prefix) ∙ rw (options_tie n q.node, texts_ties p q.prefix) refl
 
 same_text : (xs ys : List ℕ) → pointwise ◌==◌ xs ys ≡ true → xs ≡ ys
 same_text [] [] h = refl
@@ -83,7 +63,7 @@ found_nowhere t i (r ∷ rows) h = elim (cases_Bool (t r)) [
   | inr no' ↦ rw no' (found_nowhere t (i + 1) rows (rw no' at h))
 ]
 
-at_place : {R : Type 0} (xs : List R) (i : ℕ) (x : R) → i < length xs → x ≡ get_or xs i x → Some x ≡ slice_get xs i
+pub at_place : {R : Type 0} (xs : List R) (i : ℕ) (x : R) → i < length xs → x ≡ get_or xs i x → Some x ≡ slice_get xs i
 at_place [] i x lt at = absurd (omega arith)
 at_place (y ∷ xs) zero x lt at = ap Some at
 at_place (y ∷ xs) (suc i) x lt at = at_place xs i x (omega arith) at
@@ -98,21 +78,6 @@ all_kept [] = refl
 all_kept (r ∷ rows) = ap (λ rs. r ∷ rs) (all_kept rows)
 
 module _ {R : Type 0} (g : R → Option ℕ) (f : R → List ℕ) where
-  -- a row more in front
-  pub indexed_more : (i : ℕ) (r : R) (rows : List R) (old new : BTreeMap RowKey ℕ) → IsIndexedFrom g f (i + 1) rows old → AreDigitsWithin 1 12 (f r)
-      → Updates key_cmp old new (key (g r) (f r)) (Some i) → IsIndexedFrom g f i (r ∷ rows) new
-  indexed_more i r rows old new h form u = record {
-    first = λ q. u.0 q ∙ rw (is_eq-key (g r) (f r) q, h.first q) refl;
-    prefixes = (form, h.prefixes);
-  }
-
-  pub indexed_back : (i j : ℕ) (r : R) (rows : List R) (old new : BTreeMap RowKey ℕ) → i ≡ j + 1 → i ≤ length rows → r ≡ get_or rows j r → IsIndexedFrom g f i (drop i rows) old
-      → AreDigitsWithin 1 12 (f r) → Updates key_cmp old new (key (g r) (f r)) (Some j) → IsIndexedFrom g f j (drop j rows) new
-  indexed_back i j r rows old new e within is h form u =
-      let lt : j < length rows = omega arith in
-      let front : drop j rows ≡ r ∷ drop (j + 1) rows = rw (add-one, drop-cons rows j r, ← is) refl in
-      rw front (indexed_more j r (drop (j + 1) rows) old new (rw e at h) form u)
-
   module _ (n : Option ℕ) (c : List ℕ) where
     abbrev pub of : R → Bool
     of r = option_eq ◌==◌ (g r) n

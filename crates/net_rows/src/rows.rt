@@ -1,21 +1,23 @@
 //! Rows, found by their longest prefix.
-ghost use Rattle.std.specs.Prelude.{◌≡◌, ◌==◌, ◌&&◌, ◌≤◌, length, IfOk, take};
-ghost use Rattle.std.specs.List.{filter, find};
+ghost use Rattle.std.specs.Prelude.{◌≡◌, ◌==◌, ◌≤◌, ◌<◌, ◌+◌, length, ℕ, Option, IfOk, OnOk, option_and_then, slice_get};
+ghost use Rattle.std.specs.List.{filter};
 ghost use Rattle.std.specs.Option.{option_copied, option_eq};
 ghost use Rattle.card_digits.specs.Longest.{longest};
-ghost use Rattle.net_rows.specs.Index.{is_of, IsIndexed};
+ghost use Rattle.net_rows.specs.Index.{IsIndexed, slot, places_at};
+ghost use Rattle.net_rows.specs.Adding.{IsAdded};
+ghost use Rattle.prefix_trie.specs.Pairs.{prefix_of};
 
 use crate::prefixed::{Prefixed, RowKey};
 use card_digits::{Card, NodeNo, Prefix};
+use prefix_trie::{Fault, Trie};
 use std::alloc::{AllocError, Global};
-use std::collections::BTreeMap;
 use std::marker::Model;
 
-/// Rows in the order of the text, with the place of the first row of each key.
+/// Rows in the order of the text, with tries of the places of the first rows of each key.
 #[derive(Debug, Drop)]
 pub(crate) struct Rows<R: Prefixed> {
     rows: Vec<R>,
-    places: BTreeMap<RowKey, usize>,
+    tries: Vec<Trie<usize>>,
 }
 
 impl<R: Prefixed> Model for Rows<R> {
@@ -26,15 +28,15 @@ impl<R: Prefixed> Model for Rows<R> {
 
     ghost view = { λ a. a.rows.items };
 
-    ghost invariant = { λ a. IsIndexed R.node_of R.prefix_of a.rows.items a.places };
+    ghost invariant = { λ a. IsIndexed R.node_of R.prefix_of a.rows.items a.tries.items };
 }
 
 impl<R: Prefixed + Drop> Rows<R> {
     pub fn new(alloc: Global, rows: Vec<R>) -> Result<Rows<R>, AllocError>
         ensures { IfOk result (λ r. r ≡ rows.items) }
     {
-        let places = places_of(alloc, &rows)?;
-        Ok(Rows { rows, places })
+        let tries = tries_of(alloc, &rows)?;
+        Ok(Rows { rows, tries })
     }
 
     pub fn as_slice(&self) -> &[R]
@@ -43,25 +45,12 @@ impl<R: Prefixed + Drop> Rows<R> {
         &self.rows
     }
 
-    /// The first row of a key.
-    fn at(&self, key: RowKey) -> Option<&R>
-        ensures { option_copied result ≡ find (is_of R.node_of R.prefix_of key) self.now }
-    {
-        let place = *self.places.get(&key)?;
-        self.rows.get(place)
-    }
-
-    /// The first of the node's rows with the most digits whose prefix begins the class: at most twelve looks into the map.
+    /// The first of the node's rows with the most digits whose prefix begins the class: one walk in the node's trie.
     pub fn for_class(&self, class: RowKey) -> Option<&R>
         ensures { option_copied result ≡ longest R.prefix_of (filter (λ r. option_eq ◌==◌ (R.node_of r) class.node) self.now) class.prefix }
     {
-        let _ = &self.rows;
-        for shorter in (0..class.prefix.digits().len()).rev() {
-            if let Some(row) = self.at(class.front(shorter + 1)) {
-                return Some(row);
-            }
-        }
-        None
+        let trie = self.tries.get(slot(class.node))?;
+        row_in(&self.rows, trie, &class.prefix)
     }
 
     /// The same for a card.
@@ -76,13 +65,65 @@ impl<R: Prefixed + Drop> Rows<R> {
     }
 }
 
-/// The place of the first row of each key.
-fn places_of<R: Prefixed>(alloc: Global, rows: &[R]) -> Result<BTreeMap<RowKey, usize>, AllocError>
-    ensures { IfOk result (IsIndexed R.node_of R.prefix_of rows.now) }
+/// The row whose place the trie has at the longest prefix of the class.
+fn row_in<'r, R>(rows: &'r [R], places: &Trie<usize>, class: &Prefix) -> Option<&'r R>
+    ensures { option_copied result ≡ option_and_then (λ p. slice_get rows.now p.1) (longest prefix_of places.now class.now) }
 {
-    let mut places = BTreeMap::new(alloc);
-    for i in (0..rows.len()).rev() {
-        places.insert(RowKey::of(&rows[i]), i)?;
+    match places.longest_at(class) {
+        Some((_, place)) => rows.get(*place),
+        None => None,
     }
-    Ok(places)
+}
+
+/// The place of a node's trie.
+fn slot(node: Option<NodeNo>) -> usize
+    ensures { result ≡ slot node }
+{
+    match node {
+        None => 0,
+        Some(node) => node.place() + 1,
+    }
+}
+
+/// As many tries as that.
+fn grow(alloc: Global, tries: &mut Vec<Trie<usize>>, count: usize) -> Result<(), AllocError>
+    ensures same { (node : Option ℕ) → places_at tries.new.items node ≡ places_at tries.old.items node }
+    ensures many { OnOk result (count ≤ length tries.new.items) }
+{
+    let more = count.saturating_sub(tries.len());
+    for _ in 0..more {
+        tries.push(Trie::new(alloc))?;
+    }
+    Ok(())
+}
+
+/// Puts the place of a row at its key, where no row came before.
+fn add(
+    alloc: Global,
+    tries: &mut Vec<Trie<usize>>,
+    key: RowKey,
+    place: usize,
+) -> Result<(), AllocError>
+    ensures { OnOk result (IsAdded key place tries.old.items tries.new.items) }
+{
+    let slot = slot(key.node);
+    grow(alloc, tries, slot + 1)?;
+    match tries[slot].insert(key.prefix, place) {
+        Ok(()) => Ok(()),
+        Err(refused) => match refused.fault {
+            Fault::Present => Ok(()),
+            Fault::Memory => Err(AllocError),
+        },
+    }
+}
+
+/// The place of the first row of each key.
+fn tries_of<R: Prefixed>(alloc: Global, rows: &[R]) -> Result<Vec<Trie<usize>>, AllocError>
+    ensures { IfOk result (λ t. IsIndexed R.node_of R.prefix_of rows.now t.items) }
+{
+    let mut tries = Vec::new(alloc);
+    for i in 0..rows.len() {
+        add(alloc, &mut tries, RowKey::of(&rows[i]), i)?;
+    }
+    Ok(tries)
 }

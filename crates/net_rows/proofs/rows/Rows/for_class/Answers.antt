@@ -1,23 +1,21 @@
-use Rattle.std.proofs.Common.{◌≡◌, ◌≤◌, ◌-◌, ◌+◌, length, Some, None, sym, ◌∙◌, arith}
-use Rattle.std.specs.List.{find}
-use Rattle.net_rows.specs.Index.{is_of}
-use Rattle.net_rows.proofs.Fronts.{key, NoneBeyond, beyond_all, beyond_less, found_is_longest, none_is_longest}
+use Rattle.std.proofs.Common.{◌≡◌, Some, None, sym, ap, ◌∙◌}
+use Rattle.std.specs.Prelude.{slice_get}
+use Rattle.std.specs.Option.{option_copied}
+use Rattle.net_rows.specs.Index.{slot}
+use Rattle.net_rows.proofs.Fronts.{got}
+use Rattle.net_rows.proofs.Tries.{no_trie, in_trie}
 use Rattle.net_rows.proofs.rows.Rows.for_class.Goals as goal
 
-pub loop-shorter-init : goal.loop-shorter-init
-loop-shorter-init g c = rw c.digits-shorter.ensures.digits (beyond_all g.R.Prefixed.node_of g.R.Prefixed.prefix_of c.args.class.node c.args.class.prefix c.args.self.now)
-
-pub returns-in-Some : goal.returns-in-Some
-returns-in-Some g c =
-    let back : c.loop-shorter.shorter - 1 + 1 ≡ c.loop-shorter.shorter = omega arith in
-    let few : c.loop-shorter.shorter ≤ length c.args.class.prefix = rw (← c.digits-shorter.ensures.digits) c.loop-shorter.auto.shorter in
-    sym (found_is_longest g.R.Prefixed.node_of g.R.Prefixed.prefix_of c.args.class.node c.args.class.prefix c.loop-shorter.shorter c.args.self.now c.in-Some.row.now few (rw (c.front.ensures, back) at (sym c.in-Some.ensures)) c.loop-shorter.invariant)
-
-pub loop-shorter-preserved : goal.loop-shorter-preserved
-loop-shorter-preserved g c =
-    let back : c.loop-shorter.shorter - 1 + 1 ≡ c.loop-shorter.shorter = omega arith in
-    beyond_less g.R.Prefixed.node_of g.R.Prefixed.prefix_of c.args.class.node c.args.class.prefix (c.loop-shorter.shorter - 1) c.args.self.now (sym (rw c.front.ensures at c.in_default.ensures)) (rw back c.loop-shorter.invariant)
+pub returns-in_err-trie : goal.returns-in_err-trie
+returns-in_err-trie g c =
+    let tries = c.self.inside.tries.items in
+    let is : option_copied c.get.result ≡ slice_get c.deref.result.now c.slot.result = got c.deref.result.now c.slot.result c.get.result _ c.get.ensures.lookup.3 c.get.ensures.lookup.1 in
+    let none : slice_get tries (slot c.args.class.node) ≡ None = sym (rw (c.in_err-trie.was, c.deref.ensures.value, c.slot.ensures) at is) in
+    rw (← c.self.view_is) (ap option_copied c.from_residual.ensures ∙ no_trie g.R.Prefixed.node_of g.R.Prefixed.prefix_of c.self.inside.rows.items tries c.args.class.node c.args.class.prefix c.self.invariant none)
 
 pub returns : goal.returns
 returns g c =
-    sym (none_is_longest g.R.Prefixed.node_of g.R.Prefixed.prefix_of c.args.class.node c.args.class.prefix c.args.self.now (rw (← c.self.view_is) c.self.invariant.prefixes) (let h = c.loop-shorter-test in let z : c.loop-shorter.shorter ≡ 0 = omega arith in rw z at c.loop-shorter.invariant))
+    let tries = c.self.inside.tries.items in
+    let is : option_copied c.get.result ≡ slice_get c.deref.result.now c.slot.result = got c.deref.result.now c.slot.result c.get.result _ c.get.ensures.lookup.3 c.get.ensures.lookup.1 in
+    let there : slice_get tries (slot c.args.class.node) ≡ Some c.in_ok-trie.trie.now = sym (rw (c.in_ok-trie.was, c.deref.ensures.value, c.slot.ensures) at is) in
+    rw (← c.self.view_is) (c.row_in.ensures ∙ rw c.deref-2.ensures.value (in_trie g.R.Prefixed.node_of g.R.Prefixed.prefix_of c.self.inside.rows.items tries c.args.class.node c.args.class.prefix c.self.invariant c.in_ok-trie.trie.now there))

@@ -1,0 +1,4 @@
+pub mod Walk
+pub mod Growth
+pub mod Pairs
+pub mod Index
