@@ -1,5 +1,7 @@
 //! The table `[[route]]`.
-ghost use Rattle.std.specs.Prelude.{◌≡◌, ◌<◌, ◌≤◌, ◌+◌, [], false, length, IfOk};
+ghost use Rattle.std.specs.Prelude.{◌≡◌, ◌<◌, ◌≤◌, ◌+◌, [], true, false, length, IfOk};
+ghost use Rattle.std.specs.List.{list_all};
+ghost use Rattle.net_rows.specs.Sound.{is_end, AreOwnLinks};
 ghost use Rattle.toml.specs.View.{table_view};
 ghost use Rattle.net_tables.specs.declared.place.Table.TheVariants as table;
 ghost use Rattle.net_tables.specs.Fields.{Gives, row_view};
@@ -33,6 +35,7 @@ fn route_at_node(
 ) -> Result<Route, TableFault>
     ensures value { Gives (λ r. r) result (route_at_node links.now node prefixes.now (row_view row.now)) }
     ensures node { IfOk result (λ r. r.node ≡ node) }
+    ensures own { IfOk result (λ r. list_all (is_end links.now r.node) r.links ≡ true) }
     ensures new { IfOk result (λ r. is_among prefixes.now r.prefix ≡ false) }
 {
     if prefixes.len() >= MOST_ROWS {
@@ -62,6 +65,7 @@ fn route(
     requires lists { length prefixes.now ≡ length nodes.now }
     ensures value { Gives (λ r. r) result (route_of (node_names nodes.now) links.now (prefixes_at prefixes.now) (row_view row.now)) }
     ensures within { IfOk result (λ r. r.node < length prefixes.now) }
+    ensures own { IfOk result (λ r. list_all (is_end links.now r.node) r.links ≡ true) }
     ensures new { IfOk result (λ r. is_among (prefixes_at prefixes.now r.node) r.prefix ≡ false) }
 {
     let node = node_at(row, Key::Node, nodes)?;
@@ -79,6 +83,7 @@ fn next_route(
     requires lists { length prefixes.now ≡ length nodes.now }
     ensures value { Gives (λ r. r) result (route_of (node_names nodes.now) links.now (prefixes_at prefixes.now) (row_at table.Route (length done.now + 1) (table_view members.now))) }
     ensures within { IfOk result (λ r. r.node < length prefixes.now) }
+    ensures own { IfOk result (λ r. list_all (is_end links.now r.node) r.links ≡ true) }
     ensures new { IfOk result (λ r. is_among (prefixes_at prefixes.now r.node) r.prefix ≡ false) }
 {
     let row = Row {
@@ -95,7 +100,8 @@ fn each_route(
     nodes: &NodeRows,
     links: &LinkRows,
 ) -> Result<Vec<Route>, TableFault>
-    ensures { Gives (λ v. v.items) result (each (route_row (node_names nodes.now) links.now) [] (tables_view rows.now)) }
+    ensures value { Gives (λ v. v.items) result (each (route_row (node_names nodes.now) links.now) [] (tables_view rows.now)) }
+    ensures own { IfOk result (λ v. AreOwnLinks links.now v.items) }
 {
     let mut prefixes = NodePrefixes::new(alloc, nodes.len())?;
     let mut done = Vec::new(alloc);
@@ -115,7 +121,8 @@ pub(crate) fn routes(
     nodes: &NodeRows,
     links: &LinkRows,
 ) -> Result<Vec<Route>, TableFault>
-    ensures { Gives (λ v. v.items) result (all_rows (table_view root.now) table.Route (route_row (node_names nodes.now) links.now)) }
+    ensures value { Gives (λ v. v.items) result (all_rows (table_view root.now) table.Route (route_row (node_names nodes.now) links.now)) }
+    ensures own { IfOk result (λ v. AreOwnLinks links.now v.items) }
 {
     let rows = rows(alloc, root, Table::Route)?;
     each_route(alloc, &rows, nodes, links)

@@ -1,11 +1,12 @@
 //! Fields that name several rows.
-ghost use Rattle.std.specs.Prelude.{◌≡◌, ◌≤◌, [], length, option_map, IfOk};
+ghost use Rattle.std.specs.Prelude.{◌≡◌, ◌≤◌, [], length, option_map, IfOk, true};
 ghost use Rattle.std.specs.List.{list_all};
 ghost use Rattle.toml.specs.View.{items_view};
 ghost use Rattle.net_tables.specs.Values.{all_names};
 ghost use Rattle.net_tables.specs.Fields.{Gives, row_view, names_at};
 ghost use Rattle.net_tables.specs.Rows.{node_names, link_names};
-ghost use Rattle.net_tables.specs.Reading.{all_named, nodes_at, links_at, is_twice, is_end};
+ghost use Rattle.net_tables.specs.Reading.{all_named, nodes_at, links_at, is_twice};
+ghost use Rattle.net_rows.specs.Sound.{is_end};
 
 use crate::fault::TableFault;
 use crate::field::Row;
@@ -137,7 +138,8 @@ pub(crate) fn links_at(
     node: NodeNo,
     links: &LinkRows,
 ) -> Result<Links, TableFault>
-    ensures { Gives (λ v. v) result (links_at links.now node (row_view row.now) key) }
+    ensures value { Gives (λ v. v) result (links_at links.now node (row_view row.now) key) }
+    ensures own { IfOk result (λ v. list_all (is_end links.now node) v ≡ true) }
 {
     let names = names_at(alloc, row, key)?;
     let count = names.as_slice().len();
