@@ -7,6 +7,3 @@ mod walk;
 
 pub use circle::is_circle;
 pub use maker::{Made, make};
-
-#[cfg(test)]
-mod tests;

@@ -1,9 +1,13 @@
-//! Tests of digits, rows and certificates by the calls that a program makes.
+//! Tests of digits, rows, tries, certificates and the making of ranks, by the calls that a program makes.
 #![tactic(auto)]
 
 #[cfg(test)]
 mod digits;
 #[cfg(test)]
+mod maker;
+#[cfg(test)]
 mod rows;
+#[cfg(test)]
+mod tries;
 #[cfg(test)]
 mod words;

@@ -1,5 +1,5 @@
 //! Nodes and links of tables that were read.
-use card_digits::{LinkNo, NodeNo};
+use card_digits::{Card, LinkNo, NodeNo, Prefix};
 use net_tables::{Tables, read_tables};
 use std::alloc::Global;
 use std::test::Fail;
@@ -30,5 +30,62 @@ fn nodes_and_links(rt: HostRuntime) -> Result<(), Fail> {
     assert_eq!(rt; tables.other_end(a, LinkNo::new(0)), b);
     assert_eq!(rt; tables.other_end(b, LinkNo::new(0)), a);
     assert_eq!(rt; tables.other_end(a, LinkNo::new(9)), a);
+    Ok(())
+}
+
+fn card(text: &[u8]) -> Result<Card, Fail> {
+    Ok(Card::read(text).ok().ok_or("card")?)
+}
+
+fn class(text: &[u8]) -> Result<Prefix, Fail> {
+    Ok(Prefix::read(text).ok().ok_or("prefix")?)
+}
+
+/// The number of digits of the prefix of a card's issuer row, 0 where there is none.
+fn issuer_digits(tables: &Tables, text: &[u8]) -> Result<usize, Fail> {
+    match tables.issuer(&card(text)?) {
+        Some(row) => Ok(row.prefix.digits().len()),
+        None => Ok(0),
+    }
+}
+
+/// The number of links of a card's route row at a node, 0 where there is none.
+fn route_links(tables: &Tables, name: &[u8], text: &[u8]) -> Result<usize, Fail> {
+    match tables.route(node(tables, name)?, &card(text)?) {
+        Some(row) => Ok(row.links.as_slice().len()),
+        None => Ok(0),
+    }
+}
+
+fn day(tables: &Tables, name: &[u8], text: &[u8]) -> Result<u64, Fail> {
+    Ok(tables.day_at(node(tables, name)?, &class(text)?).value())
+}
+
+#[test]
+fn issuers_of_cards(rt: HostRuntime) -> Result<(), Fail> {
+    let tables = tables(rt.alloc())?;
+    assert_eq!(rt; issuer_digits(&tables, b"4512345678901")?, 1);
+    assert_eq!(rt; issuer_digits(&tables, b"4111111111111111")?, 6);
+    assert_eq!(rt; issuer_digits(&tables, b"5555555555554444")?, 0);
+    Ok(())
+}
+
+#[test]
+fn routes_of_nodes(rt: HostRuntime) -> Result<(), Fail> {
+    let tables = tables(rt.alloc())?;
+    assert_eq!(rt; route_links(&tables, b"A", b"4512345678901")?, 2);
+    assert_eq!(rt; route_links(&tables, b"A", b"4111111111111111")?, 1);
+    assert_eq!(rt; route_links(&tables, b"B", b"4111111111111111")?, 1);
+    assert_eq!(rt; route_links(&tables, b"H", b"4111111111111111")?, 0);
+    Ok(())
+}
+
+#[test]
+fn limits_of_nodes(rt: HostRuntime) -> Result<(), Fail> {
+    let tables = tables(rt.alloc())?;
+    assert_eq!(rt; day(&tables, b"A", b"45")?, 300);
+    assert_eq!(rt; day(&tables, b"B", b"45")?, 200);
+    assert_eq!(rt; day(&tables, b"A", b"411111")?, 0);
+    assert_eq!(rt; day(&tables, b"H", b"45")?, 0);
     Ok(())
 }

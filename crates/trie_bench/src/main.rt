@@ -68,7 +68,11 @@ fn main(rt: HostRuntime) -> io::Result<()> {
     let tried = Instant::now(&rt)?;
     let second = by_maps(&tables, &classes);
     let mapped = Instant::now(&rt)?;
-    println!(rt; "{} routes, {} classes: {first} {second}", tables.routes().len(), classes.len())?;
+    println!(rt;
+        "{} routes, {} classes: {first} {second}",
+        tables.routes().len(),
+        classes.len()
+    )?;
     let (made, by_tries, by_maps) = (
         built.duration_since(start).as_micros(),
         tried.duration_since(built).as_micros(),
