@@ -1,5 +1,5 @@
 -- One part, two parts, and any other number of them.
-use Rattle.std.proofs.Common.{◌≡◌, ◌≢◌, ℕ, List, [], ◌∷◌, map, length, get_or, Vec, Global, refl, ap, arith}
+use Rattle.std.proofs.Common.{◌≡◌, ◌≢◌, ℕ, List, [], ◌∷◌, map, length, get_or, Vec, Global, Result, Err, refl, ap, arith}
 use Rattle.bundle_text.specs.Answers.{Said, check_parts, parts_fault, IsMadeOfParts, IsDecodedParts}
 
 pub not_two : (parts : List (Vec ℕ Global)) → length parts ≢ 2 → check_parts (map (λ p. p.items) parts) ≡ parts_fault
@@ -28,3 +28,7 @@ pub decoded_of_others : (parts : List (Vec ℕ Global)) (said : Said) → length
 decoded_of_others [] said h e = e
 decoded_of_others (u ∷ []) said h e = absurd (h (omega arith))
 decoded_of_others (u ∷ v ∷ parts) said h e = e
+
+-- a fault is the same whatever would have been answered
+pub same_fault : {A B E : Type 0} {x y : E} → ◌≡◌ {A = Result A E} (Err x) (Err y) → ◌≡◌ {A = Result B E} (Err x) (Err y)
+same_fault {x = x} {y = y} e = let is : x ≡ y = cc in ap (λ z. Err z) is

@@ -13,6 +13,8 @@ use Rattle.bundle_text.specs.declared.answer.Status.TheVariants.{Done, Refused, 
 use Rattle.bundle_text.specs.Lines.{Text, table_fault_line, cert_fault_line, refusal_line, circle_line}
 use Rattle.rank_cert.specs.Writing.{text_of}
 use Rattle.rank_maker.specs.Circle.{IsCircle}
+use Rattle.std.specs.Io.KnownBytes.{Appends}
+use Rattle.card_digits.specs.Stream.{AppendsFront}
 use Rattle.message_text.specs.Parts.{lines_of, AreFrames}
 use Rattle.message_text.specs.Printed.{Printed}
 use Rattle.bundle_text.specs.Parts.{parts_of}
@@ -93,3 +95,11 @@ IsDecodedParts _ said = said ≡ parts_fault
 abbrev pub DecodeAnswers : Bool → List ℕ → Said → Type 0
 DecodeAnswers false input said = IsDecodedParts (parts_of input) said
 DecodeAnswers true input said = (items : List (Option (List ℕ))) × AreFrames input items × IsDecoded items said
+
+-- one answer was written, of this status
+abbrev pub Wrote : (Said → Type 0) → Option (List ℕ) → Option (List ℕ) → Status → Type 0
+Wrote IsOne old new status = (said : Said) × IsOne said × Appends old new said.text × (status ≡ said.status)
+
+-- a front of one answer was written
+abbrev pub WroteFront : (Said → Type 0) → Option (List ℕ) → Option (List ℕ) → Type 0
+WroteFront IsOne old new = (said : Said) × IsOne said × AppendsFront old new said.text

@@ -1,13 +1,13 @@
 //! The answer of `decode`.
-ghost use Rattle.std.specs.Prelude.{◌≡◌, ℕ, List, Some, IfOk, map};
+ghost use Rattle.std.specs.Prelude.{◌≡◌, ◌<◌, ℕ, List, Some, Err, true, false, IfOk, map};
 ghost use Rattle.message_text.specs.Parts.{lines_of};
-ghost use Rattle.bundle_text.specs.Answers.{DecodeAnswers, IsDecoded, IsDecodedParts, decode_status};
+ghost use Rattle.bundle_text.specs.Answers.{DecodeAnswers, IsDecoded, IsDecodedParts, Wrote, WroteFront, decode_status, parts_fault};
 
-use crate::answer::{Answer, Status};
-use crate::check_text::parts_fault;
+use crate::answer::Status;
 use crate::input_parts::parts;
-use message_text::{decode_frames, decode_lines};
-use std::alloc::{AllocError, Global};
+use card_digits::{Sink, write_all};
+use message_text::{PrintFault, decode_frames, decode_lines};
+use std::alloc::Global;
 
 fn status(good: bool) -> Status
     ensures { result ≡ decode_status good }
@@ -15,39 +15,92 @@ fn status(good: bool) -> Status
     if good { Status::Done } else { Status::Fault }
 }
 
-fn decode_one(alloc: Global, text: &[u8]) -> Result<Answer, AllocError>
-    ensures { IfOk result (IsDecoded (map (λ line. Some line) (lines_of text.now))) }
+/// Writes the blocks of a text of one message a line.
+fn write_lines<W: Sink>(alloc: Global, text: &[u8], writer: &mut W) -> Result<Status, PrintFault>
+    ensures ok { IfOk result (Wrote (IsDecoded (map (λ line. Some line) (lines_of text.now))) (W.written writer.old) (W.written writer.new)) }
+    ensures write { result ≡ Err PrintFault.Write → WroteFront (IsDecoded (map (λ line. Some line) (lines_of text.now))) (W.written writer.old) (W.written writer.new) }
+    ensures failed { result ≡ Err PrintFault.Write → 0 < W.failures writer.new }
+    ensures memory { result ≡ Err PrintFault.Memory → W.written writer.new ≡ W.written writer.old }
 {
-    let decoded = decode_lines(alloc, text)?;
-    Ok(Answer::new(decoded.text, status(decoded.good)))
+    match decode_lines(alloc, text, writer) {
+        Ok(good) => Ok(status(good)),
+        Err(fault) => Err(fault),
+    }
 }
 
+/// Writes the blocks of frames.
+fn write_frames<W: Sink>(alloc: Global, input: &[u8], writer: &mut W) -> Result<Status, PrintFault>
+    ensures ok { IfOk result (Wrote (DecodeAnswers true input.now) (W.written writer.old) (W.written writer.new)) }
+    ensures write { result ≡ Err PrintFault.Write → WroteFront (DecodeAnswers true input.now) (W.written writer.old) (W.written writer.new) }
+    ensures failed { result ≡ Err PrintFault.Write → 0 < W.failures writer.new }
+    ensures memory { result ≡ Err PrintFault.Memory → W.written writer.new ≡ W.written writer.old }
+{
+    match decode_frames(alloc, input, writer) {
+        Ok(good) => Ok(status(good)),
+        Err(fault) => Err(fault),
+    }
+}
+
+/// Writes the line that there are too many parts.
+fn write_parts_fault<W: Sink>(writer: &mut W) -> Result<Status, PrintFault>
+    ensures ok { IfOk result (Wrote (λ said. said ≡ parts_fault) (W.written writer.old) (W.written writer.new)) }
+    ensures write { result ≡ Err PrintFault.Write → WroteFront (λ said. said ≡ parts_fault) (W.written writer.old) (W.written writer.new) }
+    ensures failed { result ≡ Err PrintFault.Write → 0 < W.failures writer.new }
+    ensures memory { result ≡ Err PrintFault.Memory → W.written writer.new ≡ W.written writer.old }
+{
+    match write_all(writer, b"fault bundle 1 parts\n") {
+        Ok(()) => Ok(Status::Fault),
+        Err(_) => Err(PrintFault::Write),
+    }
+}
+
+/// Writes the blocks of the one part.
 #[tactic(auto, using(crate::proofs::Pairs::decoded_of_others, crate::proofs::Pairs::one))]
-fn decode_of(alloc: Global, parts: &[Vec<u8>]) -> Result<Answer, AllocError>
-    ensures { IfOk result (IsDecodedParts (map (λ p. p.items) parts.now)) }
+fn write_parts<W: Sink>(
+    alloc: Global,
+    parts: &[Vec<u8>],
+    writer: &mut W,
+) -> Result<Status, PrintFault>
+    ensures ok { IfOk result (Wrote (IsDecodedParts (map (λ p. p.items) parts.now)) (W.written writer.old) (W.written writer.new)) }
+    ensures write { result ≡ Err PrintFault.Write → WroteFront (IsDecodedParts (map (λ p. p.items) parts.now)) (W.written writer.old) (W.written writer.new) }
+    ensures failed { result ≡ Err PrintFault.Write → 0 < W.failures writer.new }
+    ensures memory { result ≡ Err PrintFault.Memory → W.written writer.new ≡ W.written writer.old }
 {
     if parts.len() != 1 {
-        return parts_fault(alloc);
+        return write_parts_fault(writer);
     }
-    decode_one(alloc, &parts[0])
+    write_lines(alloc, &parts[0], writer)
 }
 
-fn decode_all_frames(alloc: Global, input: &[u8]) -> Result<Answer, AllocError>
-    ensures { IfOk result (DecodeAnswers true input.now) }
+/// Writes the blocks of an input of one message a line.
+fn write_text<W: Sink>(alloc: Global, input: &[u8], writer: &mut W) -> Result<Status, PrintFault>
+    ensures ok { IfOk result (Wrote (DecodeAnswers false input.now) (W.written writer.old) (W.written writer.new)) }
+    ensures write { result ≡ Err PrintFault.Write → WroteFront (DecodeAnswers false input.now) (W.written writer.old) (W.written writer.new) }
+    ensures failed { result ≡ Err PrintFault.Write → 0 < W.failures writer.new }
+    ensures memory { result ≡ Err PrintFault.Memory → W.written writer.new ≡ W.written writer.old }
 {
-    let decoded = decode_frames(alloc, input)?;
-    Ok(Answer::new(decoded.text, status(decoded.good)))
+    let Ok(parts) = parts(alloc, input) else {
+        return Err(PrintFault::Memory);
+    };
+    write_parts(alloc, &parts, writer)
 }
 
-ghost use Rattle.std.specs.Prelude.{true};
-
-/// The blocks of all messages of an input, one message a line, or of frames.
-pub fn decode_answer(alloc: Global, frames: bool, input: &[u8]) -> Result<Answer, AllocError>
-    ensures { IfOk result (DecodeAnswers frames input.now) }
+/// Writes the blocks of all messages of an input as they come, one message a line, or of frames, and gives the status. The fault is
+/// `Write` where the writer failed, behind a beginning of them, and `Memory` where nothing was written.
+pub fn write_decoded<W: Sink>(
+    alloc: Global,
+    frames: bool,
+    input: &[u8],
+    writer: &mut W,
+) -> Result<Status, PrintFault>
+    ensures ok { IfOk result (Wrote (DecodeAnswers frames input.now) (W.written writer.old) (W.written writer.new)) }
+    ensures write { result ≡ Err PrintFault.Write → WroteFront (DecodeAnswers frames input.now) (W.written writer.old) (W.written writer.new) }
+    ensures failed { result ≡ Err PrintFault.Write → 0 < W.failures writer.new }
+    ensures memory { result ≡ Err PrintFault.Memory → W.written writer.new ≡ W.written writer.old }
 {
     if frames {
-        return decode_all_frames(alloc, input);
+        write_frames(alloc, input, writer)
+    } else {
+        write_text(alloc, input, writer)
     }
-    let parts = parts(alloc, input)?;
-    decode_of(alloc, &parts)
 }

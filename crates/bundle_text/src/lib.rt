@@ -11,8 +11,9 @@ mod refusals;
 
 pub use answer::{Answer, Status};
 pub use check_text::check_answer;
-pub use decode_text::decode_answer;
+pub use decode_text::write_decoded;
 pub use faults::{cert_fault_line, table_fault_line};
 pub use input_parts::parts;
 pub use make_text::make_answer;
+pub use message_text::PrintFault;
 pub use refusals::refusal_line;

@@ -2,7 +2,7 @@
 //! argument is the number of rounds of a thousand messages, and a second argument `time` prints the times as well.
 #![tactic(auto)]
 
-use iso_message::{DecodeFault, Kind, Message, decode, encode, encode_into};
+use iso_message::{Code, DecodeFault, Kind, Message, decode, encode, encode_into};
 use std::alloc::{AllocError, Global};
 use std::io;
 use std::time::Instant;
@@ -98,58 +98,150 @@ fn read_frames(message: &mut Message, frames: &[u8]) -> usize {
     elements
 }
 
-/// Decodes and encodes so many rounds of a message's frames, and prints what was counted.
-fn measure(
-    rt: &HostRuntime,
-    name: &str,
-    message: &Message,
-    rounds: u32,
-    timed: bool,
-) -> io::Result<()> {
-    let alloc = rt.alloc();
-    let bytes = encode(alloc, message)?;
-    let frames = frames_of(alloc, &bytes)?;
-    let start = Instant::now(rt)?;
-    let mut elements: usize = 0;
-    for _ in 0..rounds {
-        elements = elements.wrapping_add(decode_frames(alloc, &frames));
-    }
-    let decoded = start.elapsed(rt)?;
+/// What each kind of work took, in microseconds.
+#[derive(Drop)]
+struct Times {
+    decoded: u128,
+    decoded_in_place: u128,
+    encoded: u128,
+    encoded_in_place: u128,
+    made: u128,
+    answered: u128,
+}
+
+/// Bytes and elements that were counted, so that no work is left out.
+#[derive(Drop)]
+struct Counts {
+    elements: usize,
+    elements_in_place: usize,
+    written: usize,
+    written_in_place: usize,
+    made: usize,
+    answered: usize,
+}
+
+/// The bytes of so many rounds of a thousand messages, each in new memory.
+fn encode_rounds(alloc: Global, message: &Message, rounds: u32) -> Result<usize, AllocError> {
     let mut written: usize = 0;
     for _ in 0..rounds {
         for _ in 0..FRAMES {
             written = written.wrapping_add(encode(alloc, message)?.len());
         }
     }
-    let both = start.elapsed(rt)?;
-    let mut place = message.copy()?;
-    let again = Instant::now(rt)?;
-    let mut more: usize = 0;
-    for _ in 0..rounds {
-        more = more.wrapping_add(read_frames(&mut place, &frames));
-    }
-    let in_place = again.elapsed(rt)?;
-    let put = Instant::now(rt)?;
+    Ok(written)
+}
+
+/// The same, each in the memory of the one before.
+fn encode_rounds_in_place(
+    alloc: Global,
+    message: &Message,
+    rounds: u32,
+) -> Result<usize, AllocError> {
     let mut out = Vec::new(alloc);
-    let mut behind: usize = 0;
+    let mut written: usize = 0;
     for _ in 0..rounds {
         for _ in 0..FRAMES {
             out.clear();
-            encode_into(&mut out, &place)?;
-            behind = behind.wrapping_add(out.len());
+            encode_into(&mut out, message)?;
+            written = written.wrapping_add(out.len());
         }
     }
-    let putting = put.elapsed(rt)?;
+    Ok(written)
+}
+
+/// The bytes of the responses to so many rounds of a thousand messages.
+fn answer_rounds(alloc: Global, message: &Message, rounds: u32) -> Result<usize, AllocError> {
+    let mut out = Vec::new(alloc);
+    let mut written: usize = 0;
+    for _ in 0..rounds {
+        for _ in 0..FRAMES {
+            out.clear();
+            encode_into(&mut out, &message.response(Code::new(*b"00"))?)?;
+            written = written.wrapping_add(out.len());
+        }
+    }
+    Ok(written)
+}
+
+/// Does all of it on a message that was made by setting its elements, and on its frames.
+fn measure(rt: &HostRuntime, message: &Message, rounds: u32) -> io::Result<(Counts, Times)> {
+    let alloc = rt.alloc();
+    let frames = frames_of(alloc, &encode(alloc, message)?)?;
+    let start = Instant::now(rt)?;
+    let mut elements: usize = 0;
+    for _ in 0..rounds {
+        elements = elements.wrapping_add(decode_frames(alloc, &frames));
+    }
+    let decoded = start.elapsed(rt)?.as_micros();
+    let mut place = message.copy()?;
+    let start = Instant::now(rt)?;
+    let mut elements_in_place: usize = 0;
+    for _ in 0..rounds {
+        elements_in_place = elements_in_place.wrapping_add(read_frames(&mut place, &frames));
+    }
+    let decoded_in_place = start.elapsed(rt)?.as_micros();
+    let start = Instant::now(rt)?;
+    let written = encode_rounds(alloc, &place, rounds)?;
+    let encoded = start.elapsed(rt)?.as_micros();
+    let start = Instant::now(rt)?;
+    let written_in_place = encode_rounds_in_place(alloc, &place, rounds)?;
+    let encoded_in_place = start.elapsed(rt)?.as_micros();
+    let start = Instant::now(rt)?;
+    let made_bytes = encode_rounds(alloc, message, rounds)?;
+    let made = start.elapsed(rt)?.as_micros();
+    let start = Instant::now(rt)?;
+    let answered_bytes = answer_rounds(alloc, &place, rounds)?;
+    let answered = start.elapsed(rt)?.as_micros();
+    let counts = Counts {
+        elements,
+        elements_in_place,
+        written,
+        written_in_place,
+        made: made_bytes,
+        answered: answered_bytes,
+    };
+    let times = Times {
+        decoded,
+        decoded_in_place,
+        encoded,
+        encoded_in_place,
+        made,
+        answered,
+    };
+    Ok((counts, times))
+}
+
+/// Measures a message, and prints what was counted, and the times if they are asked for.
+fn report(
+    rt: &HostRuntime,
+    name: &str,
+    message: &Message,
+    rounds: u32,
+    timed: bool,
+) -> io::Result<()> {
+    let (counts, times) = measure(rt, message, rounds)?;
+    let Counts {
+        elements,
+        elements_in_place,
+        written,
+        written_in_place,
+        made,
+        answered,
+    } = counts;
     println!(rt;
-        "{name}: {elements} elements read, {more} in place, {written} bytes written, {behind} in place"
+        "{name}: {elements} elements read, {elements_in_place} in place; {written} bytes written, {written_in_place} in place, {made} of a made message, {answered} of responses"
     )?;
     if timed {
-        let reading = decoded.as_micros();
-        let all = both.as_micros();
-        let place = in_place.as_micros();
-        let puts = putting.as_micros();
+        let Times {
+            decoded,
+            decoded_in_place,
+            encoded,
+            encoded_in_place,
+            made,
+            answered,
+        } = times;
         println!(rt;
-            "{name}: {rounds} thousand messages, decoded in {reading} us, decoded and encoded in {all} us, decoded in place in {place} us, encoded in place in {puts} us"
+            "{name}, microseconds for {rounds} thousand messages: decode {decoded}, in place {decoded_in_place}, encode {encoded}, in place {encoded_in_place}, made {made}, response and encode {answered}"
         )?;
     }
     Ok(())
@@ -168,8 +260,8 @@ fn main(rt: HostRuntime) -> io::Result<()> {
     }
     let alloc = rt.alloc();
     if let (Ok(short), Ok(mixed)) = (decode(alloc, SHORT), mixed(alloc)) {
-        measure(&rt, "short", &short, rounds, timed)?;
-        measure(&rt, "mixed", &mixed, rounds, timed)?;
+        report(&rt, "short", &short, rounds, timed)?;
+        report(&rt, "mixed", &mixed, rounds, timed)?;
     }
     Ok(())
 }

@@ -4,11 +4,11 @@ use Rattle.std.proofs.lemmas.Bool.{lt-ltb, le-ltb, eq-eqb, ne_eqb, cases_lt, cas
 use Rattle.std.proofs.Math.Seq.{take-suc}
 use Rattle.std.proofs.lemmas.List.{take_all, length-append}
 use Rattle.std.proofs.Math.ListN.{drop_of_length-le}
-use Rattle.std.specs.Prelude.{slice_set, insert}
+use Rattle.std.specs.Prelude.{slice_set, slice_range, insert}
 use Rattle.iso_message.specs.declared.elements.Span.{Span}
 use Rattle.iso_message.specs.Finding.{find_element, put}
-use Rattle.iso_message.proofs.SpansMore.{range_last, seen_more, within_more}
-use Rattle.iso_message.specs.Spans.{shown, seen, IsWithin, AreWithin, placed}
+use Rattle.iso_message.proofs.SpansMore.{seen_more, within_more}
+use Rattle.iso_message.specs.Spans.{shown, seen, IsWithin, AreWithin, IsLonger, placed}
 
 abbrev any : Span
 any = record { number = 0; text = 0; start = 0; end = 0 }
@@ -95,12 +95,21 @@ within_placed values s (x ∷ xs) h w =
           ]
     ]
 
-pub seen_put : (values more : List ℕ) (spans : List Span) (s : Span) → AreWithin values spans → s.start ≡ length values → s.end ≡ length values + length more
-    → seen (values ++ more) (placed s spans) ≡ put s.number more (seen values spans)
-seen_put values more spans s h i j =
-    seen_placed (values ++ more) s spans
-    ∙ ap (λ (v : List ℕ). put s.number v (seen (values ++ more) spans)) (range_last values more s.start s.end i j)
-    ∙ ap (put s.number more) (seen_more values more spans h)
+-- an element that stands behind the others is put in its place
+pub put_behind : (old new : List ℕ) (spans : List Span) (s : Span) (n : ℕ) (value : List ℕ) → IsLonger old new → AreWithin old spans → s.number ≡ n → slice_range new s.start s.end ≡ value
+    → seen new (placed s spans) ≡ put n value (seen old spans)
+put_behind old new spans s n value l h at is =
+    let longer : seen new spans ≡ seen old spans = ap (λ v. seen v spans) (IsLonger.is l) ∙ seen_more old (IsLonger.more l) spans h in
+    seen_placed new s spans
+    ∙ ap (λ (v : List ℕ). put s.number v (seen new spans)) is
+    ∙ ap (λ k. put k value (seen new spans)) at
+    ∙ ap (put n value) longer
 
-pub within_put : (values more : List ℕ) (spans : List Span) (s : Span) → AreWithin values spans → s.start ≡ length values → s.end ≡ length values + length more → s.text ≡ s.end → AreWithin (values ++ more) (placed s spans)
-within_put values more spans s h i j e = within_placed (values ++ more) s spans (record { order = omega arith; inside = omega (arith, length-append values more); spelled = λ lt. absurd (omega arith) }) (within_more values more spans h)
+pub longer_within : (old new : List ℕ) (spans : List Span) → IsLonger old new → AreWithin old spans → AreWithin new spans
+longer_within old new spans l h = rw (IsLonger.is l) (within_more old (IsLonger.more l) spans h)
+
+pub longer_seen : (old new : List ℕ) (spans : List Span) → IsLonger old new → AreWithin old spans → seen new spans ≡ seen old spans
+longer_seen old new spans l h = rw (IsLonger.is l) (seen_more old (IsLonger.more l) spans h)
+
+pub placed_within : (old new : List ℕ) (spans : List Span) (s : Span) → IsLonger old new → AreWithin old spans → IsWithin new s → AreWithin new (placed s spans)
+placed_within old new spans s l h w = within_placed new s spans w (longer_within old new spans l h)

@@ -18,3 +18,4 @@ pub mod LaneLemmas
 pub mod KnownLemmas
 pub mod PartLemmas
 pub mod Together
+pub mod RunLemmas

@@ -1,5 +1,5 @@
 -- The canonical spelling of a message.
-use Rattle.std.specs.Prelude.{◌≡◌, ℕ, ◌+◌, ◌-◌, ◌/◌, ◌%◌, ◌^◌, ◌<◌, ◌≤◌, ◌==◌, nat_lt, nat_le, List, [], ◌∷◌, ◌++◌, length, map, Option, Some, None, if◌then◌else◌}
+use Rattle.std.specs.Prelude.{◌≡◌, ℕ, ◌+◌, ◌-◌, ◌/◌, ◌%◌, ◌^◌, ◌<◌, ◌≤◌, ◌==◌, nat_lt, nat_le, Bool, true, false, List, [], ◌∷◌, ◌++◌, length, map, Option, Some, None, if◌then◌else◌}
 use Rattle.std.specs.List.{filter, flat_map}
 use Rattle.std.specs.Int.{w64, to_be_bytes}
 use Rattle.hex.specs.Hex.{encode_upper, IsBytes}
@@ -22,6 +22,22 @@ piece (Some (Fixed class size)) value = value
 piece (Some (Llvar class most)) value = two_digits (length value) ++ value
 piece (Some (Lllvar class most)) value = three_digits (length value) ++ value
 piece (Some Binary) value = encode_upper value
+
+-- the digits of a value's length, where the form has some
+abbrev pub length_text : Option Form → ℕ → List ℕ
+length_text (Some (Llvar class most)) n = two_digits n
+length_text (Some (Lllvar class most)) n = three_digits n
+length_text _ n = []
+
+-- the form has as many digits as the length
+abbrev pub HasLength : Option Form → ℕ → Type 0
+HasLength (Some (Llvar class most)) n = n < 100
+HasLength (Some (Lllvar class most)) n = n < 1000
+HasLength _ n = Unit {0}
+
+abbrev pub is_binary : Option Form → Bool
+is_binary (Some Binary) = true
+is_binary _ = false
 
 -- the map with these numbers' bits, of which the lowest is that of last
 abbrev pub bits : ℕ → List ℕ → ℕ

@@ -1,14 +1,15 @@
 //! Elements, kept as places in one buffer.
-ghost use Rattle.std.specs.Prelude.{◌≡◌, ◌≤◌, [], ◌∷◌, ◌++◌, length, map, OnOk, OnErr, IfOk, MatchOption, MatchResult, slice_set, slice_range, insert, drop, ◌<◌, ◌+◌};
+ghost use Rattle.std.specs.Prelude.{◌≡◌, ◌≤◌, [], ◌∷◌, ◌++◌, length, map, OnOk, OnErr, IfOk, IsTrue, ◌↔◌, MatchOption, MatchResult, Some, slice_set, slice_get, slice_range, insert, drop, ◌<◌, ◌+◌, ◌^◌, if◌then◌else◌};
 ghost use Rattle.iso_message.specs.Finding.{find_element, put, without};
 ghost use Rattle.iso_message.specs.Made.{kept};
-ghost use Rattle.iso_message.specs.Spelling.{Ascends, AreGood, bits, low_numbers, high_numbers, pieces};
-ghost use Rattle.iso_message.specs.Spans.{seen, AreWithin, placed, numbers};
+ghost use Rattle.iso_message.specs.Spelling.{Ascends, IsGood, AreGood, bits, low_numbers, high_numbers, pieces, is_binary};
+ghost use Rattle.iso_message.specs.Table.{form_of};
+ghost use Rattle.iso_message.specs.Spans.{seen, IsWithin, AreWithin, IsLonger, placed, numbers, IsInRun, moved, moved_place, IsCopied};
 ghost use Rattle.iso_message.specs.declared.elements.Span.{Span};
 
 mod parts;
 
-use crate::writing::push_piece;
+use crate::writing::{is_binary, push_length, push_piece};
 pub(crate) use parts::Parts;
 use std::alloc::{AllocError, Global};
 use std::marker::Model;
@@ -40,6 +41,43 @@ fn span_after(number: u8, start: usize, len: usize) -> Result<Span, AllocError>
         end,
     })
 }
+
+/// The span of an element whose piece stands from a place on, and its bytes, of which there are so many, from a later one on. The
+/// bytes of a binary element aren't its piece.
+fn piece_span(number: u8, text: usize, start: usize, len: usize) -> Result<Span, AllocError>
+    requires { text ≤ start }
+    ensures { IfOk result (λ s. s ≡ record { number = number; text = if is_binary (form_of number) then start + len else text; start = start; end = start + len }) }
+{
+    let span = span_after(number, start, len)?;
+    if is_binary(number) {
+        return Ok(span);
+    }
+    Ok(Span {
+        text: text as u32,
+        ..span
+    })
+}
+
+/// Adds an element's piece behind the bytes of a buffer, of a binary element its bytes alone.
+fn append(values: &mut Vec<u8>, number: u8, content: &[u8]) -> Result<Span, AllocError>
+    requires good { IsGood (form_of number) content.now }
+    ensures number { IfOk result (λ s. s.number ≡ number) }
+    ensures shows { IfOk result (λ s. slice_range values.new.items s.start s.end ≡ content.now) }
+    ensures within { IfOk result (IsWithin values.new.items) }
+    ensures more { IsLonger values.old.items values.new.items }
+{
+    let text = values.len();
+    push_length(values, number, content.len())?;
+    let span = piece_span(number, text, values.len(), content.len())?;
+    values.extend_from_slice(content)?;
+    Ok(span)
+}
+
+/// The elements that are added to the ones that a message keeps of another: 33, 39 and 90.
+const MORE_ELEMENTS: usize = 3;
+
+/// The bytes of their pieces.
+const MORE_BYTES: usize = 13 + 2 + 42;
 
 /// Numbers and their bytes, in the order of adding.
 #[derive(Debug, Drop)]
@@ -83,16 +121,6 @@ impl Elements {
         Ok(Elements { spans, values })
     }
 
-    pub(crate) fn push(&mut self, number: u8, content: &[u8]) -> Result<(), AllocError>
-        ensures ok { OnOk result (self.new ≡ self.old ++ (number, content.now) ∷ []) }
-        ensures err { OnErr result (self.new ≡ self.old) }
-    {
-        let span = span_after(number, self.values.len(), content.len())?;
-        self.values.extend_from_slice(content)?;
-        self.spans.push(span)?;
-        Ok(())
-    }
-
     /// The bytes of a number, the first where there are several.
     pub(crate) fn get(&self, number: u8) -> Option<&[u8]>
         ensures { MatchOption result (find_element number self.now ≡ None) (λ v. find_element number self.now ≡ Some v.now) }
@@ -116,11 +144,11 @@ impl Elements {
 
     /// Adds the element in its place, instead of one of its number.
     pub(crate) fn put(&mut self, number: u8, content: &[u8]) -> Result<(), AllocError>
+        requires good { IsGood (form_of number) content.now }
         ensures ok { OnOk result (self.new ≡ put number content.now self.old) }
         ensures err { OnErr result (self.new ≡ self.old) }
     {
-        let span = span_after(number, self.values.len(), content.len())?;
-        self.values.extend_from_slice(content)?;
+        let span = append(&mut self.values, number, content)?;
         match search(&self.spans, number) {
             Ok(place) => self.spans[place] = span,
             Err(place) => self.spans.insert(place, span)?,
@@ -152,14 +180,15 @@ impl Elements {
         self.spans.retain(|span| span.number != number);
     }
 
-    /// A copy of the elements of these numbers.
+    /// A copy of the elements of these numbers, with room for a few more. What touches in the buffer is copied together.
     pub(crate) fn kept(&self, numbers: &[u8]) -> Result<Elements, AllocError>
         ensures { IfOk result (λ es. es ≡ kept numbers.now self.now) }
     {
         let alloc = self.allocator();
-        let mut elements = Elements::with_capacity(alloc, self.spans.len(), self.values.len())?;
-        copy_kept(&self.spans, &self.values, numbers, &mut elements)?;
-        Ok(elements)
+        let mut spans = Vec::with_capacity(alloc, self.spans.len().saturating_add(MORE_ELEMENTS))?;
+        let mut values = Vec::with_capacity(alloc, self.values.len().saturating_add(MORE_BYTES))?;
+        copy_kept(&self.spans, &self.values, numbers, &mut spans, &mut values)?;
+        Ok(Elements { spans, values })
     }
 
     /// Takes the elements out, and leaves none.
@@ -233,19 +262,137 @@ fn element_at<'a>(spans: &[Span], values: &'a [u8], place: usize) -> (u8, &'a [u
     (span.number, &values[span.start as usize..span.end as usize])
 }
 
-/// Adds the values of the spans with these numbers.
+/// A part of a buffer, and where its copy stands in another.
+#[derive(Clone, Copy, Debug)]
+struct Run {
+    from: usize,
+    to: usize,
+    copy: usize,
+}
+
+impl Run {
+    /// Whether an element's bytes stand in the part, its piece with them where it has one.
+    fn has(self, span: Span) -> bool
+        ensures { IsTrue result ↔ IsInRun self span }
+    {
+        self.from <= span.text as usize
+            && self.from <= span.start as usize
+            && span.end as usize <= self.to
+    }
+
+    /// The span of the same element in the copy.
+    fn moved(self, span: Span) -> Result<Span, AllocError>
+        requires inside { IsInRun self span }
+        requires order { span.start ≤ span.end }
+        requires there { moved_place self self.to < 2 ^ 64 }
+        ensures { IfOk result (λ s. s ≡ moved self span) }
+    {
+        let end = self.copy + (span.end as usize - self.from);
+        if end > u32::MAX as usize {
+            return Err(AllocError);
+        }
+        let start = self.copy + (span.start as usize - self.from);
+        let mut text = end;
+        if span.text < span.end {
+            text = self.copy + (span.text as usize - self.from);
+        }
+        Ok(Span {
+            number: span.number,
+            text: text as u32,
+            start: start as u32,
+            end: end as u32,
+        })
+    }
+}
+
+/// Where the pieces of these numbers end that stand one behind the other, of which an element's is the first.
+fn run_end(spans: &[Span], values: &[u8], numbers: &[u8], place: usize, first: Span) -> usize
+    requires within { AreWithin values.now spans.now }
+    requires at { slice_get spans.now place ≡ Some first }
+    ensures end { first.end ≤ result }
+    ensures inside { result ≤ length values.now }
+{
+    let mut end = first.end;
+    for i in place + 1..spans.len() {
+        let next = spans[i];
+        let touches = next.text == end && next.text < next.end;
+        if !touches || !numbers.contains(&next.number) {
+            return end as usize;
+        }
+        end = next.end;
+    }
+    end as usize
+}
+
+/// Copies the part of a buffer that begins with an element and goes as far as the pieces of these numbers touch.
+fn copy_run(
+    spans: &[Span],
+    values: &[u8],
+    numbers: &[u8],
+    place: usize,
+    first: Span,
+    copies: &mut Vec<u8>,
+) -> Result<Run, AllocError>
+    requires within { AreWithin values.now spans.now }
+    requires at { slice_get spans.now place ≡ Some first }
+    ensures copied { IfOk result (IsCopied values.now copies.new.items) }
+    ensures has { IfOk result (λ run. IsInRun run first) }
+    ensures more { OnOk result (IsLonger copies.old.items copies.new.items) }
+{
+    let from = first.text.min(first.start) as usize;
+    let to = run_end(spans, values, numbers, place, first);
+    let copy = copies.len();
+    copies.extend_from_slice(&values[from..to])?;
+    Ok(Run { from, to, copy })
+}
+
+/// A copied part that has the element: this one, or a new one.
+fn run_with(
+    run: Run,
+    spans: &[Span],
+    values: &[u8],
+    numbers: &[u8],
+    place: usize,
+    span: Span,
+    copies: &mut Vec<u8>,
+) -> Result<Run, AllocError>
+    requires within { AreWithin values.now spans.now }
+    requires at { slice_get spans.now place ≡ Some span }
+    requires copied { IsCopied values.now copies.old.items run }
+    ensures copied { IfOk result (IsCopied values.now copies.new.items) }
+    ensures has { IfOk result (λ r. IsInRun r span) }
+    ensures more { OnOk result (IsLonger copies.old.items copies.new.items) }
+{
+    if run.has(span) {
+        return Ok(run);
+    }
+    copy_run(spans, values, numbers, place, span, copies)
+}
+
+/// Adds the elements with these numbers to a buffer that has none.
 fn copy_kept(
     spans: &[Span],
     values: &[u8],
     numbers: &[u8],
-    elements: &mut Elements,
+    kept_spans: &mut Vec<Span>,
+    copies: &mut Vec<u8>,
 ) -> Result<(), AllocError>
-    requires { AreWithin values.now spans.now }
-    ensures { OnOk result (elements.new ≡ elements.old ++ kept numbers.now (seen values.now spans.now)) }
+    requires within { AreWithin values.now spans.now }
+    requires none { kept_spans.old.items ≡ [] }
+    ensures within { OnOk result (AreWithin copies.new.items kept_spans.new.items) }
+    ensures kept { OnOk result (seen copies.new.items kept_spans.new.items ≡ kept numbers.now (seen values.now spans.now)) }
 {
-    for span in spans {
+    let mut run = Run {
+        from: 0,
+        to: 0,
+        copy: 0,
+    };
+    for place in 0..spans.len() {
+        let span = spans[place];
         if numbers.contains(&span.number) {
-            elements.push(span.number, &values[span.start as usize..span.end as usize])?;
+            let found = run_with(run, spans, values, numbers, place, span, copies)?;
+            kept_spans.push(found.moved(span)?)?;
+            run = found;
         }
     }
     Ok(())
@@ -283,34 +430,8 @@ fn push_part(out: &mut Vec<u8>, values: &[u8], from: usize, to: usize) -> Result
     out.extend_from_slice(&values[from..to])
 }
 
-/// Writes the pieces of the spans' values.
+/// Writes the pieces of the spans' values. Those that stand in the buffer one behind the other are written together.
 fn push_pieces(out: &mut Vec<u8>, spans: &[Span], values: &[u8]) -> Result<(), AllocError>
-    requires within { AreWithin values.now spans.now }
-    requires good { AreGood (seen values.now spans.now) }
-    ensures { OnOk result (out.new.items ≡ out.old.items ++ pieces (seen values.now spans.now)) }
-{
-    // What was read begins with a piece in the buffer, and what was set with none.
-    if !spans.is_empty() && spans[0].text < spans[0].end {
-        return push_together(out, spans, values);
-    }
-    push_each(out, spans, values)
-}
-
-/// Each piece is written by itself.
-fn push_each(out: &mut Vec<u8>, spans: &[Span], values: &[u8]) -> Result<(), AllocError>
-    requires within { AreWithin values.now spans.now }
-    requires good { AreGood (seen values.now spans.now) }
-    ensures { OnOk result (out.new.items ≡ out.old.items ++ pieces (seen values.now spans.now)) }
-{
-    for span in spans {
-        let value = &values[span.start as usize..span.end as usize];
-        push_piece(out, span.number, value)?;
-    }
-    Ok(())
-}
-
-/// Those that stand in the buffer one behind the other are written together.
-fn push_together(out: &mut Vec<u8>, spans: &[Span], values: &[u8]) -> Result<(), AllocError>
     requires within { AreWithin values.now spans.now }
     requires good { AreGood (seen values.now spans.now) }
     ensures { OnOk result (out.new.items ≡ out.old.items ++ pieces (seen values.now spans.now)) }

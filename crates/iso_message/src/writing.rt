@@ -1,11 +1,11 @@
 //! Writing a message.
-ghost use Rattle.std.specs.Prelude.{◌≡◌, ◌<◌, ◌++◌, map, length, IfOk, OnOk};
+ghost use Rattle.std.specs.Prelude.{◌≡◌, ◌<◌, ◌++◌, map, length, IfOk, OnOk, OnErr};
 ghost use Rattle.hex.specs.Hex.{encode_upper, IsBytes};
 ghost use Rattle.std.specs.Int.{w64, to_be_bytes};
 ghost use Rattle.iso_message.specs.Types.{kind_text};
 ghost use Rattle.iso_message.specs.Table.{form_of};
 ghost use Rattle.iso_message.specs.Grammar.{Spells};
-ghost use Rattle.iso_message.specs.Spelling.{two_digits, three_digits, piece, map_text, IsGood, IsMessage, spelling};
+ghost use Rattle.iso_message.specs.Spelling.{two_digits, three_digits, length_text, HasLength, is_binary, piece, map_text, IsGood, IsMessage, spelling};
 
 use crate::form::{Form, form_at};
 use crate::kind::Kind;
@@ -48,20 +48,17 @@ pub(crate) fn push_map(out: &mut Vec<u8>, bits: u64) -> Result<(), AllocError>
     push_hex(out, &bits.to_be_bytes())
 }
 
-/// Writes the piece of an element.
+/// Writes the digits of an element's length, where its form has some.
 #[inline(always)]
-pub(crate) fn push_piece(out: &mut Vec<u8>, number: u8, value: &[u8]) -> Result<(), AllocError>
-    requires { IsGood (form_of number) value.now }
-    ensures { OnOk result (out.new.items ≡ out.old.items ++ piece (form_of number) value.now) }
+pub(crate) fn push_length(out: &mut Vec<u8>, number: u8, len: usize) -> Result<(), AllocError>
+    requires { HasLength (form_of number) len }
+    ensures ok { OnOk result (out.new.items ≡ out.old.items ++ length_text (form_of number) len) }
+    ensures err { OnErr result (out.new.items ≡ out.old.items) }
 {
-    let len = value.len();
     match form_at(number) {
-        None => {}
-        Some(Form::Fixed(_, _)) => out.extend_from_slice(value)?,
         Some(Form::Llvar(_, _)) => {
             let digits = [b'0' + (len / 10) as u8, b'0' + (len % 10) as u8];
-            out.extend_from_slice(&digits)?;
-            out.extend_from_slice(value)?;
+            out.extend_from_slice(&digits)
         }
         Some(Form::Lllvar(_, _)) => {
             let digits = [
@@ -69,10 +66,32 @@ pub(crate) fn push_piece(out: &mut Vec<u8>, number: u8, value: &[u8]) -> Result<
                 b'0' + (len / 10 % 10) as u8,
                 b'0' + (len % 10) as u8,
             ];
-            out.extend_from_slice(&digits)?;
-            out.extend_from_slice(value)?;
+            out.extend_from_slice(&digits)
         }
-        Some(Form::Binary) => push_hex(out, value)?,
+        _ => Ok(()),
     }
-    Ok(())
+}
+
+/// Whether an element is one of eight binary bytes, which are spelled as sixteen digits.
+#[inline(always)]
+pub(crate) fn is_binary(number: u8) -> bool
+    ensures { result ≡ is_binary (form_of number) }
+{
+    match form_at(number) {
+        Some(Form::Binary) => true,
+        _ => false,
+    }
+}
+
+/// Writes the piece of an element.
+#[inline(always)]
+pub(crate) fn push_piece(out: &mut Vec<u8>, number: u8, value: &[u8]) -> Result<(), AllocError>
+    requires { IsGood (form_of number) value.now }
+    ensures { OnOk result (out.new.items ≡ out.old.items ++ piece (form_of number) value.now) }
+{
+    if is_binary(number) {
+        return push_hex(out, value);
+    }
+    push_length(out, number, value.len())?;
+    out.extend_from_slice(value)
 }

@@ -1,2 +1,4 @@
 pub mod PartLemmas
 pub mod PrintLemmas
+pub mod FrontLemmas
+pub mod WrittenLemmas

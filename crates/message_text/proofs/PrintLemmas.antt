@@ -1,5 +1,5 @@
 -- One more block.
-use Rattle.std.proofs.Common.{◌≡◌, ℕ, suc, Bool, true, false, ◌&&◌, List, [], ◌∷◌, ◌++◌, map, Option, Some, refl, sym, ap, ◌∙◌, append_assoc, append-nil, subst, ◌<◌, ◌≤◌, arith, length-append, length, inl, Err, None}
+use Rattle.std.proofs.Common.{◌≡◌, ℕ, suc, ◌+◌, Bool, true, false, ◌&&◌, List, [], ◌∷◌, ◌++◌, map, Option, Some, refl, sym, ap, ◌∙◌, append_assoc, append-nil, subst, ◌<◌, ◌≤◌, arith, length-append, length, inl, Err, None}
 use Rattle.iso_message.specs.declared.fault.DecodeFault.TheVariants.{Short}
 use Rattle.iso_message.specs.Frames.{frame, IsCut}
 use Rattle.message_text.specs.Parts.{lines_of, AreFrames}
@@ -68,19 +68,23 @@ pub frames_end : (input rest : List ℕ) (number : ℕ) (text : List ℕ) (good 
     → (items : List (Option (List ℕ))) × AreFrames input items × Printed 1 items text good
 frames_end input rest number text good e so_far = let w = so_far [] e in (w.0, w.1, ended w.0 number text good w.2)
 
-pub frames_cut : (input rest : List ℕ) (m n : ℕ) (old head new : List ℕ) (good : Bool) → n ≡ suc m → IsCut rest → Leads input rest (suc m) old good
-    → head ≡ old ++ heading n → new ≡ head ++ fault_line Short → (items : List (Option (List ℕ))) × AreFrames input items × Printed 1 items new false
-frames_cut input rest m n old head new good e cut so_far eh en =
-    let w = so_far (None ∷ []) cut in
-    let texts : new ≡ old ++ block n (Err Short) = en ∙ ap (λ x. x ++ fault_line Short) eh ∙ append_assoc old (heading n) (fault_line Short) in
-    let p = more_at w.0 [] None m n old new good false e w.2 (Err Short, inl refl, texts, refl) in
-    let done = ended w.0 (suc n) new (good && false) p in
-    (w.0, w.1, subst (λ (g : Bool). Printed 1 w.0 new g) (none good) done)
-  where
-    none : (b : Bool) → (b && false) ≡ false
-    none true = refl
-    none false = refl
-
 -- what stands behind a frame is shorter
 pub behind_frame : (rest bytes later : List ℕ) → rest ≡ frame bytes ++ later → suc (length later) ≤ length rest
 behind_frame rest bytes later e = omega (arith, ap length e, length-append bytes later)
+
+no_frames : (P : Type 0) (items : List (Option (List ℕ))) → AreFrames [] items → (items ≡ [] → P) → P
+no_frames P [] are f = f refl
+no_frames P (None ∷ []) are f = absurd are
+no_frames P (None ∷ item ∷ items) are f = absurd are
+no_frames P (Some bytes ∷ items) are f = absurd (omega (arith, behind_frame [] bytes are.0 are.1))
+
+pub cut_some : (rest : List ℕ) → IsCut rest → 0 < length rest
+cut_some [] cut = absurd cut
+cut_some (a ∷ rest) cut = omega arith
+
+-- behind a frame that is cut nothing is left
+pub cut_step : (input rest : List ℕ) (m n : ℕ) (old new : List ℕ) (good fine : Bool) → n ≡ suc m → IsCut rest
+    → Leads input rest (suc m) old good → PrintsBlock n None old new fine → Leads input [] (suc n) new (good && fine)
+cut_step input rest m n old new good fine e cut so_far b items are =
+    let w = so_far (None ∷ []) cut in
+    no_frames _ items are (λ none. (w.0, w.1, subst (λ (xs : List (Option (List ℕ))). (text : List ℕ) (others : Bool) → Printed (suc n) xs text others → Printed 1 w.0 (new ++ text) ((good && fine) && others)) (sym none) (more_at w.0 [] None m n old new good fine e w.2 b)))

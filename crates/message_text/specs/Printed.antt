@@ -1,7 +1,9 @@
 -- What is printed for a message, and for all messages of an input.
 use Rattle.std.specs.Prelude.{◌≡◌, ℕ, suc, ◌==◌, ◌||◌, ◌&&◌, ◌⊎◌, Bool, true, is_ok, if◌then◌else◌, List, [], ◌∷◌, ◌++◌, codes, decimal, Option, Some, None, Result, Ok, Err}
 use Rattle.std.specs.List.{flat_map}
+use Rattle.std.specs.Io.KnownBytes.{Appends}
 use Rattle.hex.specs.Hex.{encode_upper}
+use Rattle.card_digits.specs.Stream.{AppendsFront}
 use Rattle.iso_message.specs.declared.fault.DecodeFault.{DecodeFault}
 use Rattle.iso_message.specs.declared.fault.DecodeFault.TheVariants as faults
 use Rattle.iso_message.specs.Types.{kind_text}
@@ -62,6 +64,25 @@ IsAnswer item answer = (answer ≡ reading item) ⊎ (answer ≡ Err faults.Memo
 abbrev pub PrintsBlock : ℕ → Option (List ℕ) → List ℕ → List ℕ → Bool → Type 0
 PrintsBlock number item old new good = (answer : Result Fields DecodeFault) × IsAnswer item answer × (new ≡ old ++ block number answer) × (good ≡ is_ok answer)
 
+-- a text goes to a writer behind what waits: a front of both was sent, and the rest waits
+pub record Sends (start now : Option (List ℕ)) (old text new : List ℕ) : Type 0 where
+  pub sent : List ℕ
+  pub sends : Appends start now sent
+  pub whole : old ++ text ≡ sent ++ new
+
+-- so does the block of a message
+pub record SendsBlock (number : ℕ) (item : Option (List ℕ)) (start now : Option (List ℕ)) (old new : List ℕ) (good : Bool) : Type 0 where
+  pub answer : Result Fields DecodeFault
+  pub is : IsAnswer item answer
+  pub sends : Sends start now old (block number answer) new
+  pub fine : good ≡ is_ok answer
+
+-- the writer failed behind a front of what waited and the block
+pub record SendsFront (number : ℕ) (item : Option (List ℕ)) (start now : Option (List ℕ)) (old : List ℕ) : Type 0 where
+  pub answer : Result Fields DecodeFault
+  pub is : IsAnswer item answer
+  pub front : AppendsFront start now (old ++ block number answer)
+
 -- the block of each message from this number on, and whether none has a fault
 abbrev pub Printed : ℕ → List (Option (List ℕ)) → List ℕ → Bool → Type 0
 Printed number [] text good = (text ≡ []) × (good ≡ true)
@@ -69,5 +90,10 @@ Printed number (item ∷ items) text good =
     (answer : Result Fields DecodeFault) × (later : List ℕ) × (rest : Bool) × IsAnswer item answer × (text ≡ block number answer ++ later) × (good ≡ (is_ok answer && rest))
     × Printed (suc number) items later rest
 
-abbrev pub status_of : Bool → ℕ
-status_of good = if good then 0 else 2
+-- the blocks of all messages went out, and whether none has a fault
+abbrev pub WritesBlocks : List (Option (List ℕ)) → Option (List ℕ) → Option (List ℕ) → Bool → Type 0
+WritesBlocks items start now good = (text : List ℕ) × Printed 1 items text good × Appends start now text
+
+-- a front of such blocks went out
+abbrev pub WritesFront : List (Option (List ℕ)) → Option (List ℕ) → Option (List ℕ) → Type 0
+WritesFront items start now = (text : List ℕ) × (good : Bool) × Printed 1 items text good × AppendsFront start now text

@@ -1,52 +1,61 @@
 //! The answer of a decode job.
-ghost use Rattle.std.specs.Prelude.{◌≡◌, ℕ, List, Some, map, Option, IfOk};
+ghost use Rattle.std.specs.Prelude.{◌≡◌, ℕ, List, Some, Err, map, Option, IfOk, ◌<◌};
 ghost use Rattle.message_text.specs.Parts.{lines_of, AreFrames};
-ghost use Rattle.message_text.specs.Printed.{Printed, status_of};
+ghost use Rattle.message_text.specs.Printed.{WritesBlocks, WritesFront};
 
-use crate::block::{push_block, push_fault, push_heading};
+use crate::fault::PrintFault;
 use crate::parts::{first_frame, first_line};
-use iso_message::DecodeFault;
-use std::alloc::{AllocError, Global};
+use crate::sending::{Buffers, send};
+use card_digits::Sink;
+use std::alloc::Global;
 
-/// A text, and whether no message had a fault.
-#[derive(Debug, Drop)]
-pub struct Answer {
-    pub text: Vec<u8>,
-    pub good: bool,
-}
-
-impl Answer {
-    /// The program's exit status.
-    pub fn status(&self) -> u8
-        ensures { result ≡ status_of self.now.good }
-    {
-        if self.good { 0 } else { 2 }
-    }
-}
-
-/// The blocks of an input of one message a line. The last line may lack its line feed, and an input without bytes has no line.
-pub fn decode_lines(alloc: Global, input: &[u8]) -> Result<Answer, AllocError>
-    ensures { IfOk result (λ a. Printed 1 (map (λ line. Some line) (lines_of input.now)) a.text.items a.good) }
+/// Writes the blocks of an input of one message a line, as they come, and says whether no message has a fault. The last line may lack
+/// its line feed, and an input without bytes has no line. Memory doesn't grow with the number of messages.
+pub fn decode_lines<W: Sink>(
+    alloc: Global,
+    input: &[u8],
+    writer: &mut W,
+) -> Result<bool, PrintFault>
+    ensures ok { IfOk result (WritesBlocks (map (λ line. Some line) (lines_of input.now)) (W.written writer.old) (W.written writer.new)) }
+    ensures write { result ≡ Err PrintFault.Write → WritesFront (map (λ line. Some line) (lines_of input.now)) (W.written writer.old) (W.written writer.new) }
+    ensures failed { result ≡ Err PrintFault.Write → 0 < W.failures writer.new }
+    ensures memory { result ≡ Err PrintFault.Memory → W.written writer.new ≡ W.written writer.old }
 {
-    let mut text = Vec::new(alloc);
+    let Ok(mut buffers) = Buffers::new(alloc) else {
+        return Err(PrintFault::Memory);
+    };
     let mut good = true;
     let mut number: u64 = 0;
     let mut rest = input;
     while !rest.is_empty() {
         let (line, later) = first_line(rest);
         number += 1;
-        let fine = push_block(&mut text, number, line)?;
+        let Ok(fine) = buffers.add(writer, number, Some(line)) else {
+            return Err(PrintFault::Write);
+        };
         good &= fine;
         rest = later;
     }
-    Ok(Answer { text, good })
+    match send(writer, &mut buffers.waiting) {
+        Ok(()) => Ok(good),
+        Err(_) => Err(PrintFault::Write),
+    }
 }
 
-/// The blocks of an input of frames. After a frame that is cut nothing follows.
-pub fn decode_frames(alloc: Global, input: &[u8]) -> Result<Answer, AllocError>
-    ensures { IfOk result (λ a. (items : List (Option (List ℕ))) × AreFrames input.now items × Printed 1 items a.text.items a.good) }
+/// The same of an input of frames. After a frame that is cut nothing follows.
+pub fn decode_frames<W: Sink>(
+    alloc: Global,
+    input: &[u8],
+    writer: &mut W,
+) -> Result<bool, PrintFault>
+    ensures ok { IfOk result (λ good. (items : List (Option (List ℕ))) × AreFrames input.now items × WritesBlocks items (W.written writer.old) (W.written writer.new) good) }
+    ensures write { result ≡ Err PrintFault.Write → (items : List (Option (List ℕ))) × AreFrames input.now items × WritesFront items (W.written writer.old) (W.written writer.new) }
+    ensures failed { result ≡ Err PrintFault.Write → 0 < W.failures writer.new }
+    ensures memory { result ≡ Err PrintFault.Memory → W.written writer.new ≡ W.written writer.old }
 {
-    let mut text = Vec::new(alloc);
+    let Ok(mut buffers) = Buffers::new(alloc) else {
+        return Err(PrintFault::Memory);
+    };
     let mut good = true;
     let mut number: u64 = 0;
     let mut rest = input;
@@ -54,16 +63,23 @@ pub fn decode_frames(alloc: Global, input: &[u8]) -> Result<Answer, AllocError>
         number += 1;
         match first_frame(rest) {
             Some((bytes, later)) => {
-                let fine = push_block(&mut text, number, bytes)?;
+                let Ok(fine) = buffers.add(writer, number, Some(bytes)) else {
+                    return Err(PrintFault::Write);
+                };
                 good &= fine;
                 rest = later;
             }
             None => {
-                push_heading(&mut text, number)?;
-                push_fault(&mut text, DecodeFault::Short)?;
-                return Ok(Answer { text, good: false });
+                let Ok(fine) = buffers.add(writer, number, None) else {
+                    return Err(PrintFault::Write);
+                };
+                good &= fine;
+                rest = &[];
             }
         }
     }
-    Ok(Answer { text, good })
+    match send(writer, &mut buffers.waiting) {
+        Ok(()) => Ok(good),
+        Err(_) => Err(PrintFault::Write),
+    }
 }

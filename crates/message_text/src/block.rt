@@ -1,19 +1,20 @@
 //! The printed form of a message.
-ghost use Rattle.std.specs.Prelude.{◌≡◌, ◌++◌, ◌∷◌, ◌<◌, ◌^◌, [], drop, codes, decimal, is_ok, IfOk, OnOk, Some, Ok, Err};
+ghost use Rattle.std.specs.Prelude.{◌≡◌, ◌++◌, ◌∷◌, ◌<◌, ◌^◌, [], drop, codes, decimal, is_ok, IfOk, OnOk, Some, None, Ok, Err};
+ghost use Rattle.std.specs.Option.{option_copied};
 ghost use Rattle.iso_message.specs.Fields.{Fields};
 ghost use Rattle.iso_message.specs.Types.{kind_text};
 ghost use Rattle.iso_message.specs.declared.fault.DecodeFault.{DecodeFault};
 ghost use Rattle.message_text.specs.Printed.{value_text, element_line, element_lines, message_lines, fault_words, fault_line, heading, PrintsBlock};
 
-use iso_message::{DecodeFault, Kind, Message, decode};
-use std::alloc::{AllocError, Global};
+use iso_message::{DecodeFault, Kind, Message};
+use itoa::Buffer;
+use std::alloc::AllocError;
 
 fn push_number(out: &mut Vec<u8>, number: u64) -> Result<(), AllocError>
     ensures { OnOk result (out.new.items ≡ out.old.items ++ decimal number) }
 {
-    let text = format!(in *out.allocator(); "{number}")?;
-    out.extend_from_slice(text.as_bytes())?;
-    Ok(())
+    let mut buffer = Buffer::new();
+    out.extend_from_slice(buffer.format(number).as_bytes())
 }
 
 /// Writes the bytes, for an element of eight bytes as hexadecimal digits.
@@ -106,7 +107,7 @@ fn push_named(out: &mut Vec<u8>, words: &[u8], number: u8) -> Result<(), AllocEr
 
 /// Writes the line of a fault.
 #[tactic(auto, unfolding(crate::specs::Printed::fault_line))]
-pub(crate) fn push_fault(out: &mut Vec<u8>, fault: DecodeFault) -> Result<(), AllocError>
+fn push_fault(out: &mut Vec<u8>, fault: DecodeFault) -> Result<(), AllocError>
     ensures { OnOk result (out.new.items ≡ out.old.items ++ fault_line fault) }
 {
     out.extend_from_slice(b"fault message ")?;
@@ -117,7 +118,7 @@ pub(crate) fn push_fault(out: &mut Vec<u8>, fault: DecodeFault) -> Result<(), Al
 
 /// Writes the line with a message's number.
 #[tactic(auto, unfolding(crate::specs::Printed::heading))]
-pub(crate) fn push_heading(out: &mut Vec<u8>, number: u64) -> Result<(), AllocError>
+fn push_heading(out: &mut Vec<u8>, number: u64) -> Result<(), AllocError>
     ensures { OnOk result (out.new.items ≡ out.old.items ++ heading number) }
 {
     out.extend_from_slice(b"message ")?;
@@ -126,16 +127,21 @@ pub(crate) fn push_heading(out: &mut Vec<u8>, number: u64) -> Result<(), AllocEr
     Ok(())
 }
 
-/// Writes the lines of the message that the bytes are, or of its fault, and says whether it has none. Where memory is refused
-/// while the message is read, the line of that fault stands in place of the message's; where it is refused for the text, an
-/// error is returned, and the text may have grown by a part of the lines.
-pub fn push_block(out: &mut Vec<u8>, number: u64, bytes: &[u8]) -> Result<bool, AllocError>
+/// Writes the lines of the message that the bytes are, or of its fault, and says whether it has none. The message is read in the
+/// memory of an older one. Where memory is refused while it is read, the line of that fault stands in place of the message's;
+/// where it is refused for the text, an error is returned, and the text may have grown by a part of the lines.
+fn push_block(
+    out: &mut Vec<u8>,
+    message: &mut Message,
+    number: u64,
+    bytes: &[u8],
+) -> Result<bool, AllocError>
     ensures { IfOk result (λ good. PrintsBlock number (Some bytes.now) out.old.items out.new.items good) }
 {
     push_heading(out, number)?;
-    match decode(*out.allocator(), bytes) {
-        Ok(message) => {
-            push_message(out, &message)?;
+    match message.read_again(bytes) {
+        Ok(()) => {
+            push_message(out, message)?;
             Ok(true)
         }
         Err(fault) => {
@@ -143,4 +149,28 @@ pub fn push_block(out: &mut Vec<u8>, number: u64, bytes: &[u8]) -> Result<bool, 
             Ok(false)
         }
     }
+}
+
+/// The same, of a frame that is cut where there are no bytes.
+pub(crate) fn push_item(
+    out: &mut Vec<u8>,
+    message: &mut Message,
+    number: u64,
+    item: Option<&[u8]>,
+) -> Result<bool, AllocError>
+    ensures { IfOk result (λ good. PrintsBlock number (option_copied item.entry) out.old.items out.new.items good) }
+{
+    match item {
+        Some(bytes) => push_block(out, message, number, bytes),
+        None => push_cut(out, number),
+    }
+}
+
+/// Writes the lines of a frame that is cut.
+fn push_cut(out: &mut Vec<u8>, number: u64) -> Result<bool, AllocError>
+    ensures { IfOk result (λ good. PrintsBlock number None out.old.items out.new.items good) }
+{
+    push_heading(out, number)?;
+    push_fault(out, DecodeFault::Short)?;
+    Ok(false)
 }

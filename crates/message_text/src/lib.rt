@@ -3,10 +3,12 @@
 
 mod answer;
 mod block;
+mod fault;
 mod parts;
+mod sending;
 
-pub use answer::{Answer, decode_frames, decode_lines};
-pub use block::push_block;
+pub use answer::{decode_frames, decode_lines};
+pub use fault::PrintFault;
 
 #[cfg(test)]
 mod tests;

@@ -1,16 +1,21 @@
 use super::*;
+use card_digits::Counted;
 use std::test::*;
 
 /// Whether the input's lines are answered so.
-fn answers(rt: &HostRuntime, input: &str, text: &str, status: u8) -> Result<bool, Fail> {
-    let answer = decode_lines(rt.alloc(), input.as_bytes())?;
-    Ok(answer.text.as_slice() == text.as_bytes() && answer.status() == status)
+fn answers(rt: &HostRuntime, input: &str, text: &str, good: bool) -> Result<bool, Fail> {
+    let mut written: Vec<u8> = Vec::new(rt.alloc());
+    let mut writer = Counted::writer(&mut written);
+    let ended = decode_lines(rt.alloc(), input.as_bytes(), &mut writer);
+    Ok(ended == Ok(good) && written.as_slice() == text.as_bytes())
 }
 
 /// Whether the input's frames are answered so.
-fn answers_frames(rt: &HostRuntime, input: &[u8], text: &str, status: u8) -> Result<bool, Fail> {
-    let answer = decode_frames(rt.alloc(), input)?;
-    Ok(answer.text.as_slice() == text.as_bytes() && answer.status() == status)
+fn answers_frames(rt: &HostRuntime, input: &[u8], text: &str, good: bool) -> Result<bool, Fail> {
+    let mut written: Vec<u8> = Vec::new(rt.alloc());
+    let mut writer = Counted::writer(&mut written);
+    let ended = decode_frames(rt.alloc(), input, &mut writer);
+    Ok(ended == Ok(good) && written.as_slice() == text.as_bytes())
 }
 
 const REQUEST: &str =
@@ -30,9 +35,9 @@ type 0100
 
 #[test]
 fn one_message(rt: HostRuntime) -> Result<(), Fail> {
-    assert!(rt; answers(&rt, REQUEST, REQUEST_LINES, 0)?);
-    assert!(rt; answers(&rt, "", "", 0)?);
-    assert!(rt; answers(&rt, "\n", "message 1\nfault message 1 short\n", 2)?);
+    assert!(rt; answers(&rt, REQUEST, REQUEST_LINES, true)?);
+    assert!(rt; answers(&rt, "", "", true)?);
+    assert!(rt; answers(&rt, "\n", "message 1\nfault message 1 short\n", false)?);
     Ok(())
 }
 
@@ -41,7 +46,7 @@ fn two_messages(rt: HostRuntime) -> Result<(), Fail> {
     let alloc = rt.alloc();
     let input = format!(in alloc; "{REQUEST}\n02000000000000000000\n")?;
     let text = format!(in alloc; "{REQUEST_LINES}message 2\nfault message 2 type\n")?;
-    assert!(rt; answers(&rt, &input, &text, 2)?);
+    assert!(rt; answers(&rt, &input, &text, false)?);
     Ok(())
 }
 
@@ -50,13 +55,13 @@ fn frames(rt: HostRuntime) -> Result<(), Fail> {
     let alloc = rt.alloc();
     let mut input = Vec::from_slice(alloc, &[0x00, 0x53])?;
     input.extend_from_slice(REQUEST.as_bytes())?;
-    assert!(rt; answers_frames(&rt, &input, REQUEST_LINES, 0)?);
+    assert!(rt; answers_frames(&rt, &input, REQUEST_LINES, true)?);
     input.extend_from_slice(&[0x00, 0x05, 0x30])?;
     let text = format!(in alloc; "{REQUEST_LINES}message 2\nfault message 1 short\n")?;
-    assert!(rt; answers_frames(&rt, &input, &text, 2)?);
-    assert!(rt; answers_frames(&rt, b"", "", 0)?);
-    assert!(rt; answers_frames(&rt, &[0x00], "message 1\nfault message 1 short\n", 2)?);
-    assert!(rt; answers_frames(&rt, &[0x00, 0x00], "message 1\nfault message 1 short\n", 2)?);
+    assert!(rt; answers_frames(&rt, &input, &text, false)?);
+    assert!(rt; answers_frames(&rt, b"", "", true)?);
+    assert!(rt; answers_frames(&rt, &[0x00], "message 1\nfault message 1 short\n", false)?);
+    assert!(rt; answers_frames(&rt, &[0x00, 0x00], "message 1\nfault message 1 short\n", false)?);
     Ok(())
 }
 
@@ -76,7 +81,7 @@ fn faults(rt: HostRuntime) -> Result<(), Fail> {
     for line in FAULTS.lines() {
         let (input, words) = line.split_once(' ').unwrap_or(("", line));
         let text = format!(in alloc; "message 1\nfault message {words}\n")?;
-        assert!(rt; answers(&rt, input, &text, 2)?, "{line}");
+        assert!(rt; answers(&rt, input, &text, false)?, "{line}");
     }
     Ok(())
 }
@@ -88,7 +93,7 @@ fn values(rt: HostRuntime) -> Result<(), Fail> {
             &rt,
             "01000000000100001000000123456789abcdef",
             "message 1\ntype 0100\n32 \n52 0123456789ABCDEF\n",
-            0
+            true
         )?
     );
     Ok(())

@@ -1,10 +1,12 @@
 use Rattle.std.proofs.Common.{◌≡◌, ◌++◌, drop}
 use Rattle.iso_message.specs.Made.{kept}
-use Rattle.iso_message.specs.Spans.{seen, AreWithin}
+use Rattle.iso_message.specs.Spans.{seen, AreWithin, IsCopied}
 use Rattle.iso_message.proofs.elements.copy_kept.Given as goal
 
-abbrev pub invariant-loop-span : goal.invariant-loop-span
-invariant-loop-span l = record {
-  within : AreWithin l.values (drop l.span-index l.spans);
-  so_far : l.elements ++ kept l.numbers (seen l.values (drop l.span-index l.spans)) ≡ l.fn.elements ++ kept l.numbers (seen l.values l.spans);
+abbrev pub invariant-loop-place : goal.invariant-loop-place
+invariant-loop-place l = record {
+  later : AreWithin l.values (drop l.place l.spans);
+  copied : IsCopied l.values l.copies.items l.run;
+  within : AreWithin l.copies.items l.kept_spans.items;
+  so_far : seen l.copies.items l.kept_spans.items ++ kept l.numbers (seen l.values (drop l.place l.spans)) ≡ kept l.numbers (seen l.values l.spans);
 }

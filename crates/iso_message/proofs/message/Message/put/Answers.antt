@@ -2,8 +2,11 @@ use Rattle.std.proofs.Common.{ap}
 use Rattle.std.proofs.Math.Facts.{Fits-lt-pow}
 use Rattle.std.proofs.lemmas.Result.{on_ok_weaker}
 use Rattle.iso_message.specs.Fields.{Fields, set_element}
-use Rattle.iso_message.proofs.MessageLemmas.{put_stays, either}
+use Rattle.iso_message.proofs.MessageLemmas.{put_stays, either, settable}
 use Rattle.iso_message.proofs.message.Message.put.Goals as goal
+
+pub put-requires : goal.put-requires
+put-requires c = record { good = (settable c.args.number c.args.value.now (λ i. Fits-lt-pow (c.type_inv.value i)) c.requires).2 }
 
 pub invariant_of-self : goal.invariant_of-self
 invariant_of-self c =

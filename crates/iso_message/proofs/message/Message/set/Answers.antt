@@ -6,6 +6,9 @@ use Rattle.iso_message.specs.Fields.{Fields, set_element}
 use Rattle.iso_message.proofs.MessageLemmas.{settable, ascends_put, good_put}
 use Rattle.iso_message.proofs.message.Message.set.Goals as goal
 
+pub put-requires : goal.put-requires
+put-requires c = record { good = (settable c.args.number c.args.value.now (λ i. Fits-lt-pow (c.type_inv.value i)) (sym c.in-None.ensures)).2 }
+
 pub invariant_of-self-in-None : goal.invariant_of-self-in-None
 invariant_of-self-in-None c =
     let n = c.args.number in

@@ -5,8 +5,8 @@ use Rattle.iso_message.specs.Spelling.{pieces}
 use Rattle.iso_message.proofs.Finding.{within_at}
 use Rattle.iso_message.proofs.MessageLemmas.{any}
 use Rattle.iso_message.proofs.Together.{piece_of, pieces_at, good_at, written_alone, waits_anew, waits_too}
-use Rattle.iso_message.proofs.elements.push_together.Goals as goal
-use Rattle.iso_message.proofs.elements.push_together.Goals.{then-text-end+in_ok-push_part+in_ok-push_piece, else-text-end+then-text-to+in_ok-push_part-2, else-text-end+else-text-to}
+use Rattle.iso_message.proofs.elements.push_pieces.Goals as goal
+use Rattle.iso_message.proofs.elements.push_pieces.Goals.{then-text-end+in_ok-push_part+in_ok-push_piece, else-text-end+then-text-to+in_ok-push_part-2, else-text-end+else-text-to}
 
 pub loop-span-preserved : goal.loop-span-preserved
 loop-span-preserved c =

@@ -2,7 +2,7 @@ use Rattle.std.proofs.Common.{◌≡◌, ◌≤◌, ◌++◌, drop, length}
 use Rattle.std.specs.Prelude.{slice_range}
 use Rattle.iso_message.specs.Spans.{seen, AreWithin}
 use Rattle.iso_message.specs.Spelling.{AreGood, pieces}
-use Rattle.iso_message.proofs.elements.push_together.Given as goal
+use Rattle.iso_message.proofs.elements.push_pieces.Given as goal
 
 abbrev pub invariant-loop-span : goal.invariant-loop-span
 invariant-loop-span l = record {

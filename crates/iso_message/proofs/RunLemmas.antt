@@ -1,0 +1,60 @@
+-- Elements in a copied part of a buffer.
+use Rattle.std.proofs.Common.{◌≡◌, ℕ, zero, suc, Some, None, ◌+◌, ◌-◌, ◌≤◌, ◌<◌, List, [], ◌∷◌, ◌++◌, length, take, drop, true, false, ltb, refl, sym, ap, subst, ◌∙◌, arith, inl, inr}
+use Rattle.std.specs.Prelude.{slice_range, slice_get}
+use Rattle.std.proofs.lemmas.Bool.{cases_Bool, ltb-true, ltb-false}
+use Rattle.std.proofs.lemmas.List.{drop-drop, take-take, drop-take}
+use Rattle.iso_message.specs.declared.elements.Span.{Span}
+use Rattle.iso_message.specs.declared.elements.Run.{Run}
+use Rattle.iso_message.specs.Table.{form_of}
+use Rattle.iso_message.specs.Spelling.{piece}
+use Rattle.iso_message.specs.Spans.{shown, seen, IsWithin, AreWithin, IsInRun, moved, moved_place, IsCopied}
+
+-- a part of a part is a part
+part_of_part : (xs : List ℕ) (k n a m : ℕ) → a + m ≤ n → take m (drop a (take n (drop k xs))) ≡ take m (drop (k + a) xs)
+part_of_part xs k n a m le =
+    let split : n ≡ a + (n - a) = omega (arith, le) in
+    ap (λ z. take m (drop a (take z (drop k xs)))) split
+    ∙ ap (take m) (drop-take a (n - a) (drop k xs))
+    ∙ take-take m (n - a) (drop a (drop k xs)) (omega (arith, le))
+    ∙ ap (take m) (drop-drop a k xs)
+
+pub moved_range : (values copies : List ℕ) (run : Run) (i j : ℕ) → IsCopied values copies run → run.from ≤ i → i ≤ j → j ≤ run.to → slice_range copies (moved_place run i) (moved_place run j) ≡ slice_range values i j
+moved_range values copies run i j c at order to =
+    let n = run.to - run.from in
+    let a = i - run.from in
+    let m = j - i in
+    let size : moved_place run run.to - run.copy ≡ n = omega arith in
+    let same : take n (drop run.copy copies) ≡ take n (drop run.from values) = ap (λ z. take z (drop run.copy copies)) (sym size) ∙ IsCopied.same c in
+    let few : a + m ≤ n = omega (arith, at, order, to) in
+    let long : moved_place run j - moved_place run i ≡ m = omega (arith, at, order) in
+    let back : run.from + a ≡ i = omega (arith, at) in
+    ap (λ z. take z (drop (moved_place run i) copies)) long
+    ∙ sym (part_of_part copies run.copy n a m few)
+    ∙ ap (λ z. take m (drop a z)) same
+    ∙ part_of_part values run.from n a m few
+    ∙ ap (λ z. take m (drop z values)) back
+
+pub moved_shows : (values copies : List ℕ) (run : Run) (s : Span) → IsCopied values copies run → IsInRun run s → IsWithin values s → shown copies (moved run s) ≡ shown values s
+moved_shows values copies run s c r w = ap (λ (v : List ℕ). (s.number, v)) (moved_range values copies run s.start s.end c (IsInRun.start r) (IsWithin.order w) (IsInRun.end r))
+
+pub moved_within : (values copies : List ℕ) (run : Run) (s : Span) → IsCopied values copies run → IsInRun run s → IsWithin values s → IsWithin copies (moved run s)
+moved_within values copies run s c r w =
+    let bytes = moved_range values copies run s.start s.end c (IsInRun.start r) (IsWithin.order w) (IsInRun.end r) in
+    record {
+      order = omega (arith, IsInRun.start r, IsWithin.order w);
+      inside = omega (arith, IsInRun.end r, IsInRun.start r, IsWithin.order w, IsCopied.there c, IsCopied.order c);
+      spelled = elim (cases_Bool (ltb s.text s.end)) [
+        | inl t ↦ rw t (λ lt. moved_range values copies run s.text s.end c (IsInRun.text r) (omega (arith, ltb-true s.text s.end t)) (IsInRun.end r) ∙ IsWithin.spelled w (ltb-true s.text s.end t) ∙ ap (piece (form_of s.number)) (sym bytes))
+        | inr f ↦ rw f (λ lt. absurd (omega (arith, lt)))
+      ];
+    }
+
+pub within_drop : (values : List ℕ) (spans : List Span) (i : ℕ) → AreWithin values spans → AreWithin values (drop i spans)
+within_drop values spans zero w = w
+within_drop values [] (suc i) w = tt
+within_drop values (s ∷ ss) (suc i) w = within_drop values ss i w.1
+
+pub within_got : (values : List ℕ) (spans : List Span) (i : ℕ) (s : Span) → AreWithin values spans → slice_get spans i ≡ Some s → IsWithin values s
+within_got values [] i s w e = absurd (let wrong : None ≡ Some s = e in cc)
+within_got values (x ∷ xs) zero s w e = let same : x ≡ s = cc in subst (IsWithin values) same w.0
+within_got values (x ∷ xs) (suc i) s w e = within_got values xs i s w.1 e

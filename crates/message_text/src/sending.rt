@@ -1,0 +1,115 @@
+//! Blocks on their way to a writer.
+ghost use Rattle.std.specs.Prelude.{◌≡◌, ◌<◌, ◌++◌, [], OnOk, OnErr, IfOk, Err};
+ghost use Rattle.std.specs.Option.{option_copied};
+ghost use Rattle.std.specs.Io.KnownBytes.{Appends};
+ghost use Rattle.card_digits.specs.Stream.{AppendsFront};
+ghost use Rattle.iso_message.specs.declared.fault.DecodeFault.TheVariants.{Memory};
+ghost use Rattle.message_text.specs.Printed.{block, Sends, SendsBlock, SendsFront};
+
+use crate::block::push_item;
+use card_digits::{Sink, WriteFault, write_all};
+use iso_message::{Kind, Message};
+use itoa::Buffer;
+use std::alloc::{AllocError, Global};
+
+/// From so many bytes on, what waits is written.
+const MOST_WAITING: usize = 65_536;
+
+/// What waits to be written, and the memory in which a message is read and printed.
+#[derive(Drop)]
+pub(crate) struct Buffers {
+    pub waiting: Vec<u8>,
+    text: Vec<u8>,
+    message: Message,
+}
+
+impl Buffers {
+    pub(crate) fn new(alloc: Global) -> Result<Buffers, AllocError>
+        ensures { IfOk result (λ b. b.waiting.items ≡ []) }
+    {
+        Ok(Buffers {
+            waiting: Vec::with_capacity(alloc, MOST_WAITING)?,
+            text: Vec::new(alloc),
+            message: Message::new(alloc, Kind::K0100),
+        })
+    }
+
+    /// Prints the block of a message, of a frame that is cut where it has no bytes, behind what waits, and says whether it has no
+    /// fault. Where memory is refused the block names that.
+    pub(crate) fn add<W: Sink>(
+        &mut self,
+        writer: &mut W,
+        number: u64,
+        item: Option<&[u8]>,
+    ) -> Result<bool, WriteFault>
+        ensures ok { IfOk result (SendsBlock number (option_copied item.entry) (W.written writer.old) (W.written writer.new) self.old.waiting.items self.new.waiting.items) }
+        ensures err { OnErr result (SendsFront number (option_copied item.entry) (W.written writer.old) (W.written writer.new) self.old.waiting.items) }
+        ensures failed { OnErr result (0 < W.failures writer.new) }
+    {
+        self.text.clear();
+        match push_item(&mut self.text, &mut self.message, number, item) {
+            Ok(good) => {
+                add_text(writer, &mut self.waiting, &self.text)?;
+                Ok(good)
+            }
+            Err(_) => {
+                send_memory(writer, &mut self.waiting, number)?;
+                Ok(false)
+            }
+        }
+    }
+}
+
+/// Writes what waits.
+pub(crate) fn send<W: Sink>(writer: &mut W, waiting: &mut Vec<u8>) -> Result<(), WriteFault>
+    ensures sent { OnOk result (Appends (W.written writer.old) (W.written writer.new) waiting.old.items) }
+    ensures none { OnOk result (waiting.new.items ≡ []) }
+    ensures err { OnErr result (AppendsFront (W.written writer.old) (W.written writer.new) waiting.old.items) }
+    ensures failed { OnErr result (0 < W.failures writer.new) }
+{
+    write_all(writer, waiting)?;
+    waiting.clear();
+    Ok(())
+}
+
+/// Writes what waits, and a text behind it.
+fn send_with<W: Sink>(writer: &mut W, waiting: &mut Vec<u8>, text: &[u8]) -> Result<(), WriteFault>
+    ensures sent { OnOk result (Appends (W.written writer.old) (W.written writer.new) (waiting.old.items ++ text.now)) }
+    ensures none { OnOk result (waiting.new.items ≡ []) }
+    ensures err { OnErr result (AppendsFront (W.written writer.old) (W.written writer.new) (waiting.old.items ++ text.now)) }
+    ensures failed { OnErr result (0 < W.failures writer.new) }
+{
+    send(writer, waiting)?;
+    write_all(writer, text)
+}
+
+/// Adds a text to what waits, which is written where it is long, or where there is no memory for more.
+fn add_text<W: Sink>(writer: &mut W, waiting: &mut Vec<u8>, text: &[u8]) -> Result<(), WriteFault>
+    ensures ok { OnOk result (Sends (W.written writer.old) (W.written writer.new) waiting.old.items text.now waiting.new.items) }
+    ensures err { OnErr result (AppendsFront (W.written writer.old) (W.written writer.new) (waiting.old.items ++ text.now)) }
+    ensures failed { OnErr result (0 < W.failures writer.new) }
+{
+    if waiting.extend_from_slice(text).is_err() {
+        return send_with(writer, waiting, text);
+    }
+    if waiting.len() < MOST_WAITING {
+        return Ok(());
+    }
+    send(writer, waiting)
+}
+
+/// Writes what waits, and behind it the block of a message for which memory was refused. It takes no memory.
+fn send_memory<W: Sink>(
+    writer: &mut W,
+    waiting: &mut Vec<u8>,
+    number: u64,
+) -> Result<(), WriteFault>
+    ensures ok { OnOk result (Sends (W.written writer.old) (W.written writer.new) waiting.old.items (block number (Err Memory)) waiting.new.items) }
+    ensures err { OnErr result (AppendsFront (W.written writer.old) (W.written writer.new) (waiting.old.items ++ block number (Err Memory))) }
+    ensures failed { OnErr result (0 < W.failures writer.new) }
+{
+    let mut digits = Buffer::new();
+    send_with(writer, waiting, b"message ")?;
+    write_all(writer, digits.format(number).as_bytes())?;
+    write_all(writer, b"\nfault message 8 memory\n")
+}
