@@ -149,18 +149,15 @@ fn encode_rounds_in_place(
     Ok(written)
 }
 
-/// The bytes of the responses to so many rounds of a thousand messages.
-fn answer_rounds(alloc: Global, message: &Message, rounds: u32) -> Result<usize, AllocError> {
-    let mut out = Vec::new(alloc);
-    let mut written: usize = 0;
+/// The elements of the responses to so many rounds of a thousand messages.
+fn answer_rounds(message: &Message, rounds: u32) -> Result<usize, AllocError> {
+    let mut elements: usize = 0;
     for _ in 0..rounds {
         for _ in 0..FRAMES {
-            out.clear();
-            encode_into(&mut out, &message.response(Code::new(*b"00"))?)?;
-            written = written.wrapping_add(out.len());
+            elements = elements.wrapping_add(message.response(Code::new(*b"00"))?.len());
         }
     }
-    Ok(written)
+    Ok(elements)
 }
 
 /// Does all of it on a message that was made by setting its elements, and on its frames.
@@ -190,7 +187,7 @@ fn measure(rt: &HostRuntime, message: &Message, rounds: u32) -> io::Result<(Coun
     let made_bytes = encode_rounds(alloc, message, rounds)?;
     let made = start.elapsed(rt)?.as_micros();
     let start = Instant::now(rt)?;
-    let answered_bytes = answer_rounds(alloc, &place, rounds)?;
+    let answers = answer_rounds(&place, rounds)?;
     let answered = start.elapsed(rt)?.as_micros();
     let counts = Counts {
         elements,
@@ -198,7 +195,7 @@ fn measure(rt: &HostRuntime, message: &Message, rounds: u32) -> io::Result<(Coun
         written,
         written_in_place,
         made: made_bytes,
-        answered: answered_bytes,
+        answered: answers,
     };
     let times = Times {
         decoded,
@@ -229,7 +226,7 @@ fn report(
         answered,
     } = counts;
     println!(rt;
-        "{name}: {elements} elements read, {elements_in_place} in place; {written} bytes written, {written_in_place} in place, {made} of a made message, {answered} of responses"
+        "{name}: {elements} elements read, {elements_in_place} in place; {written} bytes written, {written_in_place} in place, {made} of a made message; {answered} elements answered"
     )?;
     if timed {
         let Times {
@@ -241,7 +238,7 @@ fn report(
             answered,
         } = times;
         println!(rt;
-            "{name}, microseconds for {rounds} thousand messages: decode {decoded}, in place {decoded_in_place}, encode {encoded}, in place {encoded_in_place}, made {made}, response and encode {answered}"
+            "{name}, microseconds for {rounds} thousand messages: decode {decoded}, in place {decoded_in_place}, encode {encoded}, in place {encoded_in_place}, made {made}, response {answered}"
         )?;
     }
     Ok(())

@@ -14,3 +14,4 @@ pub mod Made
 pub mod Frames
 pub mod Known
 pub mod Parts
+pub mod Carried

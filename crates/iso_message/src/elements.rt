@@ -2,6 +2,7 @@
 ghost use Rattle.std.specs.Prelude.{◌≡◌, ◌≤◌, [], ◌∷◌, ◌++◌, length, map, OnOk, OnErr, IfOk, IsTrue, ◌↔◌, MatchOption, MatchResult, Some, slice_set, slice_get, slice_range, insert, drop, ◌<◌, ◌+◌, ◌^◌, if◌then◌else◌};
 ghost use Rattle.iso_message.specs.Finding.{find_element, put, without};
 ghost use Rattle.iso_message.specs.Made.{kept};
+ghost use Rattle.iso_message.specs.Carried.{carried_numbers};
 ghost use Rattle.iso_message.specs.Spelling.{Ascends, IsGood, AreGood, bits, low_numbers, high_numbers, pieces, is_binary};
 ghost use Rattle.iso_message.specs.Table.{form_of};
 ghost use Rattle.iso_message.specs.Spans.{seen, IsWithin, AreWithin, IsLonger, placed, numbers, IsInRun, moved, moved_place, IsCopied};
@@ -9,6 +10,7 @@ ghost use Rattle.iso_message.specs.declared.elements.Span.{Span};
 
 mod parts;
 
+use crate::carried::Carried;
 use crate::writing::{is_binary, push_length, push_piece};
 pub(crate) use parts::Parts;
 use std::alloc::{AllocError, Global};
@@ -78,6 +80,9 @@ const MORE_ELEMENTS: usize = 3;
 
 /// The bytes of their pieces.
 const MORE_BYTES: usize = 13 + 2 + 42;
+
+/// The bytes of a buffer that is copied whole sooner than piece by piece.
+const SMALL: usize = 512;
 
 /// Numbers and their bytes, in the order of adding.
 #[derive(Debug, Drop)]
@@ -180,14 +185,20 @@ impl Elements {
         self.spans.retain(|span| span.number != number);
     }
 
-    /// A copy of the elements of these numbers, with room for a few more. What touches in the buffer is copied together.
-    pub(crate) fn kept(&self, numbers: &[u8]) -> Result<Elements, AllocError>
-        ensures { IfOk result (λ es. es ≡ kept numbers.now self.now) }
+    /// A copy of the elements that are carried on, with room for a few more. A small buffer is copied whole; of a large one only
+    /// what they need, and what touches in it together.
+    pub(crate) fn kept(&self, carried: Carried) -> Result<Elements, AllocError>
+        ensures { IfOk result (λ es. es ≡ kept (carried_numbers carried) self.now) }
     {
         let alloc = self.allocator();
         let mut spans = Vec::with_capacity(alloc, self.spans.len().saturating_add(MORE_ELEMENTS))?;
         let mut values = Vec::with_capacity(alloc, self.values.len().saturating_add(MORE_BYTES))?;
-        copy_kept(&self.spans, &self.values, numbers, &mut spans, &mut values)?;
+        if self.values.len() <= SMALL {
+            values.extend_from_slice(&self.values)?;
+            keep_spans(&self.spans, &self.values, carried, &mut spans)?;
+        } else {
+            copy_kept(&self.spans, &self.values, carried, &mut spans, &mut values)?;
+        }
         Ok(Elements { spans, values })
     }
 
@@ -262,6 +273,26 @@ fn element_at<'a>(spans: &[Span], values: &'a [u8], place: usize) -> (u8, &'a [u
     (span.number, &values[span.start as usize..span.end as usize])
 }
 
+/// Adds the spans of the elements that are carried on to none.
+fn keep_spans(
+    spans: &[Span],
+    values: &[u8],
+    carried: Carried,
+    kept_spans: &mut Vec<Span>,
+) -> Result<(), AllocError>
+    requires within { AreWithin values.now spans.now }
+    requires none { kept_spans.old.items ≡ [] }
+    ensures within { OnOk result (AreWithin values.now kept_spans.new.items) }
+    ensures kept { OnOk result (seen values.now kept_spans.new.items ≡ kept (carried_numbers carried) (seen values.now spans.now)) }
+{
+    for span in spans {
+        if carried.has(span.number) {
+            kept_spans.push(*span)?;
+        }
+    }
+    Ok(())
+}
+
 /// A part of a buffer, and where its copy stands in another.
 #[derive(Clone, Copy, Debug)]
 struct Run {
@@ -305,8 +336,8 @@ impl Run {
     }
 }
 
-/// Where the pieces of these numbers end that stand one behind the other, of which an element's is the first.
-fn run_end(spans: &[Span], values: &[u8], numbers: &[u8], place: usize, first: Span) -> usize
+/// Where the pieces that are carried on end that stand one behind the other, of which an element's is the first.
+fn run_end(spans: &[Span], values: &[u8], carried: Carried, place: usize, first: Span) -> usize
     requires within { AreWithin values.now spans.now }
     requires at { slice_get spans.now place ≡ Some first }
     ensures end { first.end ≤ result }
@@ -316,7 +347,7 @@ fn run_end(spans: &[Span], values: &[u8], numbers: &[u8], place: usize, first: S
     for i in place + 1..spans.len() {
         let next = spans[i];
         let touches = next.text == end && next.text < next.end;
-        if !touches || !numbers.contains(&next.number) {
+        if !touches || !carried.has(next.number) {
             return end as usize;
         }
         end = next.end;
@@ -324,11 +355,11 @@ fn run_end(spans: &[Span], values: &[u8], numbers: &[u8], place: usize, first: S
     end as usize
 }
 
-/// Copies the part of a buffer that begins with an element and goes as far as the pieces of these numbers touch.
+/// Copies the part of a buffer that begins with an element and goes as far as the pieces that are carried on touch.
 fn copy_run(
     spans: &[Span],
     values: &[u8],
-    numbers: &[u8],
+    carried: Carried,
     place: usize,
     first: Span,
     copies: &mut Vec<u8>,
@@ -340,7 +371,7 @@ fn copy_run(
     ensures more { OnOk result (IsLonger copies.old.items copies.new.items) }
 {
     let from = first.text.min(first.start) as usize;
-    let to = run_end(spans, values, numbers, place, first);
+    let to = run_end(spans, values, carried, place, first);
     let copy = copies.len();
     copies.extend_from_slice(&values[from..to])?;
     Ok(Run { from, to, copy })
@@ -351,7 +382,7 @@ fn run_with(
     run: Run,
     spans: &[Span],
     values: &[u8],
-    numbers: &[u8],
+    carried: Carried,
     place: usize,
     span: Span,
     copies: &mut Vec<u8>,
@@ -366,21 +397,21 @@ fn run_with(
     if run.has(span) {
         return Ok(run);
     }
-    copy_run(spans, values, numbers, place, span, copies)
+    copy_run(spans, values, carried, place, span, copies)
 }
 
-/// Adds the elements with these numbers to a buffer that has none.
+/// Adds the elements that are carried on to a buffer that has none.
 fn copy_kept(
     spans: &[Span],
     values: &[u8],
-    numbers: &[u8],
+    carried: Carried,
     kept_spans: &mut Vec<Span>,
     copies: &mut Vec<u8>,
 ) -> Result<(), AllocError>
     requires within { AreWithin values.now spans.now }
     requires none { kept_spans.old.items ≡ [] }
     ensures within { OnOk result (AreWithin copies.new.items kept_spans.new.items) }
-    ensures kept { OnOk result (seen copies.new.items kept_spans.new.items ≡ kept numbers.now (seen values.now spans.now)) }
+    ensures kept { OnOk result (seen copies.new.items kept_spans.new.items ≡ kept (carried_numbers carried) (seen values.now spans.now)) }
 {
     let mut run = Run {
         from: 0,
@@ -389,8 +420,8 @@ fn copy_kept(
     };
     for place in 0..spans.len() {
         let span = spans[place];
-        if numbers.contains(&span.number) {
-            let found = run_with(run, spans, values, numbers, place, span, copies)?;
+        if carried.has(span.number) {
+            let found = run_with(run, spans, values, carried, place, span, copies)?;
             kept_spans.push(found.moved(span)?)?;
             run = found;
         }

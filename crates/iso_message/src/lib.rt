@@ -1,6 +1,7 @@
 //! Messages of the form of ISO 8583:1987: their codec, and what nodes know them by and make of them.
 #![tactic(auto)]
 
+mod carried;
 mod code;
 mod elements;
 mod fault;

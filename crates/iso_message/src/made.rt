@@ -4,19 +4,15 @@ ghost use Rattle.iso_message.specs.Table.{form_of};
 ghost use Rattle.iso_message.specs.Elements.{set_fault};
 ghost use Rattle.iso_message.specs.Keys.{has_own_key};
 ghost use Rattle.iso_message.specs.Made.{response, made_stand_in, made_reversal, made_from, kept, original_data};
+ghost use Rattle.iso_message.specs.Carried.{carried_numbers};
 
+use crate::carried::Carried;
 use crate::code::Code;
 use crate::keys::bytes_of;
 use crate::kind::Kind;
 use crate::message::Message;
 use card_digits::pad11;
 use std::alloc::AllocError;
-
-/// The elements that a response carries of its message.
-const RESPONSE_NUMBERS: [u8; 12] = [2, 3, 4, 7, 11, 15, 32, 33, 37, 41, 49, 90];
-
-/// The elements that an advice carries of its request.
-const ADVICE_NUMBERS: [u8; 10] = [2, 3, 4, 7, 11, 15, 32, 37, 41, 49];
 
 impl Message {
     /// The response to the message with a code: card number, amounts, times, trace number, institutions, terminal and element
@@ -25,7 +21,7 @@ impl Message {
     pub fn response(&self, code: Code) -> Result<Message, AllocError>
         ensures { IfOk result (λ m. m ≡ response self.now code) }
     {
-        let mut response = self.kept(self.kind().response(), &RESPONSE_NUMBERS)?;
+        let mut response = self.kept(self.kind().response(), Carried::Response)?;
         response.put(39, code.as_slice())?;
         Ok(response)
     }
@@ -60,17 +56,17 @@ impl Message {
         requires { set_fault (form_of 33) 33 id.now ≡ None }
         ensures { IfOk result (λ m. m ≡ made_from kind self.now id.now code) }
     {
-        let mut advice = self.kept(kind, &ADVICE_NUMBERS)?;
+        let mut advice = self.kept(kind, Carried::Advice)?;
         advice.put(33, id)?;
         advice.put(39, code.as_slice())?;
         Ok(advice)
     }
 
-    /// A message of the type with those elements that have these numbers.
-    fn kept(&self, kind: Kind, numbers: &[u8]) -> Result<Message, AllocError>
-        ensures { IfOk result (λ m. m ≡ record { kind = kind; elements = kept numbers.now self.now.elements }) }
+    /// A message of the type with those elements that are carried on.
+    fn kept(&self, kind: Kind, carried: Carried) -> Result<Message, AllocError>
+        ensures { IfOk result (λ m. m ≡ record { kind = kind; elements = kept (carried_numbers carried) self.now.elements }) }
     {
-        let elements = self.elements.kept(numbers)?;
+        let elements = self.elements.kept(carried)?;
         Ok(Message { kind, elements })
     }
 }

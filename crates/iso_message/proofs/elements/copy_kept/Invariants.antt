@@ -1,5 +1,6 @@
 use Rattle.std.proofs.Common.{◌≡◌, ◌++◌, drop}
 use Rattle.iso_message.specs.Made.{kept}
+use Rattle.iso_message.specs.Carried.{carried_numbers}
 use Rattle.iso_message.specs.Spans.{seen, AreWithin, IsCopied}
 use Rattle.iso_message.proofs.elements.copy_kept.Given as goal
 
@@ -8,5 +9,5 @@ invariant-loop-place l = record {
   later : AreWithin l.values (drop l.place l.spans);
   copied : IsCopied l.values l.copies.items l.run;
   within : AreWithin l.copies.items l.kept_spans.items;
-  so_far : seen l.copies.items l.kept_spans.items ++ kept l.numbers (seen l.values (drop l.place l.spans)) ≡ kept l.numbers (seen l.values l.spans);
+  so_far : seen l.copies.items l.kept_spans.items ++ kept (carried_numbers l.carried) (seen l.values (drop l.place l.spans)) ≡ kept (carried_numbers l.carried) (seen l.values l.spans);
 }
