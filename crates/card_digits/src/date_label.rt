@@ -39,7 +39,8 @@ impl DateLabel {
 
     /// The digits in order, as numbers.
     pub fn digits(&self) -> &[u8]
-        ensures { result.now ≡ self.now }
+        ensures digits { result.now ≡ self.now }
+        ensures form { IsDateLabel result.now }
     {
         self.digits.as_slice()
     }

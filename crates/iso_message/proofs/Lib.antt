@@ -19,3 +19,4 @@ pub mod KnownLemmas
 pub mod PartLemmas
 pub mod Together
 pub mod RunLemmas
+pub mod AmountLemmas

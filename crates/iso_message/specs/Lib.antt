@@ -9,6 +9,7 @@ pub mod Messages
 pub mod Grammar
 pub mod Spelling
 pub mod Keys
+pub mod Amounts
 pub mod Codes
 pub mod Made
 pub mod Frames

@@ -1,6 +1,7 @@
 //! Messages of the form of ISO 8583:1987: their codec, and what nodes know them by and make of them.
 #![tactic(auto)]
 
+mod amount;
 mod carried;
 mod code;
 mod elements;
@@ -16,6 +17,7 @@ mod reading;
 mod runs;
 mod writing;
 
+pub use amount::actual_amount;
 pub use code::Code;
 pub use fault::DecodeFault;
 pub use form::{Class, Form};

@@ -1,10 +1,10 @@
 //! Keys, identities, responses and advices of the request.
 
 use crate::fixtures::{M, is_spelled, read};
-use card_digits::Key;
+use card_digits::{Amount, Key};
 use iso_message::{
-    AdviceId, AdviceKind, Code, Kind, advice_id, code_of, has_own_key, key_of, original_key,
-    same_content, value_fault,
+    AdviceId, AdviceKind, Code, Kind, actual_amount, advice_id, code_of, has_own_key, key_of,
+    original_key, same_content, value_fault,
 };
 use std::test::*;
 
@@ -41,6 +41,18 @@ fn key_of_a_reversal(rt: HostRuntime) -> Result<(), Fail> {
         forwarder: *b"00000001001",
     };
     assert!(rt; advice_id(&message) == Some(id));
+    Ok(())
+}
+
+#[test]
+fn actual_amount_of_a_reversal(rt: HostRuntime) -> Result<(), Fail> {
+    let mut message = read(&rt, M)?;
+    message.set_kind(Kind::K0400);
+    assert!(rt; actual_amount(&message).is_none());
+    message.set(95, b"000000000400000000000000C00000000C00000000")?;
+    assert!(rt; actual_amount(&message) == Some(Amount::new(400)));
+    message.set(95, b"00000000 400000000000000C00000000C00000000")?;
+    assert!(rt; actual_amount(&message).is_none());
     Ok(())
 }
 

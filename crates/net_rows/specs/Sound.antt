@@ -1,4 +1,5 @@
--- What holds of the rows of every network that is built: what they point to is there.
+-- What holds of the rows of every network that is built: ends of links and gates of acquirers are nodes of it, and the links of a
+-- route are links at the route's node. Of homes, named nodes and the nodes of stand-in rows nothing is said.
 use Rattle.std.specs.Prelude.{◌≡◌, ℕ, ◌<◌, ◌≤◌, ◌==◌, ◌||◌, Bool, true, false, List, length, slice_get}
 use Rattle.std.specs.List.{AllByRecursion, list_all}
 use Rattle.std.specs.Option.{option_map_or}

@@ -5,7 +5,7 @@ use Rattle.std.proofs.lemmas.Option.{same_Some}
 use Rattle.card_digits.specs.Numbers.{decimal}
 use Rattle.net_rows.specs.Network.{Network, other_end, day}
 use Rattle.network_law.specs.Tables.{is_attached, single}
-use Rattle.network_law.specs.Grants.{Packet}
+use Rattle.network_law.specs.declared.grant.GrantPacket.{GrantPacket}
 use Rattle.network_law.specs.Traces.{Source, Gate, ByLink, ReadInput, Enter, Take, ReadOutput, Put, Ask, Post, PutPacket, Event, In, Out, History, Opening, opening, answer, answers, sent, Has}
 use Rattle.network_law.specs.Decision.{limit, decide, reply_output, sent_kind, standin_code, code_by_limits, same_source}
 use Rattle.network_law.specs.Refusals.{refusal}
@@ -123,7 +123,7 @@ refused_now t n past i h o l s m facts input allowed e r c = go allowed
     no_post : {x : Fields} → Post x ≡ Put l s m → ⊥
     no_post p = cc
 
-    no_packet : {a b : ℕ} {p : Packet} → PutPacket a b p ≡ Put l s m → ⊥
+    no_packet : {a b : ℕ} {p : GrantPacket} → PutPacket a b p ≡ Put l s m → ⊥
     no_packet p = cc
 
     go : Allowed t n past i h o → Refused t n h l

@@ -1,5 +1,5 @@
 -- What an entry may put out, case by case; and that the decision puts out nothing else.
-use Rattle.std.proofs.Common.{◌≡◌, ℕ, suc, ◌+◌, List, [], ◌∷◌, ◌++◌, find, filter, map, length, nat_lt, eqb, reverse, Option, Some, None, is_some, is_none, Bool, true, false, cond, not, ◌&&◌, refl, ap, ◌∙◌, subst, inl, inr, ⊎_elim, ◌⊎◌, bytes_eq}
+use Rattle.std.proofs.Common.{◌≡◌, ℕ, suc, ◌+◌, List, [], ◌∷◌, ◌++◌, find, filter, map, length, nat_lt, eqb, reverse, Option, Some, None, is_some, is_none, Bool, true, false, cond, not, ◌&&◌, refl, sym, ap, ◌∙◌, subst, inl, inr, ⊎_elim, ◌⊎◌, bytes_eq}
 use Rattle.std.proofs.lemmas.Bool.{cond_both, and_parts, not-true, eqb-true, or_right}
 use Rattle.std.proofs.lemmas.Option.{same_Some}
 use Rattle.std.proofs.lemmas.Slice.Eq.{bytes_eq-Decides}
@@ -9,7 +9,9 @@ use Rattle.net_rows.specs.Network.{Network, issuer}
 use Rattle.net_rows.specs.declared.row.Issuer.{Issuer}
 use Rattle.network_law.specs.Tables.{is_home, node_id, route_links, links_between}
 use Rattle.network_law.specs.Traces.{Source, Gate, ByLink, ReadInput, Enter, Take, LinkUp, LinkDown, Tick, HostAnswer, NewDate, TakePacket, Lend, ReadOutput, Put, Answer, Ask, Post, PutPacket, In, Out, History, count_of, put_count, ask_count, ask_key, Handled, handled, Opening, opening, opened, answer, pending, forwarded, fails, Advice, advices, known, Lent, grants, as_kept, is_at_home, brings_00, is_link, comes_late, ticks_by, is_due_at, asked, asks, key_asked, is_timer, was_put, reversed, load, is_up, IsIn}
-use Rattle.network_law.specs.Grants.{Grant, Packet, Granting, Received}
+use Rattle.network_law.specs.declared.grant.Grant.{Grant}
+use Rattle.network_law.specs.declared.grant.GrantPacket.{GrantPacket}
+use Rattle.network_law.specs.declared.grant.GrantPacket.TheVariants as packets
 use Rattle.network_law.specs.Decision.{Due, DueAdvice, DueGrant, grants_made_after, in_order, is_sent_again, is_due_again, send_grant, send_grant_by, send_newest, on_packet, decide, reply, reply_output, next_put, emit, keep, send, send_by, own_way, sent_kind, standin, standin_code, fail, fail_all, send_all, failing, on_request, on_issuer, on_forward, on_repeat, on_reversal, on_advice, on_answer, on_host, on_code, on_group, on_handled, same_source, first_up, as_code, answer_pending, other_content}
 use Rattle.network_law.specs.Cards.{Bytes, is_good_card, card_of}
 use Rattle.network_law.specs.Entries.{IsCode}
@@ -128,6 +130,7 @@ pub record StandingIn (t : Network) (n : ℕ) (past : History) (i : ReadInput) (
   pub opens : IsOpenNow t past i op
   pub issued : issuer t (card_of op.message) ≡ Some s
   pub how : OpenedFirst t past i h opens.key ⊎ Failed t past i opens.key op
+  pub not_reversed : opening t past opens.key ≡ None → reversed t n past opens.key ≡ false
   pub is : o ≡ reply_output op.source (response op.message (standin_code t n h op.message)) h
 
 -- an answer came by the link on which k was forwarded, or from the host that was asked
@@ -211,6 +214,7 @@ pub record Acking (t : Network) (n : ℕ) (past : History) (i : ReadInput) (h : 
   pub is_code : IsCode code
   pub not_94 : bytes_eq code code_94 ≡ false
   pub good : bytes_eq code code_00 ≡ true → IsGood t past message
+  pub settled : bytes_eq code code_00 ≡ true → is_reversal message.kind ≡ true → (known t n past (identity_of message) ≡ true) ⊎ (h ≡ answer_pending t i (pending t past (key_of message)) (opening t past (key_of message)) code_68 (In i ∷ past))
   pub is : o ≡ reply_output source (response message code) h
 
 -- an advice is put on a link or posted
@@ -233,8 +237,8 @@ pub record Posting (t : Network) (n : ℕ) (past : History) (i : ReadInput) (h :
 -- a grant that the node made is put on a link, or a taken one is acknowledged
 pub record PuttingPacket (t : Network) (n : ℕ) (past : History) (i : ReadInput) (h : History) (o : ReadOutput) : Type 0 where
   pub link : ℕ
-  pub packet : Packet
-  pub from : ((g : Lent) × IsIn g (grants t n (In i ∷ past)) × (packet ≡ Granting g.grant)) ⊎ ((l : ℕ) × (s : ℕ) × (g : Grant) × (i ≡ TakePacket l s (Granting g)) × (packet ≡ Received g.lender g.number))
+  pub packet : GrantPacket
+  pub from : ((g : Lent) × IsIn g (grants t n (In i ∷ past)) × (packet ≡ packets.Grant g.grant)) ⊎ ((l : ℕ) × (s : ℕ) × (g : Grant) × (i ≡ TakePacket l s (packets.Grant g)) × (packet ≡ packets.Ack g.lender g.number))
   pub is : o ≡ PutPacket link (suc (put_count h link)) packet
 
 pub data Allowed (t : Network) (n : ℕ) (past : History) (i : ReadInput) (h : History) (o : ReadOutput) : Type 0 where
@@ -446,18 +450,21 @@ module _ (t : Network) (n : ℕ) (past : History) (i : ReadInput) (Q : History �
       (λ home. close h (Post x) q (posting (record { message = x; kept = kept; home = home; unknown = unknown; is = refl })))
       (λ away. send_keeps x h kept away q))
 
-  pub standin_keeps : (key : Key) (op : Opening) (h : History) → opening t (In i ∷ past) key ≡ Some op → OpenedFirst t past i h key ⊎ Failed t past i key op → Issued t op.message → Q h → Q (standin t n past i op h)
+  pub standin_keeps : (key : Key) (op : Opening) (h : History) → opening t (In i ∷ past) key ≡ Some op → OpenedFirst t past i h key ⊎ Failed t past i key op → (opening t past key ≡ None → reversed t n past key ≡ false) → Issued t op.message → Q h → Q (standin t n past i op h)
   unfolding standin
-  standin_keeps key op h now how issued q =
+  standin_keeps key op h now how nr issued q =
       let c : Bytes = standin_code t n h op.message in
-      let replied : Q (reply i op.source (response op.message c) h) = close h (reply_output op.source (response op.message c) h) q (standing_in (record { op = op; s = issued.0; opens = record { key = key; is = now }; issued = issued.1; how = how; is = refl })) in
+      let replied : Q (reply i op.source (response op.message c) h) = close h (reply_output op.source (response op.message c) h) q (standing_in (record { op = op; s = issued.0; opens = record { key = key; is = now }; issued = issued.1; how = how; not_reversed = nr; is = refl })) in
       cond_both (bytes_eq c code_00) (keep t n past i (made_stand_in op.message (node_id t n)) (reply i op.source (response op.message c) h)) (reply i op.source (response op.message c) h) Q
       (λ _. keep_keeps (made_stand_in op.message (node_id t n)) (reply i op.source (response op.message c) h) (standing key op now issued.0 issued.1 refl) replied) (λ _. replied)
 
   pub fail_keeps : (k : Key) (o : Option Opening) (h : History) → is_timer i ≡ true → opening t past k ≡ o → FailsNow t past i k → ((op : Opening) → opening t past k ≡ Some op → Issued t op.message) → Q h → Q (fail t n past i o h)
   unfolding fail
   fail_keeps k None h timer e ticks issued q = q
-  fail_keeps k (Some op) h timer e ticks issued q = standin_keeps k op (keep t n past i (made_reversal op.message (node_id t n)) h) (stays_open t past i k op e) (inr (record { timer = timer; fails_now = ticks.1; was = e; ticks = ticks.0 })) (issued op e) (keep_keeps (made_reversal op.message (node_id t n)) h (reversing k op e ticks.0 refl) q)
+  fail_keeps k (Some op) h timer e ticks issued q = standin_keeps k op (keep t n past i (made_reversal op.message (node_id t n)) h) (stays_open t past i k op e) (inr (record { timer = timer; fails_now = ticks.1; was = e; ticks = ticks.0 })) (λ fresh. absurd (no (sym fresh ∙ e))) (issued op e) (keep_keeps (made_reversal op.message (node_id t n)) h (reversing k op e ticks.0 refl) q)
+    where
+      no : None ≡ Some op → ⊥
+      no p = cc
 
   pub fail_all_keeps : (ks : List Key) (h : History) → is_timer i ≡ true → ((k : Key) → IsIn k ks → FailsNow t past i k) → KeepsIssuers t past → Q h → Q (fail_all t n past i ks h)
   unfolding fail_all
@@ -470,15 +477,15 @@ module _ (t : Network) (n : ℕ) (past : History) (i : ReadInput) (Q : History �
     where
       go : (w : Option ℕ) → Q (send_grant_by i g w h)
       go None = q
-      go (Some l) = close h (PutPacket l (suc (put_count h l)) (Granting g.grant)) q (putting_packet (record { link = l; packet = Granting g.grant; from = inl (g, from, refl); is = refl }))
+      go (Some l) = close h (PutPacket l (suc (put_count h l)) (packets.Grant g.grant)) q (putting_packet (record { link = l; packet = packets.Grant g.grant; from = inl (g, from, refl); is = refl }))
 
   pub newest_keeps : (gs : List Lent) (h : History) → ((g : Lent) → IsIn g gs → IsIn g (grants t n (In i ∷ past))) → Q h → Q (send_newest t n i gs h)
   newest_keeps [] h from q = q
   newest_keeps (g ∷ gs) h from q = send_grant_keeps g h (from g (inl refl)) q
 
-  pub packet_keeps : (l s : ℕ) (p : Packet) → i ≡ TakePacket l s p → Q (In i ∷ past) → Q (on_packet i l p (In i ∷ past))
-  packet_keeps l s (Granting g) is q = close (In i ∷ past) (PutPacket l (suc (put_count (In i ∷ past) l)) (Received g.lender g.number)) q (putting_packet (record { link = l; packet = Received g.lender g.number; from = inr (l, s, g, is, refl); is = refl }))
-  packet_keeps l s (Received lender number) is q = q
+  pub packet_keeps : (l s : ℕ) (p : GrantPacket) → i ≡ TakePacket l s p → Q (In i ∷ past) → Q (on_packet i l p (In i ∷ past))
+  packet_keeps l s (packets.Grant g) is q = close (In i ∷ past) (PutPacket l (suc (put_count (In i ∷ past) l)) (packets.Ack g.lender g.number)) q (putting_packet (record { link = l; packet = packets.Ack g.lender g.number; from = inr (l, s, g, is, refl); is = refl }))
+  packet_keeps l s (packets.Ack lender number) is q = q
 
   pub send_all_keeps : (xs : List Due) (h : History) → ((x : Due) → IsIn x xs → IsDueFrom t n past i x) → Q h → Q (send_all t n i xs h)
   unfolding send_all
@@ -490,7 +497,7 @@ module _ (t : Network) (n : ℕ) (past : History) (i : ReadInput) (Q : History �
   declines m src c written e r f n00 n94 q = close (In i ∷ past) (reply_output src (response m c) (In i ∷ past)) q (declining (record { op = opening_now past i m src; code = c; opens = record { key = key_of m; is = opens_now t past i m src e r f }; is_code = written; not_00 = n00; not_94 = n94; how = inl (record { fresh = f; first = refl; no_timer = handled_no_timer t past i m src e }); is = refl }))
 
   forward_keeps : (m : Fields) (src : Source) (s : Issuer) (w : Option ℕ) → handled_as t past i m src → is_request m.kind ≡ true → opening t past (key_of m) ≡ None → reversed t n past (key_of m) ≡ false → issuer t (card_of m) ≡ Some s → is_home s n ≡ false → first_up past (route_links t n (card_of m)) ≡ w → Q (In i ∷ past) → Q (on_forward t n past i m src w)
-  forward_keeps m src s None e r f nr si away w q = standin_keeps (key_of m) (opening_now past i m src) (In i ∷ past) (opens_now t past i m src e r f) (inl (record { fresh = f; first = refl; no_timer = handled_no_timer t past i m src e })) (s, si) q
+  forward_keeps m src s None e r f nr si away w q = standin_keeps (key_of m) (opening_now past i m src) (In i ∷ past) (opens_now t past i m src e r f) (inl (record { fresh = f; first = refl; no_timer = handled_no_timer t past i m src e })) (λ _. nr) (s, si) q
   forward_keeps m src s (Some l) e r f nr si away w q = close (In i ∷ past) (next_put l (as_kind K0100 m) (In i ∷ past)) q (forwarding (record { message = m; source = src; link = l; s = s; is_handled = e; request = r; fresh = f; issued = si; away = away; on_route = found_is_in (is_up past) (route_links t n (card_of m)) l w; not_reversed = nr; first = refl; is = refl }))
 
   issuer_keeps : (m : Fields) (src : Source) (o : Option Issuer) → handled_as t past i m src → is_request m.kind ≡ true → opening t past (key_of m) ≡ None → reversed t n past (key_of m) ≡ false → issuer t (card_of m) ≡ o → Q (In i ∷ past) → Q (on_issuer t n past i m src o)
@@ -519,8 +526,11 @@ module _ (t : Network) (n : ℕ) (past : History) (i : ReadInput) (Q : History �
       (λ _. declines m src code_14 (refl, refl) e r f refl refl q)
       (λ _. issuer_keeps m src (issuer t (card_of m)) e r f nr refl q))
 
-  acks : (m : Fields) (src : Source) (c : Bytes) (h : History) → IsCode c → handled_as t past i m src → is_kept_group (group m.kind) ≡ true → bytes_eq c code_94 ≡ false → (bytes_eq c code_00 ≡ true → IsGood t past m) → Q h → Q (reply i src (response m c) h)
-  acks m src c h written e g n94 good q = close h (reply_output src (response m c) h) q (acking (record { message = m; source = src; code = c; is_handled = e; kind = g; is_code = written; not_94 = n94; good = good; is = refl }))
+  abbrev Settled : Fields → History → Type 0
+  Settled m h = (known t n past (identity_of m) ≡ true) ⊎ (h ≡ answer_pending t i (pending t past (key_of m)) (opening t past (key_of m)) code_68 (In i ∷ past))
+
+  acks : (m : Fields) (src : Source) (c : Bytes) (h : History) → IsCode c → handled_as t past i m src → is_kept_group (group m.kind) ≡ true → bytes_eq c code_94 ≡ false → (bytes_eq c code_00 ≡ true → IsGood t past m) → (bytes_eq c code_00 ≡ true → is_reversal m.kind ≡ true → Settled m h) → Q h → Q (reply i src (response m c) h)
+  acks m src c h written e g n94 good settled q = close h (reply_output src (response m c) h) q (acking (record { message = m; source = src; code = c; is_handled = e; kind = g; is_code = written; not_94 = n94; good = good; settled = settled; is = refl }))
 
   bad_code : {A : Type 0} → false ≡ true → A
   bad_code e = cc
@@ -540,14 +550,14 @@ module _ (t : Network) (n : ℕ) (past : History) (i : ReadInput) (Q : History �
   reversal_keeps m src e g q =
       let ok : is_kept_group (group m.kind) ≡ true = rw g refl in
       cond_both (not (is_good_card (el m 2))) (reply i src (response m code_14) (In i ∷ past)) _ Q
-      (λ _. acks m src code_14 (In i ∷ past) (refl, refl) e ok refl (λ z. bad_code z) q)
+      (λ _. acks m src code_14 (In i ∷ past) (refl, refl) e ok refl (λ z. bad_code z) (λ z _. bad_code z) q)
       (λ good. cond_both (is_none (issuer t (card_of m))) (reply i src (response m code_92) (In i ∷ past)) _ Q
-      (λ _. acks m src code_92 (In i ∷ past) (refl, refl) e ok refl (λ z. bad_code z) q)
+      (λ _. acks m src code_92 (In i ∷ past) (refl, refl) e ok refl (λ z. bad_code z) (λ z _. bad_code z) q)
       (λ issued. cond_both (other_content (opening t past (key_of m)) m) (reply i src (response m code_94) (In i ∷ past)) _ Q
       (λ other. refuses (opening t past (key_of m)) refl other)
       (λ same. cond_both (known t n past (identity_of m)) (reply i src (response m code_00) (In i ∷ past)) _ Q
-      (λ _. acks m src code_00 (In i ∷ past) (refl, refl) e ok refl (λ _. record { issued = issued; agrees = λ _. same }) q)
-      (λ unknown. keep_keeps (as_kept m) _ (accepting (record { message = m; source = src; is_handled = e; kept_group = ok; issued = issued; agrees = λ _. same; unknown = unknown; is = refl; before = answer_pending t i (pending t past (key_of m)) (opening t past (key_of m)) code_68 (In i ∷ past); at = refl; was = pending_was (pending t past (key_of m)) (opening t past (key_of m)) })) (acks m src code_00 _ (refl, refl) e ok refl (λ _. record { issued = issued; agrees = λ _. same }) (answer_pending_keeps m src (pending t past (key_of m)) (opening t past (key_of m)) e g good issued same unknown refl q))))))
+      (λ known_now. acks m src code_00 (In i ∷ past) (refl, refl) e ok refl (λ _. record { issued = issued; agrees = λ _. same }) (λ _ _. inl known_now) q)
+      (λ unknown. keep_keeps (as_kept m) _ (accepting (record { message = m; source = src; is_handled = e; kept_group = ok; issued = issued; agrees = λ _. same; unknown = unknown; is = refl; before = answer_pending t i (pending t past (key_of m)) (opening t past (key_of m)) code_68 (In i ∷ past); at = refl; was = pending_was (pending t past (key_of m)) (opening t past (key_of m)) })) (acks m src code_00 _ (refl, refl) e ok refl (λ _. record { issued = issued; agrees = λ _. same }) (λ _ _. inr refl) (answer_pending_keeps m src (pending t past (key_of m)) (opening t past (key_of m)) e g good issued same unknown refl q))))))
     where
       refuses : (o : Option Opening) → opening t past (key_of m) ≡ o → other_content o m ≡ true → Q (reply i src (response m code_94) (In i ∷ past))
       refuses None f other = cc
@@ -558,12 +568,12 @@ module _ (t : Network) (n : ℕ) (past : History) (i : ReadInput) (Q : History �
   advice_keeps m src e g q =
       let ok : is_kept_group (group m.kind) ≡ true = rw g refl in
       cond_both (not (is_good_card (el m 2))) (reply i src (response m code_14) (In i ∷ past)) _ Q
-      (λ _. acks m src code_14 (In i ∷ past) (refl, refl) e ok refl (λ z. bad_code z) q)
+      (λ _. acks m src code_14 (In i ∷ past) (refl, refl) e ok refl (λ z. bad_code z) (λ z _. bad_code z) q)
       (λ _. cond_both (is_none (issuer t (card_of m))) (reply i src (response m code_92) (In i ∷ past)) _ Q
-      (λ _. acks m src code_92 (In i ∷ past) (refl, refl) e ok refl (λ z. bad_code z) q)
+      (λ _. acks m src code_92 (In i ∷ past) (refl, refl) e ok refl (λ z. bad_code z) (λ z _. bad_code z) q)
       (λ issued. cond_both (known t n past (identity_of m)) (reply i src (response m code_00) (In i ∷ past)) _ Q
-      (λ _. acks m src code_00 (In i ∷ past) (refl, refl) e ok refl (λ _. record { issued = issued; agrees = λ r. absurd (advice_no_reversal m.kind g r) }) q)
-      (λ unknown. keep_keeps (as_kept m) _ (accepting (record { message = m; source = src; is_handled = e; kept_group = ok; issued = issued; agrees = λ r. absurd (advice_no_reversal m.kind g r); unknown = unknown; is = refl; before = In i ∷ past; at = refl; was = inl refl })) (acks m src code_00 _ (refl, refl) e ok refl (λ _. record { issued = issued; agrees = λ r. absurd (advice_no_reversal m.kind g r) }) q))))
+      (λ _. acks m src code_00 (In i ∷ past) (refl, refl) e ok refl (λ _. record { issued = issued; agrees = λ r. absurd (advice_no_reversal m.kind g r) }) (λ _ r. absurd (advice_no_reversal m.kind g r)) q)
+      (λ unknown. keep_keeps (as_kept m) _ (accepting (record { message = m; source = src; is_handled = e; kept_group = ok; issued = issued; agrees = λ r. absurd (advice_no_reversal m.kind g r); unknown = unknown; is = refl; before = In i ∷ past; at = refl; was = inl refl })) (acks m src code_00 _ (refl, refl) e ok refl (λ _. record { issued = issued; agrees = λ r. absurd (advice_no_reversal m.kind g r) }) (λ _ r. absurd (advice_no_reversal m.kind g r)) q))))
 
   -- an answer's code as it is passed on
   passes : (op : Opening) (k : Key) (c other : Bytes) → Brought i c → IsCode other → opening t past k ≡ Some op → Via t past i k → (bytes_eq c code_00 ≡ true → brings_00 past k i ≡ true) → bytes_eq other code_00 ≡ false → bytes_eq other code_94 ≡ false → Q (In i ∷ past) → Q (reply i op.source (response op.message (as_code other c)) (In i ∷ past))

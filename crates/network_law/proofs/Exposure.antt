@@ -10,7 +10,9 @@ use Rattle.net_rows.specs.declared.row.Issuer.{Issuer}
 use Rattle.iso_message.specs.Fields.{Fields}
 use Rattle.network_law.specs.Cards.{Bytes}
 use Rattle.network_law.specs.Tables.{node_id}
-use Rattle.network_law.specs.Grants.{Grant, Packet, Granting, Received}
+use Rattle.network_law.specs.declared.grant.Grant.{Grant}
+use Rattle.network_law.specs.declared.grant.GrantPacket.{GrantPacket}
+use Rattle.network_law.specs.declared.grant.GrantPacket.TheVariants as packets
 use Rattle.network_law.specs.Traces.{Source, Gate, ByLink, ReadInput, Enter, Take, LinkUp, LinkDown, Tick, HostAnswer, NewDate, TakePacket, Lend, ReadOutput, Put, Answer, Ask, Post, PutPacket, Event, In, Out, History, IsIn, Has, Lent, lent_acked, grants, has_number, taken, added, amount_for, borrowed, lent, used}
 use Rattle.network_law.specs.Decision.{reply_output}
 use Rattle.network_law.specs.Entries.{ReadEntry, read_history}
@@ -112,15 +114,15 @@ taken_once (In (LinkDown l) ∷ h) = taken_once h
 taken_once (In Tick ∷ h) = taken_once h
 taken_once (In (HostAnswer a c) ∷ h) = taken_once h
 taken_once (In (NewDate d) ∷ h) = taken_once h
-taken_once (In (TakePacket l s (Received lender number)) ∷ h) = taken_once h
+taken_once (In (TakePacket l s (packets.Ack lender number)) ∷ h) = taken_once h
 taken_once (In (Lend m c d a) ∷ h) = taken_once h
-taken_once (In (TakePacket l s (Granting g)) ∷ h) = cond_both (list_any (has_number g) (taken h)) (taken h) (g ∷ taken h) IsOnce (λ _. taken_once h) (λ new. (λ m. both (list_any (has_number g) (taken h)) (any_is (has_number g) (taken h) g m (own_number g)) new, taken_once h))
+taken_once (In (TakePacket l s (packets.Grant g)) ∷ h) = cond_both (list_any (has_number g) (taken h)) (taken h) (g ∷ taken h) IsOnce (λ _. taken_once h) (λ new. (λ m. both (list_any (has_number g) (taken h)) (any_is (has_number g) (taken h) g m (own_number g)) new, taken_once h))
   where
     both : (b : Bool) → b ≡ true → b ≡ false → ⊥
     both b p q = cc
 
 abbrev WasTaken : History → Grant → Type 0
-WasTaken h g = (l : ℕ) × (s : ℕ) × Has (In (TakePacket l s (Granting g))) h
+WasTaken h g = (l : ℕ) × (s : ℕ) × Has (In (TakePacket l s (packets.Grant g))) h
 
 taken_has : (h : History) (g : Grant) → IsIn g (taken h) → WasTaken h g
 unfolding taken
@@ -137,12 +139,12 @@ taken_has (In i ∷ h) g m = go i refl (λ old. (let r = taken_has h g old in (r
     go (HostAnswer a c) e older m = older m
     go (NewDate d) e older m = older m
     go (Lend k c d a) e older m = older m
-    go (TakePacket l s (Received lender number)) e older m = older m
-    go (TakePacket l s (Granting x)) e older m = cond_both (list_any (has_number x) (taken h)) (taken h) (x ∷ taken h) (λ z. IsIn g z → WasTaken (In i ∷ h) g) (λ _ w. older w) (λ _ w. ⊎_elim (λ same. (l, s, inl (ap In (e ∙ ap (λ y. TakePacket l s (Granting y)) same)))) older w) m
+    go (TakePacket l s (packets.Ack lender number)) e older m = older m
+    go (TakePacket l s (packets.Grant x)) e older m = cond_both (list_any (has_number x) (taken h)) (taken h) (x ∷ taken h) (λ z. IsIn g z → WasTaken (In i ∷ h) g) (λ _ w. older w) (λ _ w. ⊎_elim (λ same. (l, s, inl (ap In (e ∙ ap (λ y. TakePacket l s (packets.Grant y)) same)))) older w) m
 
 -- what is put
 
-reply_no_packet : {A : Type 0} (src : Source) (m : Fields) (h : History) (l s : ℕ) (p : Packet) → reply_output src m h ≡ PutPacket l s p → A
+reply_no_packet : {A : Type 0} (src : Source) (m : Fields) (h : History) (l s : ℕ) (p : GrantPacket) → reply_output src m h ≡ PutPacket l s p → A
 reply_no_packet Gate m h l s p e = absurd (no e)
   where
     no : Answer m ≡ PutPacket l s p → ⊥
@@ -152,7 +154,7 @@ reply_no_packet (ByLink k) m h l s p e = absurd (no e)
     no : {a b : ℕ} → Put a b m ≡ PutPacket l s p → ⊥
     no q = cc
 
-packet_case : (t : Network) (n : ℕ) (past : History) (i : ReadInput) (h : History) (o : ReadOutput) (l s : ℕ) (p : Packet) → Allowed t n past i h o → o ≡ PutPacket l s p → PuttingPacket t n past i h o
+packet_case : (t : Network) (n : ℕ) (past : History) (i : ReadInput) (h : History) (o : ReadOutput) (l s : ℕ) (p : GrantPacket) → Allowed t n past i h o → o ≡ PutPacket l s p → PuttingPacket t n past i h o
 packet_case t n past i h o l s p allowed e = go allowed
   where
     no_put : {a b : ℕ} {m : Fields} → Put a b m ≡ PutPacket l s p → ⊥
@@ -183,7 +185,7 @@ Made t n h g = (x : Lent) × IsIn x (grants t n h) × (x.grant ≡ g)
 
 -- a grant that was put was made
 abbrev PutsMade : Network → ℕ → History → Type 0
-PutsMade t n h = (i : ReadInput) (l s : ℕ) (g : Grant) → Has (Out i (PutPacket l s (Granting g))) h → Made t n h g
+PutsMade t n h = (i : ReadInput) (l s : ℕ) (g : Grant) → Has (Out i (PutPacket l s (packets.Grant g))) h → Made t n h g
 
 acked_in : (lender : Bytes) (number : ℕ) (gs : List Lent) (g : Grant) → (x : Lent) × IsIn x gs × (x.grant ≡ g) → (x : Lent) × IsIn x (map (lent_acked lender number) gs) × (x.grant ≡ g)
 acked_in lender number gs g r = (lent_acked lender number r.0, in_map (lent_acked lender number) gs r.0 r.1, r.2)
@@ -197,8 +199,8 @@ made_in t n h (LinkDown l) g r = r
 made_in t n h Tick g r = r
 made_in t n h (HostAnswer a c) g r = r
 made_in t n h (NewDate d) g r = r
-made_in t n h (TakePacket l s (Granting x)) g r = r
-made_in t n h (TakePacket l s (Received lender number)) g r = acked_in lender number (grants t n h) g r
+made_in t n h (TakePacket l s (packets.Grant x)) g r = r
+made_in t n h (TakePacket l s (packets.Ack lender number)) g r = acked_in lender number (grants t n h) g r
 made_in t n h (Lend m c d a) g r = (r.0, inr r.1, r.2)
 
 record Made_in_entry (t : Network) (n : ℕ) (past : History) (i : ReadInput) (h : History) : Type 0 where
@@ -207,24 +209,24 @@ record Made_in_entry (t : Network) (n : ℕ) (past : History) (i : ReadInput) (h
 
 made_out : (t : Network) (n : ℕ) (past : History) (i : ReadInput) (h : History) (o : ReadOutput) → Made_in_entry t n past i h → Allowed t n past i h o → Made_in_entry t n past i (Out i o ∷ h)
 unfolding grants
-made_out t n past i h o q allowed = record { puts = λ j l s g has. ⊎_elim (λ here. now l s g (out_is j (PutPacket l s (Granting g)) here)) (λ below. Made_in_entry.puts q j l s g below) has; same = Made_in_entry.same q }
+made_out t n past i h o q allowed = record { puts = λ j l s g has. ⊎_elim (λ here. now l s g (out_is j (PutPacket l s (packets.Grant g)) here)) (λ below. Made_in_entry.puts q j l s g below) has; same = Made_in_entry.same q }
   where
     out_is : (j : ReadInput) (p : ReadOutput) → Out i o ≡ Out j p → o ≡ p
     out_is j p e = cc
 
-    packets : {a b c d : ℕ} {p r : Packet} → PutPacket a b p ≡ PutPacket c d r → p ≡ r
-    packets e = cc
+    bodies : {a b c d : ℕ} {p r : GrantPacket} → PutPacket a b p ≡ PutPacket c d r → p ≡ r
+    bodies e = cc
 
-    granted : {x y : Grant} → Granting x ≡ Granting y → x ≡ y
+    granted : {x y : Grant} → packets.Grant x ≡ packets.Grant y → x ≡ y
     granted e = cc
 
-    no : {lender : Bytes} {number : ℕ} {y : Grant} → Received lender number ≡ Granting y → ⊥
+    no : {lender : Bytes} {number : ℕ} {y : Grant} → packets.Ack lender number ≡ packets.Grant y → ⊥
     no e = cc
 
-    now : (l s : ℕ) (g : Grant) → o ≡ PutPacket l s (Granting g) → Made t n (Out i o ∷ h) g
+    now : (l s : ℕ) (g : Grant) → o ≡ PutPacket l s (packets.Grant g) → Made t n (Out i o ∷ h) g
     now l s g e =
-        let f = packet_case t n past i h o l s (Granting g) allowed e in
-        let p : f.packet ≡ Granting g = packets (sym f.is ∙ e) in
+        let f = packet_case t n past i h o l s (packets.Grant g) allowed e in
+        let p : f.packet ≡ packets.Grant g = bodies (sym f.is ∙ e) in
         ⊎_elim (λ r. (r.0, subst (λ z. IsIn r.0 z) (sym (Made_in_entry.same q)) r.1, granted (sym r.2 ∙ p))) (λ r. absurd (no (sym r.4 ∙ p))) f.from
 
 puts_made : (t : Network) (n : ℕ) (es : List ReadEntry) → IsLegalRead t n es → PutsMade t n (read_history es)
@@ -232,7 +234,7 @@ unfolding read_history
 puts_made t n [] l = λ i k s g has. absurd has
 puts_made t n (e ∷ es) l = subst (PutsMade t n) (sym l.1.outputs)
     (Made_in_entry.puts (decide_keeps t n (read_history es) e.input (Made_in_entry t n (read_history es) e.input) (λ h o q allowed. made_out t n (read_history es) e.input h o q allowed) (keeps_issuers t n (read_history es) (legal_facts t n es l.0))
-    (record { puts = λ i k s g has. ⊎_elim (λ bad. absurd (no i (PutPacket k s (Granting g)) bad)) (λ below. made_in t n (read_history es) e.input g (puts_made t n es l.0 i k s g below)) has; same = refl })))
+    (record { puts = λ i k s g has. ⊎_elim (λ bad. absurd (no i (PutPacket k s (packets.Grant g)) bad)) (λ below. made_in t n (read_history es) e.input g (puts_made t n es l.0 i k s g below)) has; same = refl })))
   where
     no : (i : ReadInput) (o : ReadOutput) → In e.input ≡ Out i o → ⊥
     no i o p = cc
@@ -278,8 +280,8 @@ numbered t n (In (LinkDown l) ∷ h) = numbered t n h
 numbered t n (In Tick ∷ h) = numbered t n h
 numbered t n (In (HostAnswer a c) ∷ h) = numbered t n h
 numbered t n (In (NewDate d) ∷ h) = numbered t n h
-numbered t n (In (TakePacket l s (Granting g)) ∷ h) = numbered t n h
-numbered t n (In (TakePacket l s (Received lender number)) ∷ h) = numbered_acked t n lender number (grants t n h) (numbered t n h)
+numbered t n (In (TakePacket l s (packets.Grant g)) ∷ h) = numbered t n h
+numbered t n (In (TakePacket l s (packets.Ack lender number)) ∷ h) = numbered_acked t n lender number (grants t n h) (numbered t n h)
 numbered t n (In (Lend m c d a) ∷ h) = numbered_more t n _ (grants t n h) refl refl (numbered t n h)
 
 -- over all nodes
@@ -331,11 +333,11 @@ module _ (t : Network) (traces : ℕ → List ReadEntry) (run : IsReadRun t trac
   abbrev MadeAt : Grant → Type 0
   MadeAt g = (m : ℕ) × (m < length t.nodes) × Made t m (read_history (traces m)) g
 
-  made_at : (n l s : ℕ) (g : Grant) → Has (In (TakePacket l s (Granting g))) (read_history (traces n)) → MadeAt g
+  made_at : (n l s : ℕ) (g : Grant) → Has (In (TakePacket l s (packets.Grant g))) (read_history (traces n)) → MadeAt g
   made_at n l s g has =
       let m = other_end t n l in
-      let put = run.packets n l s (Granting g) has in
-      (m, is_node run m (Out put.0 (PutPacket l s (Granting g))) put.1, puts_made t m (traces m) (legal_at run m) put.0 l s g put.1)
+      let put = run.packets n l s (packets.Grant g) has in
+      (m, is_node run m (Out put.0 (PutPacket l s (packets.Grant g))) put.1, puts_made t m (traces m) (legal_at run m) put.0 l s g put.1)
 
   pub one_content : OneContent (histories traces)
   one_content n l s n' l' s' g g' has has' lender number =

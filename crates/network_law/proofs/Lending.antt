@@ -7,7 +7,8 @@ use Rattle.net_rows.specs.Network.{Network, issuer, day}
 use Rattle.network_law.specs.declared.fault.StepFault.TheVariants.{NotLent}
 use Rattle.network_law.specs.Cards.{Bytes}
 use Rattle.network_law.specs.Tables.{node_id, is_named, links_between}
-use Rattle.network_law.specs.Grants.{Grant, Granting, Received}
+use Rattle.network_law.specs.declared.grant.Grant.{Grant}
+use Rattle.network_law.specs.declared.grant.GrantPacket.TheVariants as packets
 use Rattle.network_law.specs.Traces.{ReadInput, Enter, Take, LinkUp, LinkDown, Tick, HostAnswer, NewDate, TakePacket, Lend, In, History, IsIn, Lent, lent_acked, grants, has_number, taken, added, amount_for, borrowed, lent, allowance, used}
 use Rattle.network_law.specs.Refusals.{refusal, when, may_not_lend, may_not_borrow}
 use Rattle.network_law.proofs.Refused.{or_none, when_none}
@@ -39,7 +40,7 @@ may_lend t n h m card date amount e =
     record { named = not-false _ r.1; room = omega (arith, some, le) }
 
 -- and a taken grant
-pub may_borrow : (t : Network) (n : ℕ) (h : History) (l s : ℕ) (g : Grant) → refusal t n h (TakePacket l s (Granting g)) ≡ None → (is_named (issuer t g.card) n ≡ true) × (g.borrower ≡ pad11 (node_id t n))
+pub may_borrow : (t : Network) (n : ℕ) (h : History) (l s : ℕ) (g : Grant) → refusal t n h (TakePacket l s (packets.Grant g)) ≡ None → (is_named (issuer t g.card) n ≡ true) × (g.borrower ≡ pad11 (node_id t n))
 unfolding refusal
 may_borrow t n h l s g e =
     let f = when_none (may_not_borrow t n g) NotLent e in
@@ -64,8 +65,8 @@ lent_in t n h (LinkDown l) ok card date = inl refl
 lent_in t n h Tick ok card date = inl refl
 lent_in t n h (HostAnswer a c) ok card date = inl refl
 lent_in t n h (NewDate d) ok card date = inl refl
-lent_in t n h (TakePacket l s (Granting g)) ok card date = inl refl
-lent_in t n h (TakePacket l s (Received lender number)) ok card date = inl (acked_same (amount_for card date) lender number (grants t n h))
+lent_in t n h (TakePacket l s (packets.Grant g)) ok card date = inl refl
+lent_in t n h (TakePacket l s (packets.Ack lender number)) ok card date = inl (acked_same (amount_for card date) lender number (grants t n h))
 lent_in t n h (Lend m c d a) ok card date = ⊎_elim (λ z. inl (none z)) more (amount_cases card date new)
   where
     new : Grant
@@ -98,8 +99,8 @@ borrowed_in h (LinkDown l) card date = omega arith
 borrowed_in h Tick card date = omega arith
 borrowed_in h (HostAnswer a c) card date = omega arith
 borrowed_in h (NewDate d) card date = omega arith
-borrowed_in h (TakePacket l s (Granting g)) card date = cond_both (list_any (has_number g) (taken h)) (taken h) (g ∷ taken h) (λ z. added (amount_for card date) (taken h) ≤ added (amount_for card date) z) (λ _. omega arith) (λ _. omega arith)
-borrowed_in h (TakePacket l s (Received lender number)) card date = omega arith
+borrowed_in h (TakePacket l s (packets.Grant g)) card date = cond_both (list_any (has_number g) (taken h)) (taken h) (g ∷ taken h) (λ z. added (amount_for card date) (taken h) ≤ added (amount_for card date) z) (λ _. omega arith) (λ _. omega arith)
+borrowed_in h (TakePacket l s (packets.Ack lender number)) card date = omega arith
 borrowed_in h (Lend m c d a) card date = omega arith
 
 -- what a node borrows is for it, of cards whose issuer names it
@@ -115,9 +116,9 @@ borrows_in t n h (LinkDown l) ok q = q
 borrows_in t n h Tick ok q = q
 borrows_in t n h (HostAnswer a c) ok q = q
 borrows_in t n h (NewDate d) ok q = q
-borrows_in t n h (TakePacket l s (Received lender number)) ok q = q
+borrows_in t n h (TakePacket l s (packets.Ack lender number)) ok q = q
 borrows_in t n h (Lend m c d a) ok q = q
-borrows_in t n h (TakePacket l s (Granting g)) ok q = cond_both (list_any (has_number g) (taken h)) (taken h) (g ∷ taken h) (λ z. (x : Grant) → IsIn x z → (is_named (issuer t x.card) n ≡ true) × (x.borrower ≡ pad11 (node_id t n)))
+borrows_in t n h (TakePacket l s (packets.Grant g)) ok q = cond_both (list_any (has_number g) (taken h)) (taken h) (g ∷ taken h) (λ z. (x : Grant) → IsIn x z → (is_named (issuer t x.card) n ≡ true) × (x.borrower ≡ pad11 (node_id t n)))
     (λ _. q)
     (λ _ x m. ⊎_elim (λ e. subst (λ (y : Grant). (is_named (issuer t y.card) n ≡ true) × (y.borrower ≡ pad11 (node_id t n))) e (may_borrow t n h l s g ok)) (λ old. q x old) m)
 

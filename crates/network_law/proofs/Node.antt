@@ -5,7 +5,7 @@ use Rattle.std.proofs.lemmas.Option.{same_Some}
 use Rattle.net_rows.specs.Network.{Network, issuer}
 use Rattle.net_rows.specs.declared.row.Issuer.{Issuer}
 use Rattle.network_law.specs.Tables.{is_home, route_links, is_attached}
-use Rattle.network_law.specs.Grants.{Packet}
+use Rattle.network_law.specs.declared.grant.GrantPacket.{GrantPacket}
 use Rattle.network_law.specs.Traces.{Source, Gate, ByLink, ReadInput, Enter, Take, LinkUp, LinkDown, Tick, HostAnswer, NewDate, TakePacket, Lend, ReadOutput, Put, Answer, Ask, Post, PutPacket, In, Out, History, Handled, handled, Opening, opening, opened_by, answer, answers, sent, forwarded, forwards, asked, asks, ticks_by, count_of, dated, date_of, IsIn, Has}
 use Rattle.network_law.specs.Decision.{decide, reply_output, sent_kind}
 use Rattle.network_law.proofs.Refused.{EnteredFacts, entered_facts}
@@ -149,7 +149,7 @@ put_case t n past i h o l s x (sending f) e r =
     parts q = cc
 put_case t n past i h o l s x (putting_packet f) e r = absurd (no (sym f.is ∙ e))
   where
-    no : {a b c d : ℕ} {p : Packet} {w : Fields} → PutPacket a b p ≡ Put c d w → ⊥
+    no : {a b c d : ℕ} {p : GrantPacket} {w : Fields} → PutPacket a b p ≡ Put c d w → ⊥
     no q = cc
 put_case t n past i h o l s x (posting f) e r = absurd (no (sym f.is ∙ e))
   where
@@ -174,7 +174,7 @@ ask_case t n past i h o a x (sending f) e = absurd (no (sym f.is ∙ e))
     no q = cc
 ask_case t n past i h o a x (putting_packet f) e = absurd (no (sym f.is ∙ e))
   where
-    no : {a b c : ℕ} {p : Packet} {w : Fields} → PutPacket a b p ≡ Ask c w → ⊥
+    no : {a b c : ℕ} {p : GrantPacket} {w : Fields} → PutPacket a b p ≡ Ask c w → ⊥
     no q = cc
 ask_case t n past i h o a x (posting f) e = absurd (no (sym f.is ∙ e))
   where

@@ -8,7 +8,7 @@ use Rattle.std.proofs.Math.Nat.{pow-suc, pow-le-pow_right}
 use Rattle.std.specs.Prelude.{⊤, codes}
 use Rattle.std.specs.Char.{is_ascii_digit}
 use Rattle.std.specs.List.{list_all}
-use Rattle.card_digits.specs.Digits.{AreDigits, AreDigitsWithin, IsCard, IsDateLabel, digits_of}
+use Rattle.card_digits.specs.Digits.{AreDigits, AreDigitsWithin, digits_of}
 use Rattle.card_digits.specs.Numbers.{decimal_from, decimal, pad11}
 use Rattle.card_digits.proofs.Decimals.{below_more}
 use Rattle.iso_message.specs.declared.kind.Kind.{Kind}
@@ -19,25 +19,10 @@ use Rattle.iso_message.specs.Types.{kind_text}
 use Rattle.iso_message.specs.Spelling.{spelling}
 use Rattle.network_law.specs.Cards.{Bytes, text_of}
 use Rattle.network_law.proofs.Ids.{FitsId}
-use Rattle.network_law.specs.Grants.{Grant, Packet, Granting, Received, number_text, packet_bytes, is_word_and_digits, grant_at, card_size, read_packet}
-
--- what a packet must be to be written
-
-pub record IsPaddedId (bs : Bytes) : Type 0 where
-  pub size : length bs ≡ 11
-  pub digits : list_all is_ascii_digit bs ≡ true
-
-pub record IsGrant (g : Grant) : Type 0 where
-  pub lender : IsPaddedId g.lender
-  pub number : g.number < 10000000000
-  pub borrower : IsPaddedId g.borrower
-  pub card : IsCard g.card
-  pub date : IsDateLabel g.date
-  pub amount : g.amount < 1000000000000
-
-abbrev pub IsPacket : Packet → Type 0
-IsPacket (Granting g) = IsGrant g
-IsPacket (Received lender number) = IsPaddedId lender × (number < 10000000000)
+use Rattle.network_law.specs.declared.grant.Grant.{Grant}
+use Rattle.network_law.specs.declared.grant.GrantPacket.{GrantPacket}
+use Rattle.network_law.specs.declared.grant.GrantPacket.TheVariants as packets
+use Rattle.network_law.specs.Grants.{IsPaddedId, IsGrant, IsPacket, number_text, packet_bytes, is_word_and_digits, grant_at, card_size, read_packet}
 
 -- a padded id is one
 
@@ -115,9 +100,9 @@ part_whole xs count e = take_all count xs (omega (arith, e))
 
 -- a grant
 
-reads_grant : (bytes : Bytes) (g : Grant) → is_word_and_digits (codes "GACK") 21 bytes ≡ false → is_word_and_digits (codes "GRNT") (50 + card_size bytes) bytes ≡ true → nat_le 8 (card_size bytes) ≡ true → nat_le (card_size bytes) 19 ≡ true → grant_at (card_size bytes) bytes ≡ g → read_packet bytes ≡ Some (Granting g)
+reads_grant : (bytes : Bytes) (g : Grant) → is_word_and_digits (codes "GACK") 21 bytes ≡ false → is_word_and_digits (codes "GRNT") (50 + card_size bytes) bytes ≡ true → nat_le 8 (card_size bytes) ≡ true → nat_le (card_size bytes) 19 ≡ true → grant_at (card_size bytes) bytes ≡ g → read_packet bytes ≡ Some (packets.Grant g)
 unfolding read_packet
-reads_grant bytes g a b c d e = rw (a, b, c, d) (ap (λ z. Some (Granting z)) e)
+reads_grant bytes g a b c d e = rw (a, b, c, d) (ap (λ z. Some (packets.Grant z)) e)
 
 module _ (g : Grant) (is : IsGrant g) where
   size : ℕ
@@ -255,7 +240,7 @@ module _ (g : Grant) (is : IsGrant g) where
   unfolding bytes
   other_word = refl
 
-  pub grant_read : read_packet (packet_bytes (Granting g)) ≡ Some (Granting g)
+  pub grant_read : read_packet (packet_bytes (packets.Grant g)) ≡ Some (packets.Grant g)
   unfolding packet_bytes bytes r1 r2 r3 r4 r5 r6 size
   grant_read =
       let least = is.card.not_short in
@@ -270,7 +255,7 @@ module _ (g : Grant) (is : IsGrant g) where
 
 -- an acknowledgement
 
-pub received_read : (lender : Bytes) (number : ℕ) → IsPaddedId lender → number < 10000000000 → read_packet (packet_bytes (Received lender number)) ≡ Some (Received lender number)
+pub received_read : (lender : Bytes) (number : ℕ) → IsPaddedId lender → number < 10000000000 → read_packet (packet_bytes (packets.Ack lender number)) ≡ Some (packets.Ack lender number)
 unfolding read_packet packet_bytes
 received_read lender number id less =
     let s = id.size in
@@ -282,11 +267,11 @@ received_read lender number id less =
     let a : part 4 11 bytes ≡ lender = part_skip (codes "GACK") (lender ++ number_text 10 number) 0 4 11 refl ∙ part_here lender (number_text 10 number) 11 s in
     let b : part 15 10 bytes ≡ number_text 10 number = part_skip (codes "GACK") (lender ++ number_text 10 number) 11 15 10 refl ∙ (part_skip lender (number_text 10 number) 0 11 10 (omega (arith, s)) ∙ part_whole (number_text 10 number) 10 n) in
     let c : decimal (part 15 10 bytes) ≡ number = ap decimal b ∙ number_read 10 number (omega (arith, less)) in
-    rw word (λ j. Some (Received (a j) (c j)))
+    rw word (λ j. Some (packets.Ack (a j) (c j)))
 
-pub packet_again : (p : Packet) → IsPacket p → read_packet (packet_bytes p) ≡ Some p
-packet_again (Granting g) is = grant_read g is
-packet_again (Received lender number) is = received_read lender number is.0 is.1
+pub packet_again : (p : GrantPacket) → IsPacket p → read_packet (packet_bytes p) ≡ Some p
+packet_again (packets.Grant g) is = grant_read g is
+packet_again (packets.Ack lender number) is = received_read lender number is.0 is.1
 
 -- a message is no packet
 
@@ -311,9 +296,9 @@ message_no_packet m = kind_no_packet m.kind _
 
 -- what is read has a padded id and a number
 
-abbrev pub IsNumbered : Packet → Type 0
-IsNumbered (Granting g) = IsPaddedId g.lender × (g.number < 10000000000)
-IsNumbered (Received lender number) = ⊤
+abbrev pub IsNumbered : GrantPacket → Type 0
+IsNumbered (packets.Grant g) = IsPaddedId g.lender × (g.number < 10000000000)
+IsNumbered (packets.Ack lender number) = ⊤
 
 pub all_take : (k : ℕ) (xs : List ℕ) → list_all is_ascii_digit xs ≡ true → list_all is_ascii_digit (take k xs) ≡ true
 all_take zero xs e = refl
@@ -367,14 +352,14 @@ length_drop zero xs n e = omega (arith, e)
 length_drop (suc k) [] n e = absurd (omega (arith, e))
 length_drop (suc k) (x ∷ xs) n e = length_drop k xs n (omega (arith, e))
 
-pub packet_numbered : (bytes : Bytes) (p : Packet) → read_packet bytes ≡ Some p → IsNumbered p
+pub packet_numbered : (bytes : Bytes) (p : GrantPacket) → read_packet bytes ≡ Some p → IsNumbered p
 unfolding read_packet
 packet_numbered bytes p e = first (is_word_and_digits (codes "GACK") 21 bytes) refl e
   where
     test : Bool
     test = is_word_and_digits (codes "GRNT") (50 + card_size bytes) bytes && nat_le 8 (card_size bytes) && nat_le (card_size bytes) 19
 
-    second : (b : Bool) → test ≡ b → cond test (Some (Granting (grant_at (card_size bytes) bytes))) None ≡ Some p → IsNumbered p
+    second : (b : Bool) → test ≡ b → cond test (Some (packets.Grant (grant_at (card_size bytes) bytes))) None ≡ Some p → IsNumbered p
     second true at e =
         let q = and_parts (is_word_and_digits (codes "GRNT") (50 + card_size bytes) bytes && nat_le 8 (card_size bytes)) (nat_le (card_size bytes) 19) at in
         let r = and_parts (is_word_and_digits (codes "GRNT") (50 + card_size bytes) bytes) (nat_le 8 (card_size bytes)) q.0 in
@@ -387,7 +372,7 @@ packet_numbered bytes p e = first (is_word_and_digits (codes "GACK") 21 bytes) r
         no : None ≡ Some p → ⊥
         no q = cc
 
-    first : (b : Bool) → is_word_and_digits (codes "GACK") 21 bytes ≡ b → cond (is_word_and_digits (codes "GACK") 21 bytes) (Some (Received (part 4 11 bytes) (decimal (part 15 10 bytes)))) (cond test (Some (Granting (grant_at (card_size bytes) bytes))) None) ≡ Some p → IsNumbered p
+    first : (b : Bool) → is_word_and_digits (codes "GACK") 21 bytes ≡ b → cond (is_word_and_digits (codes "GACK") 21 bytes) (Some (packets.Ack (part 4 11 bytes) (decimal (part 15 10 bytes)))) (cond test (Some (packets.Grant (grant_at (card_size bytes) bytes))) None) ≡ Some p → IsNumbered p
     first true at e = subst IsNumbered (same_Some _ _ (rw at at e)) tt
     first false at e = second test refl (rw at at e)
 
@@ -399,9 +384,9 @@ looks_padded bs = eqb (length bs) 11 && list_all is_ascii_digit bs
 abbrev pub looks_within : ℕ → ℕ → List ℕ → Bool
 looks_within least most ds = leb least (length ds) && leb (length ds) most && list_all (λ d. ltb d 10) ds
 
-unfoldable pub packet_good : Packet → Bool
-packet_good (Granting g) = looks_padded g.lender && ltb g.number 10000000000 && looks_padded g.borrower && looks_within 8 19 g.card && looks_within 4 4 g.date && ltb g.amount 1000000000000
-packet_good (Received lender number) = looks_padded lender && ltb number 10000000000
+unfoldable pub packet_good : GrantPacket → Bool
+packet_good (packets.Grant g) = looks_padded g.lender && ltb g.number 10000000000 && looks_padded g.borrower && looks_within 8 19 g.card && looks_within 4 4 g.date && ltb g.amount 1000000000000
+packet_good (packets.Ack lender number) = looks_padded lender && ltb number 10000000000
 
 padded_is : (bs : Bytes) → looks_padded bs ≡ true → IsPaddedId bs
 padded_is bs e = let p = and_parts (eqb (length bs) 11) (list_all is_ascii_digit bs) e in record { size = eqb-true _ _ p.0; digits = p.1 }
@@ -416,13 +401,13 @@ within_is least most ds e =
     let q = and_parts (leb least (length ds)) (leb (length ds) most) p.0 in
     record { not_short = leb-true _ _ q.0; not_long = leb-true _ _ q.1; digits = digits_are ds p.1 }
 
-pub packet_is : (p : Packet) → packet_good p ≡ true → IsPacket p
+pub packet_is : (p : GrantPacket) → packet_good p ≡ true → IsPacket p
 unfolding packet_good
-packet_is (Granting g) e =
+packet_is (packets.Grant g) e =
     let a = and_parts (looks_padded g.lender && ltb g.number 10000000000 && looks_padded g.borrower && looks_within 8 19 g.card && looks_within 4 4 g.date) (ltb g.amount 1000000000000) e in
     let b = and_parts (looks_padded g.lender && ltb g.number 10000000000 && looks_padded g.borrower && looks_within 8 19 g.card) (looks_within 4 4 g.date) a.0 in
     let c = and_parts (looks_padded g.lender && ltb g.number 10000000000 && looks_padded g.borrower) (looks_within 8 19 g.card) b.0 in
     let d = and_parts (looks_padded g.lender && ltb g.number 10000000000) (looks_padded g.borrower) c.0 in
     let f = and_parts (looks_padded g.lender) (ltb g.number 10000000000) d.0 in
     record { lender = padded_is g.lender f.0; number = ltb-true _ _ f.1; borrower = padded_is g.borrower d.1; card = within_is 8 19 g.card c.1; date = within_is 4 4 g.date b.1; amount = ltb-true _ _ a.1 }
-packet_is (Received lender number) e = let p = and_parts (looks_padded lender) (ltb number 10000000000) e in (padded_is lender p.0, ltb-true _ _ p.1)
+packet_is (packets.Ack lender number) e = let p = and_parts (looks_padded lender) (ltb number 10000000000) e in (padded_is lender p.0, ltb-true _ _ p.1)

@@ -10,7 +10,9 @@ use Rattle.card_digits.specs.Digits.{digits_of}
 use Rattle.card_digits.specs.Numbers.{decimal_from, decimal}
 use Rattle.iso_message.specs.Keys.{part}
 use Rattle.network_law.specs.Cards.{Bytes, text_of}
-use Rattle.network_law.specs.Grants.{Packet, Granting, Received, number_text, packet_bytes, is_word_and_digits, grant_at, card_size, read_packet}
+use Rattle.network_law.specs.declared.grant.GrantPacket.{GrantPacket}
+use Rattle.network_law.specs.declared.grant.GrantPacket.TheVariants as packets
+use Rattle.network_law.specs.Grants.{number_text, packet_bytes, is_word_and_digits, grant_at, card_size, read_packet}
 use Rattle.network_law.specs.PlainGrants.{PacketsAreExact}
 use Rattle.network_law.proofs.Emits.{bytes_eq_is}
 use Rattle.network_law.proofs.Packets.{number_length, number_digits, number_read, all_take, all_drop, drop_more, decimal_below, take_full, length_drop}
@@ -62,16 +64,16 @@ text_again (x ∷ xs) d =
 piece_to : (k c next : ℕ) (bs : Bytes) → next ≡ k + c → part k c bs ++ drop next bs ≡ drop k bs
 piece_to k c next bs e = ap (λ z. part k c bs ++ drop z bs) e ∙ (ap (λ z. part k c bs ++ z) (drop_more k c bs) ∙ take-append-drop c (drop k bs))
 
-digits_part : (at j c : ℕ) (bs : Bytes) → at ≡ 4 + j → list_all is_ascii_digit (drop 4 bs) ≡ true → list_all is_ascii_digit (part at c bs) ≡ true
+pub digits_part : (at j c : ℕ) (bs : Bytes) → at ≡ 4 + j → list_all is_ascii_digit (drop 4 bs) ≡ true → list_all is_ascii_digit (part at c bs) ≡ true
 digits_part at j c bs e d = ap (λ z. list_all is_ascii_digit (take c (drop z bs))) e ∙ (ap (λ z. list_all is_ascii_digit (take c z)) (drop_more 4 j bs) ∙ all_take c (drop j (drop 4 bs)) (all_drop j (drop 4 bs) d))
 
-part_long : (k c more : ℕ) (bs : Bytes) → length bs ≡ k + (c + more) → length (part k c bs) ≡ c
+pub part_long : (k c more : ℕ) (bs : Bytes) → length bs ≡ k + (c + more) → length (part k c bs) ≡ c
 part_long k c more bs l = let e = length_drop k bs (c + more) l in take_full c (drop k bs) (omega (arith, e))
 
 last_part : (k c : ℕ) (bs : Bytes) → length bs ≡ k + c → part k c bs ≡ drop k bs
 last_part k c bs l = let e = length_drop k bs c l in take_all c (drop k bs) (omega (arith, e))
 
-word_parts : (word : Bytes) (count : ℕ) (bs : Bytes) → is_word_and_digits word count bs ≡ true → (part 0 4 bs ≡ word) × (length bs ≡ 4 + count) × (list_all is_ascii_digit (drop 4 bs) ≡ true)
+pub word_parts : (word : Bytes) (count : ℕ) (bs : Bytes) → is_word_and_digits word count bs ≡ true → (part 0 4 bs ≡ word) × (length bs ≡ 4 + count) × (list_all is_ascii_digit (drop 4 bs) ≡ true)
 word_parts word count bs e =
     let p = and_parts (bytes_eq (part 0 4 bs) word && eqb (length bs) (4 + count)) (list_all is_ascii_digit (drop 4 bs)) e in
     let q = and_parts (bytes_eq (part 0 4 bs) word) (eqb (length bs) (4 + count)) p.0 in
@@ -79,7 +81,7 @@ word_parts word count bs e =
 
 -- what acknowledges a grant
 
-received_exact : (bs : Bytes) → is_word_and_digits (codes "GACK") 21 bs ≡ true → packet_bytes (Received (part 4 11 bs) (decimal (part 15 10 bs))) ≡ bs
+received_exact : (bs : Bytes) → is_word_and_digits (codes "GACK") 21 bs ≡ true → packet_bytes (packets.Ack (part 4 11 bs) (decimal (part 15 10 bs))) ≡ bs
 unfolding packet_bytes
 received_exact bs e =
     let w = word_parts (codes "GACK") 21 bs e in
@@ -91,7 +93,7 @@ received_exact bs e =
 
 -- a grant
 
-grant_exact : (bs : Bytes) (size : ℕ) → size ≡ card_size bs → is_word_and_digits (codes "GRNT") (50 + size) bs ≡ true → packet_bytes (Granting (grant_at size bs)) ≡ bs
+grant_exact : (bs : Bytes) (size : ℕ) → size ≡ card_size bs → is_word_and_digits (codes "GRNT") (50 + size) bs ≡ true → packet_bytes (packets.Grant (grant_at size bs)) ≡ bs
 unfolding packet_bytes
 grant_exact bs size same e =
     let w = word_parts (codes "GRNT") (50 + size) bs e in
@@ -115,7 +117,7 @@ grant_exact bs size same e =
     ∙ (ap (λ z. codes "GRNT" ++ z) (piece_to 4 11 15 bs refl)
     ∙ (ap (λ z. z ++ drop 4 bs) (sym w.0) ∙ piece_to 0 4 4 bs refl)))))))
 
-abbrev IsExact : Bytes → Packet → Type 0
+abbrev IsExact : Bytes → GrantPacket → Type 0
 IsExact bs p = packet_bytes p ≡ bs
 
 pub packets_are_exact : PacketsAreExact
@@ -125,7 +127,7 @@ packets_are_exact bs p e = first (is_word_and_digits (codes "GACK") 21 bs) refl 
     test : Bool
     test = is_word_and_digits (codes "GRNT") (50 + card_size bs) bs && nat_le 8 (card_size bs) && nat_le (card_size bs) 19
 
-    second : (b : Bool) → test ≡ b → cond test (Some (Granting (grant_at (card_size bs) bs))) None ≡ Some p → IsExact bs p
+    second : (b : Bool) → test ≡ b → cond test (Some (packets.Grant (grant_at (card_size bs) bs))) None ≡ Some p → IsExact bs p
     second true at e =
         let q = and_parts (is_word_and_digits (codes "GRNT") (50 + card_size bs) bs && nat_le 8 (card_size bs)) (nat_le (card_size bs) 19) at in
         let r = and_parts (is_word_and_digits (codes "GRNT") (50 + card_size bs) bs) (nat_le 8 (card_size bs)) q.0 in
@@ -135,6 +137,6 @@ packets_are_exact bs p e = first (is_word_and_digits (codes "GACK") 21 bs) refl 
         no : None ≡ Some p → ⊥
         no q = cc
 
-    first : (b : Bool) → is_word_and_digits (codes "GACK") 21 bs ≡ b → cond (is_word_and_digits (codes "GACK") 21 bs) (Some (Received (part 4 11 bs) (decimal (part 15 10 bs)))) (cond test (Some (Granting (grant_at (card_size bs) bs))) None) ≡ Some p → IsExact bs p
+    first : (b : Bool) → is_word_and_digits (codes "GACK") 21 bs ≡ b → cond (is_word_and_digits (codes "GACK") 21 bs) (Some (packets.Ack (part 4 11 bs) (decimal (part 15 10 bs)))) (cond test (Some (packets.Grant (grant_at (card_size bs) bs))) None) ≡ Some p → IsExact bs p
     first true at e = subst (IsExact bs) (same_Some _ _ (rw at at e)) (received_exact bs at)
     first false at e = second test refl (rw at at e)

@@ -1,7 +1,7 @@
 -- The plain words say the same.
-use Rattle.std.proofs.Common.{◌≡◌, ℕ, ◌+◌, List, [], ◌∷◌, ◌++◌, map, filter, find, fold, sum, reverse, length, Option, Some, None, is_some, is_none, Bool, true, false, cond, not, ◌&&◌, refl, sym, ap, ◌∙◌, subst, inl, inr, ⊎_elim, bytes_eq, arith, eqb, ◌≤◌, unwrap_or}
+use Rattle.std.proofs.Common.{◌≡◌, ℕ, ◌+◌, List, [], ◌∷◌, ◌++◌, map, filter, find, fold, sum, reverse, length, Option, Some, None, is_some, is_none, Bool, true, false, cond, not, ◌&&◌, refl, sym, ap, ◌∙◌, subst, inl, inr, ⊎_elim, bytes_eq, arith, eqb, ◌≤◌, ◌⊎◌, unwrap_or}
 use Rattle.std.specs.Prelude.{min}
-use Rattle.std.proofs.lemmas.Bool.{and_parts, or_parts}
+use Rattle.std.proofs.lemmas.Bool.{and_parts, or_parts, not-true, cases_lt}
 use Rattle.std.proofs.lemmas.Option.{same_Some}
 use Rattle.std.proofs.lemmas.List.{append-nil, length-append, reverse-append}
 use Rattle.std.specs.Option.{option_map_or, option_or, option_map, option_and_then}
@@ -18,11 +18,12 @@ use Rattle.iso_message.specs.declared.kind.Kind.TheVariants.{K0100, K0101, K0110
 use Rattle.std.specs.List.{list_any}
 use Rattle.iso_message.specs.declared.kind.Group.TheVariants as groups
 use Rattle.network_law.specs.Tables.{node_id}
-use Rattle.network_law.specs.Cards.{card_of, label_of, Bytes, actual_amount}
+use Rattle.network_law.specs.Cards.{card_of, label_of, Bytes}
+use Rattle.iso_message.specs.Amounts.{actual_amount}
 use Rattle.network_law.specs.Traces.{key_asked, ask_count, asks_in, put_count, puts_on, up_after, is_up, date_after, date_of, ReadInput, Enter, Take, LinkUp, LinkDown, Tick, HostAnswer, NewDate, TakePacket, Lend, ReadOutput, Put, Answer, Ask, Post, PutPacket, In, Out, History, IsIn, count_of, ticks_in, Handled, handled, Opening, opening, opened_by, opened, key_handled, with_new, answer, answers, sent, forwarded, forwards, fails, approvals, reversed, left_by, left_of, left, used, added, Advice, advices, comes_late, code_is_not_00, reverses_key, pending, late_key, is_link, ask_key}
 use Rattle.network_law.specs.Decision.{failing, decide, keep, on_code, on_answer, on_host}
-use Rattle.network_law.specs.Plain.{Asked, asked_in, all_asked, AskedByNumber, CountsAsks, CountsPuts, sets_link, sets_up, UpByLast, sets_date, date_in, DatedByLast, inputs, requests, request_of, openings, opened_key, OpenedByFirst, OpenedOnce, EachIsOfItsKey, FailInOpeningOrder, is_answer_of, said_in, said, AnsweredByFirst, OnLink, put_in, puts, ForwardedByFirst, link_in, links_put, is_tick, CountsTicks, UsedIsSum, LeavesLeast, LeavesAll, LateIsReversed}
-use Rattle.network_law.proofs.Used.{left_by_less}
+use Rattle.network_law.specs.Plain.{Asked, asked_in, all_asked, AskedByNumber, CountsAsks, CountsPuts, sets_link, sets_up, UpByLast, sets_date, date_in, DatedByLast, inputs, requests, request_of, openings, opened_key, OpenedByFirst, OpenedOnce, EachIsOfItsKey, FailInOpeningOrder, is_answer_of, said_in, said, AnsweredByFirst, OnLink, put_in, puts, ForwardedByFirst, link_in, links_put, is_tick, CountsTicks, UsedIsSum, LeavesLeast, LeavesOne, LeavesNoMore, LeavesAll, LateIsReversed}
+use Rattle.network_law.proofs.Used.{left_by_less, left_less}
 use Rattle.network_law.proofs.Emits.{key_eq_is, key_eq_refl, in_append}
 
 pub find_append : {X : Type 0} (p : X → Bool) (xs ys : List X) → find p (xs ++ ys) ≡ option_or (find p xs) (find p ys)
@@ -144,7 +145,7 @@ new_key t h n i (Some x) ks = go (is_request x.message.kind) refl (is_none (open
     go true at true at' = rw (at, at') (reverse-append (key_of x.message ∷ []) ks)
     go true at false at' = rw (at, at') (sym (append-nil (reverse ks)))
 
-keys_in_order : (t : Network) (h : History) → reverse (opened t h) ≡ map opened_key (openings t h)
+pub keys_in_order : (t : Network) (h : History) → reverse (opened t h) ≡ map opened_key (openings t h)
 unfolding opened openings
 keys_in_order t [] = refl
 keys_in_order t (In i ∷ h) = new_key t h (count_of h) i (handled t h i) (opened t h) ∙ (ap (λ z. z ++ map opened_key (filter (λ op. is_none (opening t h (opened_key op))) (request_of (count_of h) i (handled t h i)))) (keys_in_order t h) ∙ sym (map_append opened_key (openings t h) (filter (λ op. is_none (opening t h (opened_key op))) (request_of (count_of h) i (handled t h i)))))
@@ -381,6 +382,34 @@ left_least k (a ∷ as') amount x m own r = ⊎_elim here (λ below. older (left
 pub leaves_least : LeavesLeast
 unfolding left
 leaves_least t n h a x m own r = left_least a.key (advices t n h) (decimal (el a.request 4)) x m own r
+
+-- what one reversal leaves
+left_by_one : (k : Key) (a : Advice) (rest : ℕ) → (left_by k a rest ≡ rest) ⊎ ((a.own ≡ false) × (reverses_key k a ≡ true) × (left_by k a rest ≡ unwrap_or (actual_amount a.message) 0))
+left_by_one k a rest = go (not a.own && reverses_key k a) refl
+  where
+    go : (b : Bool) → (not a.own && reverses_key k a) ≡ b → (left_by k a rest ≡ rest) ⊎ ((a.own ≡ false) × (reverses_key k a ≡ true) × (left_by k a rest ≡ unwrap_or (actual_amount a.message) 0))
+    go false at = inl (rw at refl)
+    go true at =
+        let p = and_parts (not a.own) (reverses_key k a) at in
+        let y = unwrap_or (actual_amount a.message) 0 in
+        ⊎_elim
+        (λ less. inr (not-true _ p.0, p.1, rw at (omega (arith, less))))
+        (λ le. inl (rw at (omega (arith, le))))
+        (cases_lt y rest)
+
+left_one : (k : Key) (as' : List Advice) (amount : ℕ) → (left_of k as' amount ≡ amount) ⊎ ((x : Advice) × IsIn x as' × (x.own ≡ false) × (reverses_key k x ≡ true) × (left_of k as' amount ≡ unwrap_or (actual_amount x.message) 0))
+left_one k [] amount = inl refl
+left_one k (a ∷ as') amount = ⊎_elim (λ same. rest same (left_one k as' amount)) (λ e. inr (a, inl refl, e.0, e.1, e.2)) (left_by_one k a (left_of k as' amount))
+  where
+    rest : left_by k a (left_of k as' amount) ≡ left_of k as' amount → (left_of k as' amount ≡ amount) ⊎ ((x : Advice) × IsIn x as' × (x.own ≡ false) × (reverses_key k x ≡ true) × (left_of k as' amount ≡ unwrap_or (actual_amount x.message) 0)) → (left_by k a (left_of k as' amount) ≡ amount) ⊎ ((x : Advice) × IsIn x (a ∷ as') × (x.own ≡ false) × (reverses_key k x ≡ true) × (left_by k a (left_of k as' amount) ≡ unwrap_or (actual_amount x.message) 0))
+    rest e older = ⊎_elim (λ same. inl (e ∙ same)) (λ f. inr (f.0, inr f.1, f.2, f.3, e ∙ f.4)) older
+
+pub leaves_one : LeavesOne
+unfolding left
+leaves_one t n h a = left_one a.key (advices t n h) (decimal (el a.request 4))
+
+pub leaves_no_more : LeavesNoMore
+leaves_no_more t n h a = left_less t n h a
 
 left_all : (k : Key) (as' : List Advice) (amount : ℕ) → list_any (λ a. not a.own && reverses_key k a) as' ≡ false → left_of k as' amount ≡ amount
 left_all k [] amount e = refl

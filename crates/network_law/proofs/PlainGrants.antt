@@ -1,7 +1,8 @@
 -- The plain words of lent amounts say the same.
-use Rattle.std.proofs.Common.{◌≡◌, ℕ, suc, ◌+◌, ◌≤◌, ◌<◌, List, [], ◌∷◌, ◌++◌, map, filter, find, reverse, length, Option, Some, None, Bool, true, false, cond, not, ◌&&◌, refl, sym, ap, ◌∙◌, ⊎_elim, bytes_eq, arith, eqb, leb}
-use Rattle.std.proofs.lemmas.Bool.{and_parts, eqb-true, eq-eqb, ne_eqb, le-leb, lt-leb, cases_lt, cond_both}
+use Rattle.std.proofs.Common.{◌≡◌, ℕ, suc, ◌+◌, ◌≤◌, ◌<◌, List, [], ◌∷◌, ◌++◌, map, filter, find, reverse, length, Option, Some, None, Bool, true, false, cond, not, ◌&&◌, ◌||◌, is_some, refl, sym, ap, ◌∙◌, ⊎_elim, bytes_eq, arith, eqb, leb}
+use Rattle.std.proofs.lemmas.Bool.{and_parts, or_parts, eqb-true, eq-eqb, ne_eqb, le-leb, lt-leb, cases_lt, cond_both}
 use Rattle.std.proofs.lemmas.List.{append-nil, length-append, length-map}
+use Rattle.std.proofs.lemmas.List.Folds.{list_any-append}
 use mathlib.Core.List.{reverse-cons}
 use Rattle.std.specs.Option.{option_or, option_and_then}
 use Rattle.std.specs.List.{list_any}
@@ -12,10 +13,11 @@ use Rattle.iso_message.specs.Made.{made_reversal, made_stand_in}
 use Rattle.net_rows.specs.Network.{Network}
 use Rattle.network_law.specs.Cards.{Bytes}
 use Rattle.network_law.specs.Tables.{node_id}
-use Rattle.network_law.specs.Grants.{Grant, Granting, Received}
+use Rattle.network_law.specs.declared.grant.Grant.{Grant}
+use Rattle.network_law.specs.declared.grant.GrantPacket.TheVariants as packets
 use Rattle.network_law.specs.Traces.{ReadInput, Enter, Take, LinkUp, LinkDown, Tick, HostAnswer, NewDate, TakePacket, Lend, Event, In, Out, History, count_of, Handled, handled, Opening, opening, sent, own_approval, Advice, advices, acked_by, add_advice, add_made, add_accepted, late_key, failed_key, is_ok_ack, is_advice_group, is_at_home, stored, Lent, lent_acked, grants, stored_grants, has_number, taken, borrowed, lent}
 use Rattle.network_law.specs.Decision.{Due, DueAdvice, DueGrant, grants_made_after, in_order, is_due_again, is_sent_again, due}
-use Rattle.network_law.specs.PlainGrants.{Lending, lends, numbered, GrantsAreLends, takes, TakenByFirst, BorrowedIsSum, LentIsSum, grants_of, advices_of, StoredGrantsAreDue, StoredAdvicesAreDue}
+use Rattle.network_law.specs.PlainGrants.{Lending, lends, numbered, GrantsAreLends, takes, TakenByFirst, TakenOnce, RepeatsAddNothing, NewAdds, BorrowedIsSum, LentIsSum, grants_of, advices_of, StoredGrantsAreDue, StoredAdvicesAreDue}
 use Rattle.network_law.proofs.Emits.{bytes_eq_is}
 use Rattle.network_law.proofs.Plain.{find_append, summed, map_append, filter_append}
 
@@ -99,8 +101,8 @@ pub taken_by_first : TakenByFirst
 unfolding taken takes
 taken_by_first [] g = refl
 taken_by_first (Out i o ∷ h) g = taken_by_first h g
-taken_by_first (In (TakePacket l s (Granting x)) ∷ h) g = taken_more g x (taken h) (takes h) (taken_by_first h g)
-taken_by_first (In (TakePacket l s (Received lender number)) ∷ h) g = taken_by_first h g ∙ ap (find (has_number g)) (sym (append-nil (takes h)))
+taken_by_first (In (TakePacket l s (packets.Grant x)) ∷ h) g = taken_more g x (taken h) (takes h) (taken_by_first h g)
+taken_by_first (In (TakePacket l s (packets.Ack lender number)) ∷ h) g = taken_by_first h g ∙ ap (find (has_number g)) (sym (append-nil (takes h)))
 taken_by_first (In (Enter m) ∷ h) g = taken_by_first h g ∙ ap (find (has_number g)) (sym (append-nil (takes h)))
 taken_by_first (In (Take l s m) ∷ h) g = taken_by_first h g ∙ ap (find (has_number g)) (sym (append-nil (takes h)))
 taken_by_first (In (LinkUp l) ∷ h) g = taken_by_first h g ∙ ap (find (has_number g)) (sym (append-nil (takes h)))
@@ -110,12 +112,69 @@ taken_by_first (In (HostAnswer a c) ∷ h) g = taken_by_first h g ∙ ap (find (
 taken_by_first (In (NewDate d) ∷ h) g = taken_by_first h g ∙ ap (find (has_number g)) (sym (append-nil (takes h)))
 taken_by_first (In (Lend m c d a) ∷ h) g = taken_by_first h g ∙ ap (find (has_number g)) (sym (append-nil (takes h)))
 
+-- what is taken is what came
+
+find_any : {X : Type 0} (p : X → Bool) (xs : List X) → list_any p xs ≡ is_some (find p xs)
+find_any p [] = refl
+find_any p (x ∷ xs) = go (p x) refl (find_any p xs)
+  where
+    go : (b : Bool) → p x ≡ b → list_any p xs ≡ is_some (find p xs) → (p x || list_any p xs) ≡ is_some (cond (p x) (Some x) (find p xs))
+    go true at ih = rw at refl
+    go false at ih = rw at ih
+
+any_turned : {X : Type 0} (p : X → Bool) (xs : List X) → list_any p (reverse xs) ≡ list_any p xs
+any_turned p [] = refl
+any_turned p (x ∷ xs) = ap (list_any p) (reverse-cons x xs) ∙ (list_any-append p (reverse xs) (x ∷ []) ∙ (ap (λ b. b || (p x || false)) (any_turned p xs) ∙ turn (list_any p xs) (p x)))
+  where
+    turn : (a b : Bool) → (a || (b || false)) ≡ (b || a)
+    turn true true = refl
+    turn true false = refl
+    turn false true = refl
+    turn false false = refl
+
+taken_came : (h : History) (g : Grant) → list_any (has_number g) (taken h) ≡ list_any (has_number g) (takes h)
+taken_came h g = sym (any_turned (has_number g) (taken h)) ∙ (find_any (has_number g) (reverse (taken h)) ∙ (ap is_some (taken_by_first h g) ∙ sym (find_any (has_number g) (takes h))))
+
+pub repeats_add_nothing : RepeatsAddNothing
+unfolding borrowed taken
+repeats_add_nothing h l s g card date came = rw (taken_came h g ∙ came) refl
+
+pub new_adds : NewAdds
+unfolding borrowed taken
+new_adds h l s g card date new = rw (taken_came h g ∙ new) refl
+
+none_left : (g : Grant) (xs : List Grant) → list_any (has_number g) xs ≡ false → filter (has_number g) xs ≡ []
+none_left g [] e = refl
+none_left g (x ∷ xs) e = let p = or_parts (has_number g x) (list_any (has_number g) xs) e in rw p.0 (none_left g xs p.1)
+
+one_more : (g x : Grant) (old : List Grant) → length (filter (has_number g) old) ≤ 1 → length (filter (has_number g) (cond (list_any (has_number x) old) old (x ∷ old))) ≤ 1
+one_more g x old le = cond_both (list_any (has_number x) old) old (x ∷ old) (λ z. length (filter (has_number g) z) ≤ 1) (λ _. le) (λ new. go new (has_number g x) refl)
+  where
+    go : list_any (has_number x) old ≡ false → (b : Bool) → has_number g x ≡ b → length (cond (has_number g x) (x ∷ filter (has_number g) old) (filter (has_number g) old)) ≤ 1
+    go new true at = let e = none_left g old (sym (same_number g x old at) ∙ new) in rw (at, e) (omega arith)
+    go new false at = rw at le
+
+pub taken_once : TakenOnce
+unfolding taken
+taken_once [] g = omega arith
+taken_once (Out i o ∷ h) g = taken_once h g
+taken_once (In (TakePacket l s (packets.Grant x)) ∷ h) g = one_more g x (taken h) (taken_once h g)
+taken_once (In (TakePacket l s (packets.Ack lender number)) ∷ h) g = taken_once h g
+taken_once (In (Enter m) ∷ h) g = taken_once h g
+taken_once (In (Take l s m) ∷ h) g = taken_once h g
+taken_once (In (LinkUp l) ∷ h) g = taken_once h g
+taken_once (In (LinkDown l) ∷ h) g = taken_once h g
+taken_once (In Tick ∷ h) g = taken_once h g
+taken_once (In (HostAnswer a c) ∷ h) g = taken_once h g
+taken_once (In (NewDate d) ∷ h) g = taken_once h g
+taken_once (In (Lend m c d a) ∷ h) g = taken_once h g
+
 -- lending
 
 abbrev made_of : Lent → Grant
 made_of g = g.grant
 
-map_reverse : {X Y : Type 0} (f : X → Y) (xs : List X) → map f (reverse xs) ≡ reverse (map f xs)
+pub map_reverse : {X Y : Type 0} (f : X → Y) (xs : List X) → map f (reverse xs) ≡ reverse (map f xs)
 map_reverse f [] = refl
 map_reverse f (x ∷ xs) = ap (map f) (reverse-cons x xs) ∙ (map_append f (reverse xs) (x ∷ []) ∙ (ap (λ z. z ++ f x ∷ []) (map_reverse f xs) ∙ sym (reverse-cons (f x) (map f xs))))
 
@@ -136,7 +195,7 @@ numbered_append t n k (y ∷ ys) x =
     let e : suc k + length ys ≡ k + suc (length ys) = omega arith in
     ap (λ z. as_grant t n k y ∷ z) (numbered_append t n (suc k) ys x) ∙ ap (λ z. as_grant t n k y ∷ (numbered t n (suc k) ys ++ as_grant t n z x ∷ [])) e
 
-reverse_length : {X : Type 0} (xs : List X) → length (reverse xs) ≡ length xs
+pub reverse_length : {X : Type 0} (xs : List X) → length (reverse xs) ≡ length xs
 reverse_length [] = refl
 reverse_length (x ∷ xs) =
     let a = ap length (reverse-cons x xs) in
@@ -166,8 +225,8 @@ grants_are_lends t n (In (LinkDown l) ∷ h) = same_lends t n (lends h) _ (grant
 grants_are_lends t n (In Tick ∷ h) = same_lends t n (lends h) _ (grants_are_lends t n h)
 grants_are_lends t n (In (HostAnswer a c) ∷ h) = same_lends t n (lends h) _ (grants_are_lends t n h)
 grants_are_lends t n (In (NewDate d) ∷ h) = same_lends t n (lends h) _ (grants_are_lends t n h)
-grants_are_lends t n (In (TakePacket l s (Granting g)) ∷ h) = same_lends t n (lends h) _ (grants_are_lends t n h)
-grants_are_lends t n (In (TakePacket l s (Received lender number)) ∷ h) = same_lends t n (lends h) _ (map_reverse made_of (map (lent_acked lender number) (grants t n h)) ∙ (ap reverse (acked_made lender number (grants t n h)) ∙ (sym (map_reverse made_of (grants t n h)) ∙ grants_are_lends t n h)))
+grants_are_lends t n (In (TakePacket l s (packets.Grant g)) ∷ h) = same_lends t n (lends h) _ (grants_are_lends t n h)
+grants_are_lends t n (In (TakePacket l s (packets.Ack lender number)) ∷ h) = same_lends t n (lends h) _ (map_reverse made_of (map (lent_acked lender number) (grants t n h)) ∙ (ap reverse (acked_made lender number (grants t n h)) ∙ (sym (map_reverse made_of (grants t n h)) ∙ grants_are_lends t n h)))
 grants_are_lends t n (In (Lend m c d a) ∷ h) = next (grants_are_lends t n h)
   where
     x : Lending
@@ -374,8 +433,8 @@ sorted_in t n (LinkDown l) h s = s
 sorted_in t n Tick h s = s
 sorted_in t n (HostAnswer a c) h s = s
 sorted_in t n (NewDate d) h s = s
-sorted_in t n (TakePacket l k (Granting g)) h s = s
-sorted_in t n (TakePacket l k (Received lender number)) h s = sorted_acked lender number (length (advices t n h)) (grants t n h) s
+sorted_in t n (TakePacket l k (packets.Grant g)) h s = s
+sorted_in t n (TakePacket l k (packets.Ack lender number)) h s = sorted_acked lender number (length (advices t n h)) (grants t n h) s
 sorted_in t n (Lend m c d a) h s = (omega arith, s)
 
 pub sorted_grants : (t : Network) (n : ℕ) (h : History) → Sorted (length (advices t n h)) (grants t n h)

@@ -1,18 +1,18 @@
 -- What an entry does to the advices, posts and puts of advices of its node.
-use Rattle.std.proofs.Common.{◌≡◌, ℕ, suc, ◌+◌, ◌≤◌, List, [], ◌∷◌, ◌++◌, map, filter, reverse, Option, Some, None, is_some, is_none, Bool, true, false, cond, not, ◌&&◌, ◌||◌, refl, sym, ap, ◌∙◌, subst, inl, inr, ⊎_elim, ◌⊎◌, arith, bytes_eq, nat_lt}
+use Rattle.std.proofs.Common.{◌≡◌, ℕ, suc, ◌+◌, ◌≤◌, List, [], ◌∷◌, ◌++◌, map, reverse, Option, Some, None, is_some, is_none, Bool, true, false, cond, not, ◌&&◌, ◌||◌, refl, sym, ap, ◌∙◌, subst, inl, inr, ⊎_elim, ◌⊎◌, arith, bytes_eq, nat_lt}
 use Rattle.std.proofs.lemmas.Bool.{and_parts, and_from, cond_both, and_left, and_right}
 use Rattle.std.specs.Option.{option_or, option_and_then}
 use Rattle.std.specs.List.{list_any}
-use mathlib.Core.List.{reverse-cons}
 use Rattle.net_rows.specs.Network.{Network, issuer}
 use Rattle.net_rows.specs.declared.row.Issuer.{Issuer}
 use Rattle.network_law.specs.Tables.{is_home, node_id, route_links, single, links_between}
-use Rattle.network_law.specs.Grants.{Packet, Granting, Received}
+use Rattle.network_law.specs.declared.grant.GrantPacket.{GrantPacket}
+use Rattle.network_law.specs.declared.grant.GrantPacket.TheVariants as packets
 use Rattle.network_law.specs.Traces.{Source, Gate, ByLink, ReadInput, Enter, Take, LinkUp, LinkDown, Tick, HostAnswer, NewDate, TakePacket, Lend, ReadOutput, Put, Answer, Ask, Post, PutPacket, In, Out, History, Handled, handled, Opening, opening, opened, with_new, key_handled, answer, answers, sent, has_00, is_00_of, brings_00, own_approval, Advice, advices, add_advice, add_made, add_accepted, acked_by, has_identity, late_key, comes_late, code_is_not_00, failed_key, is_ok_ack, is_advice_group, is_ack_kind, as_kept, is_timer, is_link, forwarded, forwards, pending, fails, count_of, known, reversed, is_at_home, ask_key, ask_count, put_count, Lent, grants, load, was_put, is_up, IsIn, Has}
 use Rattle.network_law.specs.Decision.{decide, reply, reply_output, next_put, emit, sent_kind, keep, send, send_by, own_way, standin, standin_code, fail, fail_all, failing, send_all, Due, DueAdvice, DueGrant, due, send_grant, send_grant_by, send_newest, on_request, on_issuer, on_forward, on_repeat, on_reversal, on_advice, on_answer, on_host, on_code, as_code, on_group, answer_pending, other_content, first_up, same_source}
 use Rattle.network_law.specs.Entries.{ReadEntry, read_history}
 use Rattle.network_law.proofs.ReadRuns.{IsFormed, HasLengths, IsLegalRead}
-use Rattle.network_law.proofs.Emits.{handled_as, is_kept_group, key_eq_refl, stays_open, opening_now, opens_now, handled_no_timer, in_filter, filtered_in, in_append, in_reverse, due_from, IsDueFrom, from_link, request_from_group, answer_from_group}
+use Rattle.network_law.proofs.Emits.{handled_as, is_kept_group, key_eq_refl, stays_open, opening_now, opens_now, handled_no_timer, in_filter, due_from, IsDueFrom, from_link, request_from_group, answer_from_group}
 use Rattle.network_law.proofs.Node.{NodeFacts, answer_is, answers_is, response_is_of_kind, answer_no_request, OpensNow, opening_in_cases}
 use Rattle.network_law.proofs.Elements.{code_response, response_key, made_reversal_key}
 use Rattle.network_law.proofs.Used.{sent_reply, answer_has_00, acked_kind, advice_no_answer}
@@ -32,7 +32,8 @@ use Rattle.iso_message.specs.Codes.{code_of, code_94, code_96, code_92, code_68,
 use Rattle.iso_message.specs.Made.{response, made_reversal, made_stand_in}
 use Rattle.network_law.specs.Claims.{answered_by, post_count}
 use Rattle.iso_message.specs.declared.kind.Group.TheVariants as groups
-use Rattle.network_law.proofs.AdviceMarks.{not_both, none_some, post_in, sends_in, posts, sends, Acc, response_no_advice, answer_no_advice, ack_of_kept, kept_is_advice, advice_kind_group, kept_alike, sent_alike, made_stand_in_key, answered_00, add_other, reversal_reverses, stand_in_stands, identity_key, marks_out, opening_out, other_answers, marks_in, marks_none, has_in, answer_in, request_no_answer, request_brings_none, unopened, in_later, no_in, out_is, ack_no_answer, reply_no_answer, gate_brings_none, NoRepeat}
+use Rattle.network_law.proofs.AdviceMarks.{not_both, post_in, sends_in, posts, sends, Acc, response_no_advice, answer_no_advice, ack_of_kept, kept_is_advice, advice_kind_group, kept_alike, sent_alike, made_stand_in_key, answered_00, add_other, reversal_reverses, stand_in_stands, identity_key, marks_out, opening_out, other_answers, marks_in, marks_none, has_in, answer_in, request_no_answer, request_brings_none, unopened, in_later, no_in, out_is, ack_no_answer, reply_no_answer, gate_brings_none, NoRepeat}
+use Rattle.network_law.proofs.FailOnce.{failing_once}
 
 module _ (t : Network) (n : ℕ) (past : History) (i : ReadInput) where
   -- quiet outputs
@@ -410,7 +411,7 @@ module _ (t : Network) (n : ℕ) (past : History) (i : ReadInput) where
     opens_same : (k : Key) → opening t h' k ≡ opening t h k
 
   -- a packet leaves all of it
-  packet_sent : (l s : ℕ) (p : Packet) (h : History) → Acc t n h → AllSent h (Out i (PutPacket l s p) ∷ h)
+  packet_sent : (l s : ℕ) (p : GrantPacket) (h : History) → Acc t n h → AllSent h (Out i (PutPacket l s p) ∷ h)
   unfolding answer opening
   packet_sent l s p h q = record {
     acc = acc_quiet h (PutPacket l s p) refl refl refl refl refl q;
@@ -429,7 +430,7 @@ module _ (t : Network) (n : ℕ) (past : History) (i : ReadInput) where
     where
       go : (w : Option ℕ) → AllSent h (send_grant_by i g w h)
       go None = record { acc = q; advices_same = refl; answers_same = λ k. refl; opens_same = λ k. refl }
-      go (Some l) = packet_sent l (suc (put_count h l)) (Granting g.grant) h q
+      go (Some l) = packet_sent l (suc (put_count h l)) (packets.Grant g.grant) h q
 
   abbrev DueFromAcc : History → Due → Type 0
   DueFromAcc h (DueAdvice a) = (b : Advice) × IsIn b (advices t n h) × Alike b.message a.message
@@ -715,63 +716,6 @@ module _ (t : Network) (n : ℕ) (past : History) (i : ReadInput) where
       brought : bytes_eq (code_of m) code_00 ≡ true → brings_00 (In i ∷ past) (key_of m) i ≡ true
       brought z = rw (f.1, ans, key_eq_refl (key_of m), z) refl
 
--- no key fails twice
-
-in_opened : (t : Network) (h : History) (k : Key) → IsIn k (opened t h) → (op : Opening) × (opening t h k ≡ Some op)
-unfolding opened opening
-in_opened t [] k m = absurd m
-in_opened t (Out i o ∷ h) k m = in_opened t h k m
-in_opened t (In i ∷ h) k m = go (is_none (option_and_then (opening t h) (key_handled (handled t h i)))) (handled t h i) refl (in_opened t h k) m
-  where
-    old : (op : Opening) × (opening t h k ≡ Some op) → (op : Opening) × (option_or (opening t h k) (Rattle.network_law.specs.Traces.opened_by k (count_of h) i (handled t h i)) ≡ Some op)
-    old r = (r.0, rw (r.1) refl)
-
-    new : (x : Handled) → handled t h i ≡ Some x → is_request x.message.kind ≡ true → key_of x.message ≡ k → (op : Opening) × (option_or (opening t h k) (Rattle.network_law.specs.Traces.opened_by k (count_of h) i (handled t h i)) ≡ Some op)
-    new x e r key = by (opening t h k) refl
-      where
-        by : (w : Option Opening) → opening t h k ≡ w → (op : Opening) × (option_or (opening t h k) (Rattle.network_law.specs.Traces.opened_by k (count_of h) i (handled t h i)) ≡ Some op)
-        by (Some op) at = (op, rw at refl)
-        by None at = (opening_now h i x.message x.source, rw (at, e, r, key, key_eq_refl k) refl)
-
-    go : (b : Bool) (w : Option Handled) → handled t h i ≡ w → (IsIn k (opened t h) → (op : Opening) × (opening t h k ≡ Some op)) → IsIn k (with_new b (key_handled w) (opened t h)) → (op : Opening) × (option_or (opening t h k) (Rattle.network_law.specs.Traces.opened_by k (count_of h) i (handled t h i)) ≡ Some op)
-    go false w e rest m = old (rest m)
-    go true None e rest m = old (rest m)
-    go true (Some x) e rest m = by_kind (is_request x.message.kind) refl m
-      where
-        by_kind : (r : Bool) → is_request x.message.kind ≡ r → IsIn k (with_new true (cond (is_request x.message.kind) (Some (key_of x.message)) None) (opened t h)) → (op : Opening) × (option_or (opening t h k) (Rattle.network_law.specs.Traces.opened_by k (count_of h) i (handled t h i)) ≡ Some op)
-        by_kind true r m = ⊎_elim (λ here. new x e r here) (λ there. old (rest there)) (rw r at m)
-        by_kind false r m = old (rest (rw r at m))
-
-opened_once : (t : Network) (h : History) → NoRepeat (opened t h)
-unfolding opened
-opened_once t [] = omega arith
-opened_once t (Out i o ∷ h) = opened_once t h
-opened_once t (In i ∷ h) = go (key_handled (handled t h i)) (opened_once t h)
-  where
-    go : (w : Option Key) → NoRepeat (opened t h) → NoRepeat (with_new (is_none (option_and_then (opening t h) w)) w (opened t h))
-    go None rest = rest
-    go (Some k) rest = by (opening t h k) refl
-      where
-        by : (v : Option Opening) → opening t h k ≡ v → NoRepeat (with_new (is_none (opening t h k)) (Some k) (opened t h))
-        by None at = rw at (λ m. (let r = in_opened t h k m in none_some r.0 (sym at ∙ r.1)), rest)
-        by (Some op) at = rw at rest
-
-once_last : (xs : List Key) (y : Key) → NoRepeat xs → (IsIn y xs → ⊥) → NoRepeat (xs ++ (y ∷ []))
-once_last [] y q other = (λ m. m, omega arith)
-once_last (x ∷ xs) y q other = (λ m. ⊎_elim (λ old. q.0 old) (λ b. ⊎_elim (λ e. other (inl (sym e))) (λ c. c) b) (in_append xs (y ∷ []) x m), once_last xs y q.1 (λ m. other (inr m)))
-
-once_reverse : (xs : List Key) → NoRepeat xs → NoRepeat (reverse xs)
-once_reverse [] q = q
-once_reverse (x ∷ xs) q = subst NoRepeat (sym (reverse-cons x xs)) (once_last (reverse xs) x (once_reverse xs q.1) (λ m. q.0 (in_reverse xs x m)))
-
-once_filter : (p : Key → Bool) (xs : List Key) → NoRepeat xs → NoRepeat (filter p xs)
-once_filter p [] q = q
-once_filter p (x ∷ xs) q = cond_both (p x) (x ∷ filter p xs) (filter p xs) NoRepeat (λ _. (λ m. q.0 (filtered_in p xs x m), once_filter p xs q.1)) (λ _. once_filter p xs q.1)
-
-failing_once : (t : Network) (past : History) (i : ReadInput) → NoRepeat (failing t past i)
-unfolding failing
-failing_once t past i = once_filter (fails t past i) (reverse (opened t past)) (once_reverse (opened t past) (opened_once t past))
-
 -- through an entry and a trace
 
 acc_decide : (t : Network) (n : ℕ) (past : History) (i : ReadInput) → LateFacts t n past → NodeFacts t n past → Acc t n past → Acc t n (decide t n past i)
@@ -789,8 +733,8 @@ acc_decide t n past Tick late facts q = fail_all_acc t n past Tick facts (failin
 
     all : AllSent t n past Tick (In Tick ∷ past) (send_all t n Tick (due t n past) (In Tick ∷ past))
     all = send_all_acc t n past Tick (due t n past) (In Tick ∷ past) (λ x m. from x (due_from t n past x m)) (in_acc t n past Tick refl q)
-acc_decide t n past (TakePacket l s (Granting g)) late facts q = AllSent.acc (packet_sent t n past (TakePacket l s (Granting g)) l (suc (put_count (In (TakePacket l s (Granting g)) ∷ past) l)) (Received g.lender g.number) (In (TakePacket l s (Granting g)) ∷ past) (in_acc t n past (TakePacket l s (Granting g)) refl q))
-acc_decide t n past (TakePacket l s (Received lender number)) late facts q = in_acc t n past (TakePacket l s (Received lender number)) refl q
+acc_decide t n past (TakePacket l s (packets.Grant g)) late facts q = AllSent.acc (packet_sent t n past (TakePacket l s (packets.Grant g)) l (suc (put_count (In (TakePacket l s (packets.Grant g)) ∷ past) l)) (packets.Ack g.lender g.number) (In (TakePacket l s (packets.Grant g)) ∷ past) (in_acc t n past (TakePacket l s (packets.Grant g)) refl q))
+acc_decide t n past (TakePacket l s (packets.Ack lender number)) late facts q = in_acc t n past (TakePacket l s (packets.Ack lender number)) refl q
 acc_decide t n past (Lend m c d a) late facts q = newest (grants t n (In (Lend m c d a) ∷ past))
   where
     start : Acc t n (In (Lend m c d a) ∷ past)

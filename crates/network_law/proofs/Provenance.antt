@@ -12,7 +12,7 @@ use Rattle.network_law.specs.Decision.{reply_output, sent_kind, other_content}
 use Rattle.network_law.proofs.Refused.{EnteredFacts, entered_facts, IsWhole}
 use Rattle.network_law.specs.Refusals.{refusal, strange_original}
 use Rattle.network_law.proofs.ReadRuns.{IsFormed}
-use Rattle.network_law.proofs.Emits.{Allowed, forwarding, asking, standing_in, passing, declining, repeating, refusing, acking, sending, posting, putting_packet, handled_as, Issued, key_eq_refl, bytes_eq_is, stays_open, is_kept_group, is_link_is, via_ticks, IsGood, handled_no_timer, Accepts}
+use Rattle.network_law.proofs.Emits.{Allowed, forwarding, asking, standing_in, passing, declining, repeating, refusing, acking, sending, posting, putting_packet, Acking, handled_as, Issued, key_eq_refl, bytes_eq_is, stays_open, is_kept_group, is_link_is, via_ticks, IsGood, handled_no_timer, Accepts}
 use Rattle.network_law.proofs.Node.{NodeFacts, EntryFacts, Opened, OpensNow, opening_in_cases, legal_facts, facts_in, facts_out, keeps_issuers, answer_no_request, response_is_of_kind, response_no_request, forwarded_has, asked_has, Sent, el_dated, el_remove, put_parts, put_case}
 use Rattle.network_law.proofs.Elements.{code_response, made_reversal_key, content_made_reversal}
 use Rattle.network_law.proofs.Used.{reversed_more, acked_kind, sent_reply, reply_message}
@@ -430,9 +430,9 @@ pub ok_ack_parts : (w : Option Fields) → is_ok_ack w ≡ true → (y : Fields)
 ok_ack_parts None e = absurd (not_both false e refl)
 ok_ack_parts (Some y) e = let p = and_parts (is_ack_kind (group y.kind)) (bytes_eq (code_of y) code_00) e in (y, refl, p.0, p.1)
 
--- what is acknowledged with 00 is good
-pub ack_case : (t : Network) (n : ℕ) (past : History) (i : ReadInput) (h : History) (o : ReadOutput) → EntryFacts t n past i h → Allowed t n past i h o → is_ok_ack (sent o) ≡ true → (m : Fields) × (src : Source) × handled_as t past i m src × IsGood t past m
-ack_case t n past i h o facts allowed e = go allowed
+-- what is acknowledged with 00 was accepted
+pub acking_case : (t : Network) (n : ℕ) (past : History) (i : ReadInput) (h : History) (o : ReadOutput) → EntryFacts t n past i h → Allowed t n past i h o → is_ok_ack (sent o) ≡ true → (f : Acking t n past i h o) × (bytes_eq f.code code_00 ≡ true)
+acking_case t n past i h o facts allowed e = go allowed
   where
     y : (y : Fields) × (sent o ≡ Some y) × (is_ack_kind (group y.kind) ≡ true) × (bytes_eq (code_of y) code_00 ≡ true)
     y = ok_ack_parts (sent o) e
@@ -443,7 +443,7 @@ ack_case t n past i h o facts allowed e = go allowed
     of_request : {A : Type 0} (m : Fields) (c : Bytes) → response m c ≡ y.0 → is_request m.kind ≡ true → A
     of_request m c same r = ends (ap (λ z. is_ack_kind (group (Fields.kind z))) (sym same) ∙ (ap (λ z. is_ack_kind (group z)) (response_is_of_kind m c) ∙ request_no_ack m.kind r))
 
-    go : Allowed t n past i h o → (m : Fields) × (src : Source) × handled_as t past i m src × IsGood t past m
+    go : Allowed t n past i h o → (f : Acking t n past i h o) × (bytes_eq f.code code_00 ≡ true)
     go (forwarding f) = ends (ap (λ z. is_ack_kind (group (Fields.kind z))) (sym (same_Some (as_kind K0100 f.message) y.0 (ap sent (sym f.is) ∙ y.1))))
     go (asking f) = absurd (none_some y.0 (ap sent (sym f.is) ∙ y.1))
     go (standing_in f) = of_request f.op.message _ (reply_message f.op.source _ h o y.0 f.is y.1) (facts.node.opens f.opens.key f.op (facts.opening_is f.opens.key ∙ f.opens.is)).request
@@ -451,10 +451,26 @@ ack_case t n past i h o facts allowed e = go allowed
     go (declining f) = of_request f.op.message f.code (reply_message f.op.source _ h o y.0 f.is y.1) (facts.node.opens f.opens.key f.op (facts.opening_is f.opens.key ∙ f.opens.is)).request
     go (repeating f) = ends (ap (λ z. is_ack_kind (group (Fields.kind z))) (sym (reply_message f.source f.before h o y.0 f.is y.1)) ∙ answer_no_ack f.before.kind ((Rattle.network_law.proofs.Node.answer_is past f.key f.before f.answered).0))
     go (refusing f) = absurd (not_both (bytes_eq code_94 code_00) (ap (λ c. bytes_eq c code_00) (sym (Rattle.network_law.proofs.Used.response_code f.message code_94 y.0 (reply_message f.source _ h o y.0 f.is y.1))) ∙ y.3) refl)
-    go (acking f) = (f.message, f.source, f.is_handled, f.good (ap (λ c. bytes_eq c code_00) (sym (Rattle.network_law.proofs.Used.response_code f.message f.code y.0 (reply_message f.source _ h o y.0 f.is y.1))) ∙ y.3))
+    go (acking f) = (f, ap (λ c. bytes_eq c code_00) (sym (Rattle.network_law.proofs.Used.response_code f.message f.code y.0 (reply_message f.source _ h o y.0 f.is y.1))) ∙ y.3)
     go (sending f) = ends (ap (λ z. is_ack_kind (group (Fields.kind z))) (sym (same_Some (as_kind (sent_kind (is_04xx f.message.kind) f.again) f.message) y.0 (ap sent (sym f.is) ∙ y.1))) ∙ advice_no_ack (is_04xx f.message.kind) f.again)
     go (posting f) = absurd (none_some y.0 (ap sent (sym f.is) ∙ y.1))
     go (putting_packet f) = absurd (none_some y.0 (ap sent (sym f.is) ∙ y.1))
+
+-- and is good
+pub ack_case : (t : Network) (n : ℕ) (past : History) (i : ReadInput) (h : History) (o : ReadOutput) → EntryFacts t n past i h → Allowed t n past i h o → is_ok_ack (sent o) ≡ true → (m : Fields) × (src : Source) × handled_as t past i m src × IsGood t past m
+ack_case t n past i h o facts allowed e = let r = acking_case t n past i h o facts allowed e in (r.0.message, r.0.source, r.0.is_handled, r.0.good r.1)
+
+-- a good reversal has the content of its key, where that is open
+pub good_agrees : (t : Network) (n : ℕ) (past : History) (i : ReadInput) (h : History) (m : Fields) (src : Source) → EntryFacts t n past i h → handled_as t past i m src → is_reversal m.kind ≡ true → IsGood t past m → (op : Opening) → opening t h (key_of m) ≡ Some op → content op.message ≡ content m
+good_agrees t n past i h m src entry e r good op o = ⊎_elim was now (opening_in_cases t past i (key_of m) op (sym (entry.opening_is (key_of m)) ∙ o))
+  where
+    was : opening t past (key_of m) ≡ Some op → content op.message ≡ content m
+    was w = content_eq_is (content op.message) (content m) (not-false _ (ap (λ z. other_content z m) (sym w) ∙ good.agrees r))
+
+    now : OpensNow t past i (key_of m) op → content op.message ≡ content m
+    now v =
+        let q : op.message ≡ m = ap (λ (z : Handled). z.message) (same_Some _ _ (sym v.is_handled ∙ e)) in
+        absurd (not_both (is_04xx m.kind) (reversal_is_04xx m.kind r) (Rattle.network_law.proofs.Node.request_no_04xx m.kind (ap (λ z. is_request (Fields.kind z)) (sym q) ∙ v.request)))
 
 -- a reversal that is good, at its node
 pub record GoodHere (t : Network) (n : ℕ) (past : History) (i : ReadInput) (h : History) : Type 0 where
@@ -472,15 +488,7 @@ good_accepted t n past i h m x src ok here e r good key same rev = record {
     issued_of (Some s) at g = (s, ap (issuer t) (same_card x m same) ∙ at)
 
     agrees : (op : Opening) → opening t h (key_of m) ≡ Some op → content op.message ≡ content x
-    agrees op o = ⊎_elim was now (opening_in_cases t past i (key_of m) op (sym ((GoodHere.entry here).opening_is (key_of m)) ∙ o))
-      where
-        was : opening t past (key_of m) ≡ Some op → content op.message ≡ content x
-        was w = content_eq_is (content op.message) (content m) (not-false _ (ap (λ z. other_content z m) (sym w) ∙ good.agrees r)) ∙ sym same
-
-        now : OpensNow t past i (key_of m) op → content op.message ≡ content x
-        now v =
-            let q : op.message ≡ m = ap (λ (z : Handled). z.message) (same_Some _ _ (sym v.is_handled ∙ e)) in
-            absurd (not_both (is_04xx m.kind) (reversal_is_04xx m.kind r) (Rattle.network_law.proofs.Node.request_no_04xx m.kind (ap (λ z. is_request (Fields.kind z)) (sym q) ∙ v.request)))
+    agrees op o = good_agrees t n past i h m src (GoodHere.entry here) e r good op o ∙ sym same
 
 pub made_stand_in_kind : (m : Fields) (id : Bytes) → (made_stand_in m id).kind ≡ K0120
 unfolding made_stand_in Rattle.iso_message.specs.Made.made_from Rattle.iso_message.specs.Fields.set_element

@@ -4,7 +4,7 @@ use Rattle.iso_message.specs.Fields.{Fields, el}
 use Rattle.iso_message.specs.Groups.{is_request}
 use Rattle.net_rows.specs.Network.{Network, other_end}
 use Rattle.network_law.specs.Tables.{is_link_of}
-use Rattle.network_law.specs.Grants.{Packet}
+use Rattle.network_law.specs.declared.grant.GrantPacket.{GrantPacket}
 use Rattle.network_law.specs.Traces.{ReadInput, Enter, Take, TakePacket, LinkUp, LinkDown, Put, PutPacket, In, Out, History, Has}
 use Rattle.network_law.specs.Decision.{decide}
 use Rattle.network_law.specs.Refusals.{refusal}
@@ -45,5 +45,5 @@ IsLegalRead t n (e ∷ es) = IsLegalRead t n es × IsDecidedRead t n (read_histo
 pub record IsReadRun (t : Network) (traces : ℕ → List ReadEntry) : Type 0 where
   pub legal : (n : ℕ) → n < length t.nodes → IsLegalRead t n (traces n)
   pub no_others : (n : ℕ) → length t.nodes ≤ n → traces n ≡ []
-  pub packets : (n l s : ℕ) (p : Packet) → Has (In (TakePacket l s p)) (read_history (traces n)) → (i : ReadInput) × Has (Out i (PutPacket l s p)) (read_history (traces (other_end t n l)))
+  pub packets : (n l s : ℕ) (p : GrantPacket) → Has (In (TakePacket l s p)) (read_history (traces n)) → (i : ReadInput) × Has (Out i (PutPacket l s p)) (read_history (traces (other_end t n l)))
   pub linked : (n l s : ℕ) (m : Fields) → Has (In (Take l s m)) (read_history (traces n)) → (i : ReadInput) × Has (Out i (Put l s m)) (read_history (traces (other_end t n l)))

@@ -23,7 +23,8 @@ use Rattle.network_law.specs.Refusals.{refusal, required_entered, required_taken
 use Rattle.network_law.specs.Entries.{Input, Enter, Take, LinkUp, LinkDown, Tick, HostAnswer, NewDate, Lend, Output, Put, Entry, ReadEntry, read_entry, packet_or, read_as, read_input, read_output, read_outputs, with_read, read_trace, put_out, read_history, history, spelled, newest_onto, newest_outputs}
 use Rattle.network_law.specs.Checked.{IsChecked}
 use Rattle.network_law.specs.Runs.{NamesOwnLink, IsTyped, fault_of, step_refusal, outputs_of, step_outputs, IsStep, IsLegal, IsRun}
-use Rattle.network_law.specs.Grants.{Packet, read_packet}
+use Rattle.network_law.specs.declared.grant.GrantPacket.{GrantPacket}
+use Rattle.network_law.specs.Grants.{read_packet}
 use Rattle.network_law.specs.Traces.{grants}
 use Rattle.network_law.proofs.Packets.{packet_again, message_no_packet, packet_numbered}
 use Rattle.network_law.proofs.Ids.{IsIdText, id_text, id_fits}
@@ -144,7 +145,7 @@ input_read t n past (Enter bytes) j e own typed ok =
     subst (IsReadInput t n (Enter bytes)) r.2 ((g, f), f, omega arith)
 input_read t n past (Take l s bytes) j e own typed ok = go (read_packet bytes) refl e
   where
-    go : (w : Option Packet) → read_packet bytes ≡ w → packet_or (messages.TakePacket l s) (read_packet bytes) (read_as (messages.Take l s) (read bytes)) ≡ Ok j → IsReadInput t n (Take l s bytes) j
+    go : (w : Option GrantPacket) → read_packet bytes ≡ w → packet_or (messages.TakePacket l s) (read_packet bytes) (read_as (messages.Take l s) (read bytes)) ≡ Ok j → IsReadInput t n (Take l s bytes) j
     go (Some p) at e = subst (IsReadInput t n (Take l s bytes)) (same_ok (messages.TakePacket l s p) j (rw at at e)) (packet_numbered bytes p at, omega arith, own)
     go None at e =
         let r = read_ok (messages.Take l s) (read bytes) j (rw at at e) in
@@ -300,10 +301,10 @@ take_read (Take l' s' bytes) l s m e = go (read_packet bytes) refl
     bodies : {a b c d : ℕ} {x y : Fields} → messages.Take a b x ≡ messages.Take c d y → x ≡ y
     bodies p = cc
 
-    no : {a b c d : ℕ} {p : Packet} {x : Fields} → messages.TakePacket a b p ≡ messages.Take c d x → ⊥
+    no : {a b c d : ℕ} {p : GrantPacket} {x : Fields} → messages.TakePacket a b p ≡ messages.Take c d x → ⊥
     no p = cc
 
-    go : (w : Option Packet) → read_packet bytes ≡ w → TakesAs l s (messages.Put l s m) (Take l' s' bytes)
+    go : (w : Option GrantPacket) → read_packet bytes ≡ w → TakesAs l s (messages.Put l s m) (Take l' s' bytes)
     go (Some p) at = absurd (no (same_ok (messages.TakePacket l' s' p) (messages.Take l s m) (rw at at e)))
     go None at =
         let r = read_ok (messages.Take l' s') (read bytes) (messages.Take l s m) (rw at at e) in
@@ -319,26 +320,26 @@ take_read (HostAnswer a c) l s m e = cc
 take_read (NewDate d) l s m e = cc
 take_read (Lend k c d a) l s m e = cc
 
-packet_taken : (i : Input) (l s : ℕ) (p : Packet) → read_input i ≡ Ok (messages.TakePacket l s p) → TakesAs l s (messages.PutPacket l s p) i
+packet_taken : (i : Input) (l s : ℕ) (p : GrantPacket) → read_input i ≡ Ok (messages.TakePacket l s p) → TakesAs l s (messages.PutPacket l s p) i
 unfolding read_input read_output
 packet_taken (Take l' s' bytes) l s p e = go (read_packet bytes) refl
   where
-    links : {a b c d : ℕ} {x y : Packet} → messages.TakePacket a b x ≡ messages.TakePacket c d y → a ≡ c
+    links : {a b c d : ℕ} {x y : GrantPacket} → messages.TakePacket a b x ≡ messages.TakePacket c d y → a ≡ c
     links q = cc
 
-    serials : {a b c d : ℕ} {x y : Packet} → messages.TakePacket a b x ≡ messages.TakePacket c d y → b ≡ d
+    serials : {a b c d : ℕ} {x y : GrantPacket} → messages.TakePacket a b x ≡ messages.TakePacket c d y → b ≡ d
     serials q = cc
 
-    bodies : {a b c d : ℕ} {x y : Packet} → messages.TakePacket a b x ≡ messages.TakePacket c d y → x ≡ y
+    bodies : {a b c d : ℕ} {x y : GrantPacket} → messages.TakePacket a b x ≡ messages.TakePacket c d y → x ≡ y
     bodies q = cc
 
-    no : {a b c d : ℕ} {q : Packet} {x : Fields} → messages.Take a b x ≡ messages.TakePacket c d q → ⊥
+    no : {a b c d : ℕ} {q : GrantPacket} {x : Fields} → messages.Take a b x ≡ messages.TakePacket c d q → ⊥
     no r = cc
 
-    go : (w : Option Packet) → read_packet bytes ≡ w → TakesAs l s (messages.PutPacket l s p) (Take l' s' bytes)
+    go : (w : Option GrantPacket) → read_packet bytes ≡ w → TakesAs l s (messages.PutPacket l s p) (Take l' s' bytes)
     go (Some q) at =
         let same = same_ok (messages.TakePacket l' s' q) (messages.TakePacket l s p) (rw at at e) in
-        (bytes, ap (λ z. Take z s' bytes) (links same) ∙ ap (λ z. Take l z bytes) (serials same), rw at (ap (λ (z : Packet). Ok (messages.PutPacket l s z)) (bodies same)))
+        (bytes, ap (λ z. Take z s' bytes) (links same) ∙ ap (λ z. Take l z bytes) (serials same), rw at (ap (λ (z : GrantPacket). Ok (messages.PutPacket l s z)) (bodies same)))
     go None at = absurd (no (read_ok (messages.Take l' s') (read bytes) (messages.TakePacket l s p) (rw at at e)).2)
 packet_taken (Enter bytes) l s p e = absurd (no (read_ok messages.Enter (read bytes) (messages.TakePacket l s p) e).2)
   where

@@ -21,7 +21,8 @@ use Rattle.network_law.proofs.Emits.{Allowed, forwarding, asking, standing_in, p
 use Rattle.network_law.proofs.Node.{NodeFacts, EntryFacts, Opened, legal_facts, facts_in, facts_out, facts_decide, keeps_issuers, answers_is, response_is_of_kind}
 use Rattle.network_law.proofs.Elements.{code_response, response_key}
 use Rattle.network_law.proofs.Ends.{legal_at, histories}
-use Rattle.network_law.specs.Cards.{label_of, Bytes, card_of, actual_amount}
+use Rattle.network_law.specs.Cards.{label_of, Bytes, card_of}
+use Rattle.iso_message.specs.Amounts.{actual_amount}
 use Rattle.iso_message.specs.Fields.{Fields, el, as_kind}
 use Rattle.iso_message.specs.declared.kind.Kind.{Kind}
 use Rattle.iso_message.specs.declared.kind.Kind.TheVariants.{K0100, K0110, K0120, K0121, K0130, K0400, K0401, K0410, K0420, K0421, K0430, K0101}
@@ -134,7 +135,7 @@ pub record OwnNow (h : History) (i : ReadInput) (o : ReadOutput) (k : Key) : Typ
   pub none_before : has_00 h k ≡ false
   pub not_brought : brings_00 h k i ≡ false
 
-own_now : (h : History) (i : ReadInput) (o : ReadOutput) (k : Key) → own_approval h i o ≡ Some k → OwnNow h i o k
+pub own_now : (h : History) (i : ReadInput) (o : ReadOutput) (k : Key) → own_approval h i o ≡ Some k → OwnNow h i o k
 own_now h i o k e = by_message (sent o) refl e
   where
     none_some : (x : Key) → None ≡ Some x → ⊥
@@ -207,8 +208,9 @@ open_here t n past i h e op k is =
     let w = e.node.opens k op now in
     (now, w.key, w.request)
 
-pub own_case : (t : Network) (n : ℕ) (past : History) (i : ReadInput) (h : History) (o : ReadOutput) (k : Key) → OwnFacts t n past i h → Allowed t n past i h o → own_approval h i o ≡ Some k → Stood t n h k
-own_case t n past i h o k facts allowed own = go allowed
+-- a key that the node approves by itself is stood in for
+pub own_stands : (t : Network) (n : ℕ) (past : History) (i : ReadInput) (h : History) (o : ReadOutput) (k : Key) → OwnFacts t n past i h → Allowed t n past i h o → own_approval h i o ≡ Some k → (f : StandingIn t n past i h o) × (f.opens.key ≡ k)
+own_stands t n past i h o k facts allowed own = go allowed
   where
     w : OwnNow h i o k
     w = own_now h i o k own
@@ -216,7 +218,7 @@ own_case t n past i h o k facts allowed own = go allowed
     ends : {A : Type 0} (b : Bool) → b ≡ true → b ≡ false → A
     ends b p q = absurd (not_both b p q)
 
-    go : Allowed t n past i h o → Stood t n h k
+    go : Allowed t n past i h o → (f : StandingIn t n past i h o) × (f.opens.key ≡ k)
     go (forwarding f) =
         let same : as_kind K0100 f.message ≡ w.message = same_Some _ _ (ap sent (sym f.is) ∙ w.is) in
         ends (is_answer w.message.kind) w.answer_kind (ap (λ z. is_answer (Fields.kind z)) (sym same))
@@ -228,7 +230,7 @@ own_case t n past i h o k facts allowed own = go allowed
         let same : response f.op.message (standin_code t n h f.op.message) ≡ w.message = reply_message f.op.source _ h o w.message f.is w.is in
         let here = open_here t n past i h facts.entry f.op f.opens.key f.opens.is in
         let key : f.opens.key ≡ k = sym here.1 ∙ (sym (response_key f.op.message (standin_code t n h f.op.message) here.2) ∙ (ap key_of same ∙ w.key)) in
-        record { op = f.op; s = f.s; opens = ap (opening t h) (sym key) ∙ here.0; issued = f.issued; code = ap (λ c. bytes_eq c code_00) (sym (response_code f.op.message (standin_code t n h f.op.message) w.message same)) ∙ w.code }
+        (f, key)
     go (passing f) =
         let same : response f.op.message f.code ≡ w.message = reply_message f.op.source _ h o w.message f.is w.is in
         let here = open_here t n past i h facts.entry f.op f.key (Rattle.network_law.proofs.Emits.stays_open t past i f.key f.op f.opens) in
@@ -260,6 +262,15 @@ own_case t n past i h o k facts allowed own = go allowed
       where
         no : None ≡ Some w.message → ⊥
         no p = cc
+
+pub own_case : (t : Network) (n : ℕ) (past : History) (i : ReadInput) (h : History) (o : ReadOutput) (k : Key) → OwnFacts t n past i h → Allowed t n past i h o → own_approval h i o ≡ Some k → Stood t n h k
+own_case t n past i h o k facts allowed own =
+    let r = own_stands t n past i h o k facts allowed own in
+    let w = own_now h i o k own in
+    let f = r.0 in
+    let here = open_here t n past i h facts.entry f.op f.opens.key f.opens.is in
+    let same : response f.op.message (standin_code t n h f.op.message) ≡ w.message = reply_message f.op.source _ h o w.message f.is w.is in
+    record { op = f.op; s = f.s; opens = ap (opening t h) (sym r.1) ∙ here.0; issued = f.issued; code = ap (λ c. bytes_eq c code_00) (sym (response_code f.op.message (standin_code t n h f.op.message) w.message same)) ∙ w.code }
 
 -- the limits
 
@@ -371,7 +382,7 @@ left_of_less k (a ∷ as') x =
     let q = left_of_less k as' x in
     omega (arith, p, q)
 
-left_less : (t : Network) (n : ℕ) (h : History) (a : Approval) → left t n h a ≤ decimal (el a.request 4)
+pub left_less : (t : Network) (n : ℕ) (h : History) (a : Approval) → left t n h a ≤ decimal (el a.request 4)
 unfolding left
 left_less t n h a = left_of_less a.key (advices t n h) (decimal (el a.request 4))
 
@@ -597,12 +608,13 @@ pub within_limits : (t : Network) (n : ℕ) (es : List ReadEntry) → IsBounded 
 unfolding cap_of
 within_limits t n es bounded less l = record {
   named = λ a m. (let f = u.named a m in (f.0, f.1, names t n (card_of a.request) f.0 bounded less f.1 f.2));
-  within = λ card date. go card date (issuer t card) (u.within card date);
+  within = λ card date. (let a = all card date (issuer t card) (u.within card date) in omega (arith, a));
+  with_lent = λ card date. all card date (issuer t card) (u.within card date);
 }
   where
     u : UsedFacts t n (read_history es)
     u = legal_used t n es l
 
-    go : (card date : List ℕ) (o : Option Issuer) → used t n (read_history es) card date + lent t n (read_history es) card date ≤ cap_of o (day t n card + borrowed (read_history es) card date) → used t n (read_history es) card date ≤ allowance t n (read_history es) card date
-    go card date None le = omega (arith, le)
-    go card date (Some s) le = omega (arith, le)
+    all : (card date : List ℕ) (o : Option Issuer) → used t n (read_history es) card date + lent t n (read_history es) card date ≤ cap_of o (day t n card + borrowed (read_history es) card date) → used t n (read_history es) card date + lent t n (read_history es) card date ≤ day t n card + borrowed (read_history es) card date
+    all card date None le = omega (arith, le)
+    all card date (Some s) le = le

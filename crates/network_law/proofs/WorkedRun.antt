@@ -1,17 +1,19 @@
 -- The worked networks are checked, and the worked run is one.
-use Rattle.std.proofs.Common.{◌≡◌, ℕ, zero, suc, ◌≤◌, ◌<◌, [], ◌∷◌, Some, Bool, true, false, refl, subst, inl, inr, ⊎_elim, arith, eqb, rules}
+use Rattle.std.proofs.Common.{◌≡◌, ℕ, zero, suc, ◌≤◌, ◌<◌, List, [], ◌∷◌, Some, None, Bool, true, false, refl, subst, inl, inr, ⊎_elim, arith, eqb, rules}
 use Rattle.std.proofs.lemmas.Bool.{eqb-true}
-use Rattle.std.specs.Prelude.{⊤}
+use Rattle.std.specs.Prelude.{⊤, Contains, codes}
+use Rattle.std.proofs.lemmas.Option.{same_Some}
 use Rattle.card_digits.specs.Longest.{begins}
-use Rattle.net_rows.specs.Network.{other_end}
+use Rattle.net_rows.specs.Network.{issuer, day, other_end}
+use Rattle.net_rows.specs.declared.row.Issuer.{Issuer}
 use Rattle.network_law.specs.Tables.{route_links}
 use Rattle.network_law.specs.Traces.{IsIn}
 use Rattle.network_law.specs.Decision.{decide}
 use Rattle.network_law.specs.Refusals.{refusal}
 use Rattle.network_law.specs.Entries.{Input, Take, Put, Entry, read_history, spelled, spelled_input, spelled_trace}
-use Rattle.network_law.specs.Checked.{IsChecked, IsRanked, Falls}
+use Rattle.network_law.specs.Checked.{IsChecked, IsRanked, IsBounded, Falls, sum_below}
 use Rattle.network_law.specs.Runs.{IsLegal, IsRun}
-use Rattle.network_law.specs.Worked.{base, limited, diamond, lenders, reversed_run, lent_run, base_ranks, card_number}
+use Rattle.network_law.specs.Worked.{base, limited, diamond, lenders, reversed_run, lent_run, base_ranks, lender_ranks, card_number}
 use Rattle.network_law.proofs.ReadRuns.{IsLegalRead}
 use Rattle.network_law.proofs.Packets.{within_is}
 use Rattle.network_law.proofs.Spelled.{legal_spelled}
@@ -42,6 +44,56 @@ base_ranked c s (suc n) l is less away on = go (eqb 0 (suc n)) refl on
     go : (b : Bool) → eqb 0 (suc n) ≡ b → IsIn l (route_links base (suc n) c) → Falls (base_ranks (other_end base (suc n) l) c) (Some 0)
     go true at on = let same : 0 ≡ suc n = eqb-true 0 (suc n) at in absurd (omega (arith, same))
     go false at on = absurd (rw at at on)
+
+pub lenders_ranked : IsRanked lenders lender_ranks
+unfolding route_links
+lenders_ranked c s zero l is less away on = go (begins (4 ∷ []) c) refl on
+  where
+    go : (b : Bool) → begins (4 ∷ []) c ≡ b → IsIn l (route_links lenders 0 c) → Falls (lender_ranks (other_end lenders 0 l) c) (Some 1)
+    go false at on = absurd (rw at at on)
+    go true at on =
+        let l1 : 1 ≡ l = ⊎_elim (λ e. e) (λ bad. absurd bad) (rw at at on) in
+        subst (λ k. Falls (lender_ranks (other_end lenders 0 k) c) (Some 1)) l1 (record { from = 1; to = 0; is_from = refl; is_to = refl; less = omega arith; bound = omega arith })
+lenders_ranked c s (suc zero) l is less away on = go (begins (4 ∷ []) c) refl on
+  where
+    go : (b : Bool) → begins (4 ∷ []) c ≡ b → IsIn l (route_links lenders 1 c) → Falls (lender_ranks (other_end lenders 1 l) c) (Some 1)
+    go false at on = absurd (rw at at on)
+    go true at on =
+        let l2 : 2 ≡ l = ⊎_elim (λ e. e) (λ bad. absurd bad) (rw at at on) in
+        subst (λ k. Falls (lender_ranks (other_end lenders 1 k) c) (Some 1)) l2 (record { from = 1; to = 0; is_from = refl; is_to = refl; less = omega arith; bound = omega arith })
+lenders_ranked c s (suc (suc zero)) l is less away on = absurd on
+lenders_ranked c s (suc (suc (suc n))) l is less away on = absurd (omega (arith, less))
+
+lenders_issuer : Issuer
+lenders_issuer = record { name = codes "I"; prefix = 4 ∷ []; home = 2; named = 0 ∷ 1 ∷ []; ceiling = 500 }
+
+-- a card has this issuer or none
+lenders_issued : (c : List ℕ) (s : Issuer) → issuer lenders c ≡ Some s → (begins (4 ∷ []) c ≡ true) × (lenders_issuer ≡ s)
+unfolding lenders_issuer
+lenders_issued c s is = go (begins (4 ∷ []) c) refl
+  where
+    go : (b : Bool) → begins (4 ∷ []) c ≡ b → (begins (4 ∷ []) c ≡ true) × (lenders_issuer ≡ s)
+    go true at = (at, same_Some _ _ (rw at at is))
+    go false at = absurd (no (rw at at is))
+      where
+        no : None ≡ Some s → ⊥
+        no p = cc
+
+lenders_named : (c : List ℕ) (s : Issuer) (n : ℕ) → issuer lenders c ≡ Some s → n < 3 → 0 < day lenders n c → Contains s.named n
+unfolding lenders_issuer
+lenders_named c s zero is less some = subst (λ (z : Issuer). Contains z.named 0) (lenders_issued c s is).1 (0, omega arith, refl)
+lenders_named c s (suc zero) is less some = subst (λ (z : Issuer). Contains z.named 1) (lenders_issued c s is).1 (1, omega arith, refl)
+lenders_named c s (suc (suc zero)) is less some = absurd (omega (arith, some))
+lenders_named c s (suc (suc (suc n))) is less some = absurd (omega (arith, less))
+
+lenders_within : (c : List ℕ) (s : Issuer) → issuer lenders c ≡ Some s → sum_below (λ n. day lenders n c) 3 ≤ s.ceiling
+unfolding lenders_issuer
+lenders_within c s is =
+    let i = lenders_issued c s is in
+    subst (λ (z : Issuer). sum_below (λ n. day lenders n c) 3 ≤ z.ceiling) i.1 (rw i.0 (omega arith))
+
+pub lenders_bounded : IsBounded lenders
+lenders_bounded = record { named = lenders_named; within = lenders_within }
 
 not_request : {A : Type 0} → false ≡ true → A
 not_request p = cc

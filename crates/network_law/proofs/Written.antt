@@ -17,8 +17,10 @@ use Rattle.iso_message.specs.Spelling.{IsMessage}
 use Rattle.net_rows.specs.Network.{Network}
 use Rattle.network_law.specs.Cards.{text_of, label_of, Bytes, card_of}
 use Rattle.network_law.specs.Tables.{node_id, single}
-use Rattle.network_law.specs.Grants.{Grant, Granting, Received}
-use Rattle.network_law.proofs.Packets.{IsPacket, IsGrant, IsNumbered, pad_good}
+use Rattle.network_law.specs.declared.grant.Grant.{Grant}
+use Rattle.network_law.specs.declared.grant.GrantPacket.TheVariants as packets
+use Rattle.network_law.proofs.Packets.{IsNumbered, pad_good}
+use Rattle.network_law.specs.Grants.{IsPacket, IsGrant}
 use Rattle.network_law.specs.Traces.{Source, Gate, ByLink, ReadInput, Enter, Take, LinkUp, LinkDown, Tick, HostAnswer, NewDate, TakePacket, Lend, Lent, lent_acked, grants, ReadOutput, Put, Answer, Ask, Post, PutPacket, Event, In, Out, History, IsIn, date_of, count_of, Handled, handled, dated, Opening, opening, opened_by, answer, answers, sent, own_approval, Advice, advices, acked_by, add_made, add_accepted, late_key, failed_key, is_ok_ack, as_kept, used}
 use Rattle.network_law.specs.Decision.{decide, reply_output, standin_code, limit, code_by_limits}
 use Rattle.network_law.specs.Refusals.{refusal, required_taken}
@@ -91,8 +93,8 @@ grants_step t n (LinkDown l) h = omega arith
 grants_step t n Tick h = omega arith
 grants_step t n (HostAnswer a c) h = omega arith
 grants_step t n (NewDate d) h = omega arith
-grants_step t n (TakePacket l s (Granting g)) h = omega arith
-grants_step t n (TakePacket l s (Received lender number)) h = let e = length-map (grants t n h) (lent_acked lender number) in omega (arith, e)
+grants_step t n (TakePacket l s (packets.Grant g)) h = omega arith
+grants_step t n (TakePacket l s (packets.Ack lender number)) h = let e = length-map (grants t n h) (lent_acked lender number) in omega (arith, e)
 grants_step t n (Lend m c d a) h = omega arith
 
 pub grants_few : (t : Network) (n : ℕ) (es : List ReadEntry) → length (grants t n (read_history es)) ≤ length es
@@ -282,8 +284,8 @@ module _ (t : Network) (n : ℕ) (date : IsDateLabel t.settings.date) (id : IsId
   grants_written (In Tick ∷ h) g w few m = grants_written h g w.1 few m
   grants_written (In (HostAnswer a c) ∷ h) g w few m = grants_written h g w.1 few m
   grants_written (In (NewDate d) ∷ h) g w few m = grants_written h g w.1 few m
-  grants_written (In (TakePacket l s (Granting x)) ∷ h) g w few m = grants_written h g w.1 few m
-  grants_written (In (TakePacket l s (Received lender number)) ∷ h) g w few m =
+  grants_written (In (TakePacket l s (packets.Grant x)) ∷ h) g w few m = grants_written h g w.1 few m
+  grants_written (In (TakePacket l s (packets.Ack lender number)) ∷ h) g w few m =
       let e = length-map (grants t n h) (lent_acked lender number) in
       let r = in_acked_grants lender number (grants t n h) g m in
       subst IsGrant r.2 (grants_written h r.0 w.1 (omega (arith, few, e)) r.1)
@@ -304,10 +306,10 @@ module _ (t : Network) (n : ℕ) (date : IsDateLabel t.settings.date) (id : IsId
   output_written past i h o w g ok few (posting f) = subst OutputIs (sym f.is) (kept_written past i h f.message w g f.kept)
   output_written past i h o w g ok few (putting_packet f) = subst OutputIs (sym f.is) (⊎_elim own acked f.from)
     where
-      own : (x : Lent) × IsIn x (grants t n (In i ∷ past)) × (f.packet ≡ Granting x.grant) → IsPacket f.packet
+      own : (x : Lent) × IsIn x (grants t n (In i ∷ past)) × (f.packet ≡ packets.Grant x.grant) → IsPacket f.packet
       own r = let e = grants_step t n i past in subst IsPacket (sym r.2) (grants_written (In i ∷ past) r.0 (g, w) (omega (arith, few, e)) r.1)
 
-      acked : (l : ℕ) × (s : ℕ) × (x : Grant) × (i ≡ TakePacket l s (Granting x)) × (f.packet ≡ Received x.lender x.number) → IsPacket f.packet
+      acked : (l : ℕ) × (s : ℕ) × (x : Grant) × (i ≡ TakePacket l s (packets.Grant x)) × (f.packet ≡ packets.Ack x.lender x.number) → IsPacket f.packet
       acked r = subst IsPacket (sym r.4) (subst InputIs r.3 g)
 
   -- the decision writes only messages that can be written

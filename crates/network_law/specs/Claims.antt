@@ -10,11 +10,12 @@ use Rattle.iso_message.specs.Fields.{Fields}
 use Rattle.iso_message.specs.Groups.{is_request, is_answer}
 use Rattle.iso_message.specs.Keys.{key_of, key_eq, content, identity_of, identity_eq}
 use Rattle.iso_message.specs.Codes.{code_of, code_94, code_00}
-use Rattle.net_rows.specs.Network.{Network, issuer, other_end}
+use Rattle.net_rows.specs.Network.{Network, issuer, other_end, day}
 use Rattle.net_rows.specs.declared.row.Issuer.{Issuer}
 use Rattle.network_law.specs.Cards.{card_of}
 use Rattle.network_law.specs.Checked.{sum_below}
-use Rattle.network_law.specs.Grants.{Grant, Granting}
+use Rattle.network_law.specs.declared.grant.Grant.{Grant}
+use Rattle.network_law.specs.declared.grant.GrantPacket.TheVariants as packets
 use Rattle.network_law.specs.Traces.{ReadInput, Take, TakePacket, HostAnswer, ReadOutput, Put, Ask, Post, In, Out, Has, IsIn, History, Opening, opening, Approval, approvals, Advice, advices, stored, is_at_home, reverses_key, answer, answers, sent, forwarded, used, borrowed, lent, allowance, ask_key, is_00_of, is_link}
 
 -- n has put the request x of k on link l with serial s
@@ -154,12 +155,14 @@ BorrowedWasLent t at = (card date : List ℕ) → sum_below (λ n. borrowed (at 
 
 -- a lender's number has one content, wherever and however often it is taken
 abbrev pub OneContent : (ℕ → History) → Type 0
-OneContent at = (n l s n' l' s' : ℕ) (g g' : Grant) → Has (In (TakePacket l s (Granting g))) (at n) → Has (In (TakePacket l' s' (Granting g'))) (at n') → g.lender ≡ g'.lender → g.number ≡ g'.number → g ≡ g'
+OneContent at = (n l s n' l' s' : ℕ) (g g' : Grant) → Has (In (TakePacket l s (packets.Grant g))) (at n) → Has (In (TakePacket l' s' (packets.Grant g'))) (at n') → g.lender ≡ g'.lender → g.number ≡ g'.number → g ≡ g'
 
--- a node approves only what it is named for, and no more of a card and date than its allowance
+-- a node approves only what it is named for, no more of a card and date than its allowance, and with what it lent no more than its
+-- limit and what it borrowed
 pub record IsWithinLimits (t : Network) (n : ℕ) (h : History) : Type 0 where
   pub named : (a : Approval) → IsIn a (approvals t h) → (s : Issuer) × (issuer t (card_of a.request) ≡ Some s) × Contains s.named n
   pub within : (card date : List ℕ) → used t n h card date ≤ allowance t n h card date
+  pub with_lent : (card date : List ℕ) → used t n h card date + lent t n h card date ≤ day t n card + borrowed h card date
 
 -- a network is safe: no node is sent a request by two nodes or a second time, only named nodes approve by themselves, and what they
 -- approve stays within the issuer's ceiling

@@ -5,7 +5,8 @@ use Rattle.card_digits.specs.Numbers.{decimal}
 use Rattle.net_rows.specs.Network.{Network, issuer, stand_in}
 use Rattle.net_rows.specs.declared.row.Issuer.{Issuer}
 use Rattle.network_law.specs.Tables.{is_home, node_id, route_links, single, links_between}
-use Rattle.network_law.specs.Grants.{Packet, Granting, Received}
+use Rattle.network_law.specs.declared.grant.GrantPacket.{GrantPacket}
+use Rattle.network_law.specs.declared.grant.GrantPacket.TheVariants as packets
 use Rattle.network_law.specs.Traces.{Source, Gate, ByLink, ReadInput, Enter, Take, LinkUp, LinkDown, Tick, HostAnswer, NewDate, TakePacket, Lend, ReadOutput, Put, Answer, Ask, Post, PutPacket, Event, In, Out, History, count_of, is_up, put_count, ask_count, ask_key, Handled, handled, Opening, opening, opened, answer, pending, forwarded, fails, Advice, advices, known, reversed, Lent, grants, taken, load, was_put, used, borrowed, lent, allowance, as_kept, is_at_home, comes_late, is_link, is_advice_group}
 use Rattle.network_law.specs.Cards.{label_of, Bytes, is_good_card, card_of}
 use Rattle.iso_message.specs.Fields.{Fields, el, get, as_kind, set_element, remove_element}
@@ -121,7 +122,7 @@ failing t past i = filter (fails t past i) (reverse (opened t past))
 -- a grant goes out on the first link in table order that joins the two nodes and is up
 abbrev pub send_grant_by : ReadInput → Lent → Option ℕ → History → History
 send_grant_by i g None h = h
-send_grant_by i g (Some l) h = Out i (PutPacket l (suc (put_count h l)) (Granting g.grant)) ∷ h
+send_grant_by i g (Some l) h = Out i (PutPacket l (suc (put_count h l)) (packets.Grant g.grant)) ∷ h
 
 unfoldable pub send_grant : Network → ℕ → ReadInput → Lent → History → History
 unfolding links_between is_up put_count
@@ -133,9 +134,9 @@ send_newest t n i [] h = h
 send_newest t n i (g ∷ others) h = send_grant t n i g h
 
 -- a taken grant is acknowledged on the link that it came by
-abbrev pub on_packet : ReadInput → ℕ → Packet → History → History
-on_packet i l (Granting g) h = Out i (PutPacket l (suc (put_count h l)) (Received g.lender g.number)) ∷ h
-on_packet i l (Received lender number) h = h
+abbrev pub on_packet : ReadInput → ℕ → GrantPacket → History → History
+on_packet i l (packets.Grant g) h = Out i (PutPacket l (suc (put_count h l)) (packets.Ack g.lender g.number)) ∷ h
+on_packet i l (packets.Ack lender number) h = h
 
 -- what is due
 

@@ -7,7 +7,8 @@ use Rattle.iso_message.specs.Fields.{Fields}
 use Rattle.iso_message.specs.Messages.{read}
 use Rattle.iso_message.specs.Spelling.{spelling}
 use Rattle.network_law.specs.Cards.{Bytes}
-use Rattle.network_law.specs.Grants.{Packet, read_packet, packet_bytes}
+use Rattle.network_law.specs.declared.grant.GrantPacket.{GrantPacket}
+use Rattle.network_law.specs.Grants.{read_packet, packet_bytes}
 use Rattle.network_law.specs.Traces.{ReadInput, ReadOutput, In, Out, History}
 use Rattle.network_law.specs.Traces as messages
 
@@ -45,7 +46,7 @@ read_as f (Ok m) = Ok (f m)
 read_as f (Err fault) = Err fault
 
 -- a packet, or else the message that the bytes spell
-abbrev pub packet_or : {X : Type 0} → (Packet → X) → Option Packet → Result X DecodeFault → Result X DecodeFault
+abbrev pub packet_or : {X : Type 0} → (GrantPacket → X) → Option GrantPacket → Result X DecodeFault → Result X DecodeFault
 packet_or f (Some p) other = Ok (f p)
 packet_or f None other = other
 

@@ -1,24 +1,33 @@
 -- Grants of lent amounts, what acknowledges them, and the bytes as which they are put on links.
-use Rattle.std.specs.Prelude.{ℕ, zero, suc, ◌+◌, ◌/◌, ◌%◌, ◌==◌, List, [], ◌∷◌, ◌++◌, length, drop, Bool, ◌&&◌, if◌then◌else◌, nat_le, bytes_eq, codes, Option, Some, None}
+use Rattle.std.specs.Prelude.{ℕ, zero, suc, ◌≡◌, ◌<◌, true, ◌+◌, ◌/◌, ◌%◌, ◌==◌, [], ◌∷◌, ◌++◌, length, drop, Bool, ◌&&◌, if◌then◌else◌, nat_le, bytes_eq, codes, Option, Some, None}
 use Rattle.std.specs.Char.{is_ascii_digit}
 use Rattle.std.specs.List.{list_all}
-use Rattle.card_digits.specs.Digits.{digits_of}
+use Rattle.card_digits.specs.Digits.{digits_of, IsCard, IsDateLabel}
 use Rattle.card_digits.specs.Numbers.{decimal}
 use Rattle.iso_message.specs.Keys.{part}
+use Rattle.network_law.specs.declared.grant.Grant.{Grant}
+use Rattle.network_law.specs.declared.grant.GrantPacket.{GrantPacket}
+use Rattle.network_law.specs.declared.grant.GrantPacket.TheVariants as packets
 use Rattle.network_law.specs.Cards.{Bytes, text_of}
 
--- a part of its limit for a card and date that a node lends to another; ids are padded, and each lender counts its grants from 1
-pub record Grant : Type 0 where
-  pub lender : Bytes
-  pub number : ℕ
-  pub borrower : Bytes
-  pub card : List ℕ
-  pub date : List ℕ
-  pub amount : ℕ
+-- what a packet is that nodes put on links
 
-pub data Packet : Type 0 where
-  Granting : (grant : Grant) → Packet
-  Received : (lender : Bytes) (number : ℕ) → Packet
+-- eleven ASCII digits
+pub record IsPaddedId (id : Bytes) : Type 0 where
+  pub size : length id ≡ 11
+  pub digits : list_all is_ascii_digit id ≡ true
+
+pub record IsGrant (g : Grant) : Type 0 where
+  pub lender : IsPaddedId g.lender
+  pub number : g.number < 10000000000
+  pub borrower : IsPaddedId g.borrower
+  pub card : IsCard g.card
+  pub date : IsDateLabel g.date
+  pub amount : g.amount < 1000000000000
+
+abbrev pub IsPacket : GrantPacket → Type 0
+IsPacket (packets.Grant g) = IsGrant g
+IsPacket (packets.Ack lender number) = IsPaddedId lender × (number < 10000000000)
 
 -- writing
 
@@ -27,9 +36,12 @@ abbrev pub number_text : ℕ → ℕ → Bytes
 number_text zero n = []
 number_text (suc width) n = number_text width (n / 10) ++ (48 + n % 10) ∷ []
 
-unfoldable pub packet_bytes : Packet → Bytes
-packet_bytes (Granting g) = codes "GRNT" ++ (g.lender ++ (number_text 10 g.number ++ (g.borrower ++ (number_text 2 (length g.card) ++ (text_of g.card ++ (text_of g.date ++ number_text 12 g.amount))))))
-packet_bytes (Received lender number) = codes "GACK" ++ (lender ++ number_text 10 number)
+abbrev pub grant_bytes : Grant → Bytes
+grant_bytes g = codes "GRNT" ++ (g.lender ++ (number_text 10 g.number ++ (g.borrower ++ (number_text 2 (length g.card) ++ (text_of g.card ++ (text_of g.date ++ number_text 12 g.amount))))))
+
+unfoldable pub packet_bytes : GrantPacket → Bytes
+packet_bytes (packets.Grant g) = grant_bytes g
+packet_bytes (packets.Ack lender number) = codes "GACK" ++ (lender ++ number_text 10 number)
 
 -- reading
 
@@ -51,9 +63,13 @@ grant_at size bytes = record {
 abbrev pub card_size : Bytes → ℕ
 card_size bytes = decimal (part 36 2 bytes)
 
+-- the bytes are a grant of a card of 8 to 19 digits
+abbrev pub is_grant : Bytes → Bool
+is_grant bytes = is_word_and_digits (codes "GRNT") (50 + card_size bytes) bytes && nat_le 8 (card_size bytes) && nat_le (card_size bytes) 19
+
 -- what the bytes are exactly, if they are a grant or what acknowledges one
-unfoldable pub read_packet : Bytes → Option Packet
+unfoldable pub read_packet : Bytes → Option GrantPacket
 read_packet bytes =
-    if is_word_and_digits (codes "GACK") 21 bytes then Some (Received (part 4 11 bytes) (decimal (part 15 10 bytes)))
-    else if is_word_and_digits (codes "GRNT") (50 + card_size bytes) bytes && nat_le 8 (card_size bytes) && nat_le (card_size bytes) 19 then Some (Granting (grant_at (card_size bytes) bytes))
+    if is_word_and_digits (codes "GACK") 21 bytes then Some (packets.Ack (part 4 11 bytes) (decimal (part 15 10 bytes)))
+    else if is_grant bytes then Some (packets.Grant (grant_at (card_size bytes) bytes))
     else None

@@ -1,15 +1,17 @@
 -- What holds of every legal trace, whatever the other nodes do.
-use Rattle.std.specs.Prelude.{ℕ, ◌≡◌, ◌<◌, length, Ok, List, [], ◌∷◌, Bool, true, false, ◌||◌, Some}
+use Rattle.std.specs.Prelude.{ℕ, ◌≡◌, ◌<◌, ◌≤◌, unwrap_or, length, Ok, List, [], ◌∷◌, Bool, true, false, ◌||◌, Some}
 use Rattle.card_digits.specs.declared.key.Key.{Key}
 use Rattle.iso_message.specs.Keys.{key_of, identity_of}
 use Rattle.iso_message.specs.Made.{made_reversal}
 use Rattle.net_rows.specs.Network.{Network}
 use Rattle.network_law.specs.Tables.{node_id}
-use Rattle.network_law.specs.Traces.{ReadInput, Put, Has, In, Out, History, Opening, opening, answer, fails, is_key, failed_key, sent, known}
+use Rattle.network_law.specs.Traces.{ReadInput, Put, Has, In, Out, History, IsIn, Opening, opening, answer, fails, is_key, failed_key, sent, known, Approval, approvals, Advice, advices, reverses_key, reversed, left}
 use Rattle.network_law.specs.Entries.{Entry, read_input, history}
 use Rattle.network_law.specs.Decision.{decide}
 use Rattle.network_law.specs.Runs.{IsLegal}
-use Rattle.iso_message.specs.Fields.{Fields}
+use Rattle.card_digits.specs.Numbers.{decimal}
+use Rattle.iso_message.specs.Amounts.{actual_amount}
+use Rattle.iso_message.specs.Fields.{Fields, el}
 use Rattle.iso_message.specs.Groups.{is_request}
 
 -- the newest entry marks k as failed: it is a LinkDown or a Tick, and a 0110 of the pending key is put out
@@ -35,3 +37,13 @@ IsReadAsDecided t = (n : ℕ) (e : Entry) (es : List Entry) (i : ReadInput) → 
 abbrev pub ForwardsOnce : Network → Type 0
 ForwardsOnce t = (n : ℕ) (trace : List Entry) (i i' : ReadInput) (l s l' s' : ℕ) (x x' : Fields) → n < length t.nodes → IsLegal t n trace
     → Has (Out i (Put l s x)) (history trace) → Has (Out i' (Put l' s' x')) (history trace) → is_request x.kind ≡ true → is_request x'.kind ≡ true → key_of x ≡ key_of x' → (l ≡ l') × (s ≡ s') × (x ≡ x')
+
+-- an accepted reversal of a key that the node approved by itself leaves no more than the approved amount
+abbrev pub ReversalsLeaveLess : Network → Type 0
+ReversalsLeaveLess t = (n : ℕ) (trace : List Entry) (a : Approval) (x : Advice) → n < length t.nodes → IsLegal t n trace
+    → IsIn a (approvals t (history trace)) → IsIn x (advices t n (history trace)) → x.own ≡ false → reverses_key a.key x ≡ true → unwrap_or (actual_amount x.message) 0 ≤ decimal (el a.request 4)
+
+-- so what is left of a reversed approval is what one of its reversals leaves: the approved amount never decides it
+abbrev pub ReversalsDecide : Network → Type 0
+ReversalsDecide t = (n : ℕ) (trace : List Entry) (a : Approval) → n < length t.nodes → IsLegal t n trace
+    → IsIn a (approvals t (history trace)) → reversed t n (history trace) a.key ≡ true → (x : Advice) × IsIn x (advices t n (history trace)) × (x.own ≡ false) × (reverses_key a.key x ≡ true) × (left t n (history trace) a ≡ unwrap_or (actual_amount x.message) 0)

@@ -1,5 +1,5 @@
 -- The terms of a history once more, in plain words: as lists in the order of time, of which they are the first, the last or a sum.
-use Rattle.std.specs.Prelude.{ℕ, ◌≡◌, ◌≤◌, unwrap_or, List, [], ◌∷◌, ◌++◌, map, filter, find, sum, length, Bool, true, false, not, ◌&&◌, if◌then◌else◌, bytes_eq, Option, Some, None, is_none, ◌==◌, reverse}
+use Rattle.std.specs.Prelude.{ℕ, ◌≡◌, ◌≤◌, ◌⊎◌, unwrap_or, List, [], ◌∷◌, ◌++◌, map, filter, find, sum, length, Bool, true, false, not, ◌&&◌, if◌then◌else◌, bytes_eq, Option, Some, None, is_none, ◌==◌, reverse}
 use Rattle.std.specs.Option.{option_map, option_map_or}
 use Rattle.card_digits.specs.Numbers.{decimal}
 use Rattle.card_digits.specs.declared.key.Key.{Key}
@@ -9,7 +9,8 @@ use Rattle.iso_message.specs.Keys.{key_of, key_eq}
 use Rattle.iso_message.specs.Codes.{code_of, code_94}
 use Rattle.iso_message.specs.Made.{made_reversal}
 use Rattle.net_rows.specs.Network.{Network}
-use Rattle.network_law.specs.Cards.{card_of, label_of, actual_amount}
+use Rattle.network_law.specs.Cards.{card_of, label_of}
+use Rattle.iso_message.specs.Amounts.{actual_amount}
 use Rattle.network_law.specs.Tables.{node_id}
 use Rattle.network_law.specs.Traces.{LinkUp, LinkDown, NewDate, is_up, date_of, ask_count, put_count, ReadInput, Tick, ReadOutput, Put, Answer, Ask, Post, PutPacket, In, Out, History, IsIn, count_of, Handled, handled, Opening, opening, answer, forwarded, fails, Advice, Approval, approvals, reverses_key, reversed, left, used, advices, late_key, ask_key}
 use Rattle.network_law.specs.Decision.{failing, decide, keep}
@@ -183,10 +184,19 @@ CountsTicks = (h : History) → count_of h ≡ length (filter is_tick (inputs h)
 abbrev pub UsedIsSum : Type 0
 UsedIsSum = (t : Network) (n : ℕ) (h : History) (card date : List ℕ) → used t n h card date ≡ sum (map (left t n h) (filter (λ a. bytes_eq (card_of a.request) card && bytes_eq (label_of a.request) date) (approvals t h)))
 
--- no more is left than the actual amount of any accepted reversal of the key, and all where there is none
+-- no more is left than the actual amount of any accepted reversal of the key
 abbrev pub LeavesLeast : Type 0
 LeavesLeast = (t : Network) (n : ℕ) (h : History) (a : Approval) (x : Advice) → IsIn x (advices t n h) → x.own ≡ false → reverses_key a.key x ≡ true → left t n h a ≤ unwrap_or (actual_amount x.message) 0
 
+-- what is left is the amount, or the actual amount of one of these
+abbrev pub LeavesOne : Type 0
+LeavesOne = (t : Network) (n : ℕ) (h : History) (a : Approval) → (left t n h a ≡ decimal (el a.request 4)) ⊎ ((x : Advice) × IsIn x (advices t n h) × (x.own ≡ false) × (reverses_key a.key x ≡ true) × (left t n h a ≡ unwrap_or (actual_amount x.message) 0))
+
+-- and no more than the amount
+abbrev pub LeavesNoMore : Type 0
+LeavesNoMore = (t : Network) (n : ℕ) (h : History) (a : Approval) → left t n h a ≤ decimal (el a.request 4)
+
+-- it is the amount where no reversal was accepted
 abbrev pub LeavesAll : Type 0
 LeavesAll = (t : Network) (n : ℕ) (h : History) (a : Approval) → reversed t n h a.key ≡ false → left t n h a ≡ decimal (el a.request 4)
 

@@ -15,9 +15,11 @@ use Rattle.net_rows.specs.Network.{Network, issuer}
 use Rattle.network_law.specs.declared.fault.StepFault.{StepFault}
 use Rattle.network_law.specs.declared.fault.StepFault.TheVariants.{ForeignAcquirer, Missing, TypeNotForGate, UnknownAsk, Replacement, NotLent, NoPlace}
 use Rattle.card_digits.specs.Numbers.{decimal, pad11}
-use Rattle.network_law.specs.Cards.{card_of, is_good_card, actual_amount}
+use Rattle.network_law.specs.Cards.{card_of, is_good_card}
+use Rattle.iso_message.specs.Amounts.{actual_amount}
 use Rattle.network_law.specs.Tables.{is_attached, is_named, node_id, links_between}
-use Rattle.network_law.specs.Grants.{Grant, Granting, Received}
+use Rattle.network_law.specs.declared.grant.Grant.{Grant}
+use Rattle.network_law.specs.declared.grant.GrantPacket.TheVariants as packets
 use Rattle.network_law.specs.Traces.{ReadInput, Enter, Take, LinkUp, LinkDown, Tick, HostAnswer, NewDate, TakePacket, Lend, History, ask_key, handled, Opening, opening, answer, pending, forwarded, advices, known, load, used, borrowed, lent, allowance, is_at_home, comes_late, is_link, is_advice_group}
 use Rattle.network_law.specs.Decision.{other_content}
 
@@ -124,6 +126,6 @@ refusal t n past (LinkDown l) = None
 refusal t n past Tick = None
 refusal t n past (HostAnswer a c) = when (is_none (ask_key past a)) UnknownAsk
 refusal t n past (NewDate date) = None
-refusal t n past (TakePacket l s (Granting g)) = when (may_not_borrow t n g) NotLent
-refusal t n past (TakePacket l s (Received lender number)) = None
+refusal t n past (TakePacket l s (packets.Grant g)) = when (may_not_borrow t n g) NotLent
+refusal t n past (TakePacket l s (packets.Ack lender number)) = None
 refusal t n past (Lend m card date amount) = option_or (when (may_not_lend t n past m card date amount) NotLent) (when (nat_lt 65536 (load t n past + 1)) NoPlace)

@@ -9,8 +9,11 @@ use Rattle.card_digits.specs.Numbers.{pad11}
 use Rattle.net_rows.specs.Network.{Network, issuer, day}
 use Rattle.net_rows.specs.declared.row.Issuer.{Issuer}
 use Rattle.network_law.specs.Tables.{is_home, node_id, link_ticks}
-use Rattle.network_law.specs.Grants.{Grant, Packet, Granting, Received}
-use Rattle.network_law.specs.Cards.{label_of, text_of, Bytes, card_of, actual_amount}
+use Rattle.network_law.specs.declared.grant.Grant.{Grant}
+use Rattle.network_law.specs.declared.grant.GrantPacket.{GrantPacket}
+use Rattle.network_law.specs.declared.grant.GrantPacket.TheVariants as packets
+use Rattle.network_law.specs.Cards.{label_of, text_of, Bytes, card_of}
+use Rattle.iso_message.specs.Amounts.{actual_amount}
 use Rattle.iso_message.specs.Fields.{Fields, el, set_element, remove_element, as_kind, get}
 use Rattle.iso_message.specs.declared.kind.Group.{Group}
 use Rattle.iso_message.specs.Groups.{group, is_request, is_answer, is_04xx}
@@ -37,7 +40,7 @@ pub data ReadInput : Type 0 where
   Tick : ReadInput
   HostAnswer : (ask : ℕ) (code : Bytes) → ReadInput
   NewDate : (date : List ℕ) → ReadInput
-  TakePacket : (link serial : ℕ) (packet : Packet) → ReadInput
+  TakePacket : (link serial : ℕ) (packet : GrantPacket) → ReadInput
   Lend : (borrower : ℕ) (card date : List ℕ) (amount : ℕ) → ReadInput
 
 pub data ReadOutput : Type 0 where
@@ -45,7 +48,7 @@ pub data ReadOutput : Type 0 where
   Answer : (message : Fields) → ReadOutput
   Ask : (ask : ℕ) (message : Fields) → ReadOutput
   Post : (message : Fields) → ReadOutput
-  PutPacket : (link serial : ℕ) (packet : Packet) → ReadOutput
+  PutPacket : (link serial : ℕ) (packet : GrantPacket) → ReadOutput
 
 pub data Event : Type 0 where
   In : (input : ReadInput) → Event
@@ -428,7 +431,7 @@ lent_acked lender number g = record { grant = g.grant; borrower = g.borrower; co
 
 abbrev pub lent_after : Network → ℕ → ℕ → ℕ → ReadInput → List Lent → List Lent
 lent_after t n count advices (Lend m card date amount) others = record { grant = record { lender = pad11 (node_id t n); number = suc (length others); borrower = pad11 (node_id t m); card = card; date = date; amount = amount }; borrower = m; count = count; advices = advices; acked = false } ∷ others
-lent_after t n count advices (TakePacket l s (Received lender number)) others = map (lent_acked lender number) others
+lent_after t n count advices (TakePacket l s (packets.Ack lender number)) others = map (lent_acked lender number) others
 lent_after t n count advices _ others = others
 
 -- all grants that the node made, the newest first
@@ -447,7 +450,7 @@ abbrev pub has_number : Grant → Grant → Bool
 has_number a b = bytes_eq a.lender b.lender && a.number == b.number
 
 abbrev pub taken_after : ReadInput → List Grant → List Grant
-taken_after (TakePacket l s (Granting g)) others = if list_any (has_number g) others then others else g ∷ others
+taken_after (TakePacket l s (packets.Grant g)) others = if list_any (has_number g) others then others else g ∷ others
 taken_after _ others = others
 
 -- the grants that were taken, of each lender's number the first one

@@ -1,15 +1,16 @@
 -- Small networks, messages and traces, by which the definitions are tried.
 use Rattle.std.specs.Prelude.{ℕ, zero, suc, List, [], ◌∷◌, ◌++◌, replicate, codes, Option, Some}
 use Rattle.iso_message.specs.declared.kind.Kind.{Kind}
-use Rattle.iso_message.specs.declared.kind.Kind.TheVariants.{K0100, K0110, K0120, K0400, K0410, K0420, K0430}
+use Rattle.iso_message.specs.declared.kind.Kind.TheVariants.{K0100, K0110, K0120, K0130, K0400, K0410, K0420, K0430}
 use Rattle.iso_message.specs.Fields.{Fields}
 use Rattle.net_rows.specs.Network.{Network}
 use Rattle.net_rows.specs.declared.row.Settings.{Settings}
 use Rattle.net_rows.specs.declared.row.Node.{Node}
 use Rattle.net_rows.specs.declared.row.Link.{Link}
 use Rattle.net_rows.specs.declared.row.Route.{Route}
-use Rattle.network_law.specs.Grants.{Packet, Granting, Received}
-use Rattle.network_law.specs.Traces.{ReadInput, Enter, Take, TakePacket, LinkDown, Tick, Lend, ReadOutput, Put, PutPacket, Answer, Post, History}
+use Rattle.network_law.specs.declared.grant.GrantPacket.{GrantPacket}
+use Rattle.network_law.specs.declared.grant.GrantPacket.TheVariants as packets
+use Rattle.network_law.specs.Traces.{ReadInput, Enter, Take, TakePacket, LinkUp, LinkDown, Tick, HostAnswer, Lend, ReadOutput, Put, PutPacket, Answer, Ask, Post, History}
 use Rattle.network_law.specs.Decision.{decide}
 use Rattle.network_law.specs.Entries.{ReadEntry, newest_outputs}
 
@@ -71,6 +72,19 @@ lenders = record {
   stand_ins = record { node = 0; prefix = 4 ∷ []; day = 300; single = 1000 } ∷ record { node = 1; prefix = 4 ∷ []; day = 200; single = 1000 } ∷ [];
 }
 
+-- A, B and H are nodes 0 to 2; A routes over link 0 to B, B over link 1 to H; A may approve 1000 a day by itself, and advices are sent
+-- again at each tick
+abbrev pub two_hops : Network
+two_hops = record {
+  settings = record settings { advice_ticks = 1 };
+  nodes = node (codes "A") (codes "1001") ∷ node (codes "B") (codes "1003") ∷ node (codes "H") (codes "1002") ∷ [];
+  links = link (codes "AB") 0 1 ∷ link (codes "BH") 1 2 ∷ [];
+  acquirers = record { id = codes "400001"; node = 0 } ∷ [];
+  issuers = record { name = codes "I"; prefix = 4 ∷ []; home = 2; named = 0 ∷ []; ceiling = 1000 } ∷ [];
+  routes = route 0 (0 ∷ []) ∷ route 1 (1 ∷ []) ∷ [];
+  stand_ins = record { node = 0; prefix = 4 ∷ []; day = 1000; single = 1000 } ∷ [];
+}
+
 -- messages
 
 abbrev card : List ℕ
@@ -101,6 +115,13 @@ answered_at_b trace amount code = record { kind = K0110; elements = (2, card) �
 abbrev pub entered_with : Kind → List ℕ → List (ℕ × List ℕ) → Fields
 entered_with kind card behind = record { kind = kind; elements = (2, card) ∷ (3, codes "000000") ∷ (4, codes "000000001000") ∷ (7, time) ∷ (11, codes "000001") ∷ behind }
 
+-- a request with another card number, and its answer
+abbrev pub entered_card : List ℕ → Fields
+entered_card other = entered_with K0100 other ((32, codes "400001") ∷ (49, codes "840") ∷ [])
+
+abbrev pub answered_card : List ℕ → List ℕ → Fields
+answered_card other code = record { kind = K0110; elements = (2, other) ∷ (3, codes "000000") ∷ (4, codes "000000001000") ∷ (7, time) ∷ (11, codes "000001") ∷ (15, codes "0314") ∷ (32, codes "400001") ∷ (39, code) ∷ (49, codes "840") ∷ [] }
+
 -- as it is forwarded
 abbrev pub forwarded : List ℕ → List ℕ → Fields
 forwarded trace amount = record { kind = K0100; elements = (2, card) ∷ (3, codes "000000") ∷ (4, amount) ∷ (7, time) ∷ (11, trace) ∷ (15, codes "0314") ∷ (32, codes "400001") ∷ (49, codes "840") ∷ [] }
@@ -114,9 +135,13 @@ answered = answered_in (codes "840")
 abbrev original : List ℕ → List ℕ
 original trace = codes "0100" ++ trace ++ time ++ codes "00000400001" ++ codes "00000000000"
 
--- the reversal that A makes, first or again
+-- the reversal that a node with this id makes, first or again
+abbrev pub reversal_by : List ℕ → Kind → List ℕ → List ℕ → Fields
+reversal_by id kind trace amount = record { kind = kind; elements = (2, card) ∷ (3, codes "000000") ∷ (4, amount) ∷ (7, time) ∷ (11, trace) ∷ (15, codes "0314") ∷ (32, codes "400001") ∷ (33, id) ∷ (39, codes "68") ∷ (49, codes "840") ∷ (90, original trace) ∷ [] }
+
+-- that of A
 abbrev pub reversal_as : Kind → List ℕ → List ℕ → Fields
-reversal_as kind trace amount = record { kind = kind; elements = (2, card) ∷ (3, codes "000000") ∷ (4, amount) ∷ (7, time) ∷ (11, trace) ∷ (15, codes "0314") ∷ (32, codes "400001") ∷ (33, codes "1001") ∷ (39, codes "68") ∷ (49, codes "840") ∷ (90, original trace) ∷ [] }
+reversal_as = reversal_by (codes "1001")
 
 abbrev pub reversal : List ℕ → List ℕ → Fields
 reversal = reversal_as K0420
@@ -129,6 +154,10 @@ acknowledged trace amount = record { kind = K0430; elements = (2, card) ∷ (3, 
 abbrev pub stand_in : List ℕ → List ℕ → Fields
 stand_in trace amount = record { kind = K0120; elements = (2, card) ∷ (3, codes "000000") ∷ (4, amount) ∷ (7, time) ∷ (11, trace) ∷ (15, codes "0314") ∷ (32, codes "400001") ∷ (33, codes "1001") ∷ (39, codes "00") ∷ (49, codes "840") ∷ [] }
 
+-- what acknowledges it
+abbrev pub stand_in_acknowledged : List ℕ → List ℕ → Fields
+stand_in_acknowledged trace amount = record { kind = K0130; elements = (stand_in trace amount).elements }
+
 -- a reversal as its acquirer enters it, as A forwards it, and its reply
 abbrev pub reversal_by_acquirer : Kind → List ℕ → List ℕ → Fields
 reversal_by_acquirer kind trace amount = record { kind = kind; elements = (2, card) ∷ (3, codes "000000") ∷ (4, amount) ∷ (7, codes "0314091600") ∷ (11, codes "000002") ∷ (32, codes "400001") ∷ (49, codes "840") ∷ (90, original trace) ∷ [] }
@@ -137,8 +166,15 @@ reversal_by_acquirer kind trace amount = record { kind = kind; elements = (2, ca
 abbrev pub partial_reversal : List ℕ → List ℕ → List ℕ → Fields
 partial_reversal actual trace amount = record { kind = K0400; elements = (reversal_by_acquirer K0400 trace amount).elements ++ (95, actual ++ codes "000000000000C00000000C00000000") ∷ [] }
 
+abbrev pub reversal_reply_with : List ℕ → List ℕ → List ℕ → Fields
+reversal_reply_with code trace amount = record { kind = K0410; elements = (2, card) ∷ (3, codes "000000") ∷ (4, amount) ∷ (7, codes "0314091600") ∷ (11, codes "000002") ∷ (32, codes "400001") ∷ (39, code) ∷ (49, codes "840") ∷ (90, original trace) ∷ [] }
+
 abbrev pub reversal_reply : List ℕ → List ℕ → Fields
-reversal_reply trace amount = record { kind = K0410; elements = (2, card) ∷ (3, codes "000000") ∷ (4, amount) ∷ (7, codes "0314091600") ∷ (11, codes "000002") ∷ (32, codes "400001") ∷ (39, codes "00") ∷ (49, codes "840") ∷ (90, original trace) ∷ [] }
+reversal_reply = reversal_reply_with (codes "00")
+
+-- what acknowledges it between nodes
+abbrev pub reversal_acknowledged : List ℕ → List ℕ → Fields
+reversal_acknowledged trace amount = record { kind = K0430; elements = (reversal_reply trace amount).elements }
 
 abbrev pub one : List ℕ
 one = codes "000001"
@@ -183,11 +219,11 @@ abbrev pub lend_to_b : ℕ → ReadInput
 lend_to_b amount = Lend 1 card_number date amount
 
 -- and its first grant says so
-abbrev pub granted : ℕ → Packet
-granted amount = Granting (record { lender = codes "00000001001"; number = 1; borrower = codes "00000001003"; card = card_number; date = date; amount = amount })
+abbrev pub granted : ℕ → GrantPacket
+granted amount = packets.Grant (record { lender = codes "00000001001"; number = 1; borrower = codes "00000001003"; card = card_number; date = date; amount = amount })
 
-abbrev pub received : Packet
-received = Received (codes "00000001001") 1
+abbrev pub received : GrantPacket
+received = packets.Ack (codes "00000001001") 1
 
 -- steps
 
@@ -328,7 +364,61 @@ lent_run zero = entry (TakePacket 0 1 received) [] ∷ entry (lend_to_b 100) (Pu
 lent_run (suc zero) = entry (TakePacket 0 1 (granted 100)) (PutPacket 0 2 received ∷ []) ∷ entry (TakePacket 0 1 (granted 100)) (PutPacket 0 1 received ∷ []) ∷ []
 lent_run (suc (suc n)) = []
 
+-- a run of two hops: the host approves the first request; A stands in for the second, while its link is down, and sends its advice at
+-- the next tick, which H posts; the second is reversed, which frees its amount for the third
+
+abbrev hops_a : List ReadEntry
+hops_a =
+    entry (Enter (entered three ten_dollars)) (Answer (answered three ten_dollars (codes "00")) ∷ [])
+    ∷ entry (LinkDown 0) []
+    ∷ entry (Take 0 3 (reversal_acknowledged two ten_dollars)) []
+    ∷ entry (Enter (reversal_by_acquirer K0400 two ten_dollars)) (Answer (reversal_reply two ten_dollars) ∷ Put 0 3 (reversal_by_acquirer K0420 two ten_dollars) ∷ [])
+    ∷ entry (Take 0 2 (stand_in_acknowledged two ten_dollars)) []
+    ∷ entry Tick (Put 0 2 (stand_in two ten_dollars) ∷ [])
+    ∷ entry (LinkUp 0) []
+    ∷ entry (Enter (entered two ten_dollars)) (Answer (answered two ten_dollars (codes "00")) ∷ [])
+    ∷ entry (LinkDown 0) []
+    ∷ entry (Take 0 1 (answered one ten_dollars (codes "00"))) (Answer (answered one ten_dollars (codes "00")) ∷ [])
+    ∷ entry (Enter (entered one ten_dollars)) (Put 0 1 (forwarded one ten_dollars) ∷ [])
+    ∷ []
+
+abbrev hops_b : List ReadEntry
+hops_b =
+    entry (Take 1 3 (reversal_acknowledged two ten_dollars)) []
+    ∷ entry (Take 0 3 (reversal_by_acquirer K0420 two ten_dollars)) (Put 0 3 (reversal_acknowledged two ten_dollars) ∷ Put 1 3 (reversal_by_acquirer K0420 two ten_dollars) ∷ [])
+    ∷ entry (Take 1 2 (stand_in_acknowledged two ten_dollars)) []
+    ∷ entry (Take 0 2 (stand_in two ten_dollars)) (Put 0 2 (stand_in_acknowledged two ten_dollars) ∷ Put 1 2 (stand_in two ten_dollars) ∷ [])
+    ∷ entry (Take 1 1 (answered one ten_dollars (codes "00"))) (Put 0 1 (answered one ten_dollars (codes "00")) ∷ [])
+    ∷ entry (Take 0 1 (forwarded one ten_dollars)) (Put 1 1 (forwarded one ten_dollars) ∷ [])
+    ∷ []
+
+abbrev hops_h : List ReadEntry
+hops_h =
+    entry (Take 1 3 (reversal_by_acquirer K0420 two ten_dollars)) (Put 1 3 (reversal_acknowledged two ten_dollars) ∷ Post (reversal_by_acquirer K0420 two ten_dollars) ∷ [])
+    ∷ entry (Take 1 2 (stand_in two ten_dollars)) (Put 1 2 (stand_in_acknowledged two ten_dollars) ∷ Post (stand_in two ten_dollars) ∷ [])
+    ∷ entry (HostAnswer 1 (codes "00")) (Put 1 1 (answered one ten_dollars (codes "00")) ∷ [])
+    ∷ entry (Take 1 1 (forwarded one ten_dollars)) (Ask 1 (forwarded one ten_dollars) ∷ [])
+    ∷ []
+
+abbrev pub hops_run : ℕ → List ReadEntry
+hops_run zero = hops_a
+hops_run (suc zero) = hops_b
+hops_run (suc (suc zero)) = hops_h
+hops_run (suc (suc (suc n))) = []
+
+-- A stands above B, and B above H, for every card
+abbrev pub hop_ranks : ℕ → List ℕ → Option ℕ
+hop_ranks zero digits = Some 2
+hop_ranks (suc zero) digits = Some 1
+hop_ranks (suc (suc n)) digits = Some 0
+
 -- A stands above H for every card
 abbrev pub base_ranks : ℕ → List ℕ → Option ℕ
-base_ranks zero card = Some 1
-base_ranks (suc n) card = Some 0
+base_ranks zero digits = Some 1
+base_ranks (suc n) digits = Some 0
+
+-- A and B stand above H for every card
+abbrev pub lender_ranks : ℕ → List ℕ → Option ℕ
+lender_ranks zero digits = Some 1
+lender_ranks (suc zero) digits = Some 1
+lender_ranks (suc (suc n)) digits = Some 0

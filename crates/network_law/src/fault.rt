@@ -6,7 +6,7 @@ use thiserror::Error;
 /// Why a node refuses an input. The node and its trace stay as they were.
 #[derive(Clone, Copy, Debug, PartialEq, Eq, Error)]
 pub enum StepFault {
-    /// The bytes are no message.
+    /// The bytes are no message; taken from a link, no packet of a grant either.
     #[error(transparent)]
     Decode(DecodeFault),
     /// Entered for an acquirer that isn't attached to the node.
@@ -21,7 +21,8 @@ pub enum StepFault {
     /// A host's answer to an ask that was never made.
     #[error("an answer to nothing that was asked")]
     UnknownAsk,
-    /// A partial reversal whose actual amount is no number, or is above its amount.
+    /// A reversal with element 95, a partial one, whose first twelve bytes there are not all digits, or write an actual amount
+    /// above the amount of its element 4.
     #[error("a partial reversal without a right actual amount")]
     Replacement,
     /// The trace has as many entries as it may.
@@ -29,10 +30,12 @@ pub enum StepFault {
     HistoryFull,
     #[error("no memory")]
     Memory,
-    /// No place is left for an advice.
+    /// No place is left for an advice, or for a grant.
     #[error("no place for an advice")]
     NoPlace,
-    /// An amount that may not be lent, or a grant for another node.
+    /// An amount that may not be lent: to a node at the other end of no link; of 0; for a card without an issuer, or whose issuer
+    /// doesn't name the borrower; or above the allowance less what is used of it. Or a taken grant for another node, or for a
+    /// card whose issuer doesn't name this one.
     #[error("an amount that may not be lent")]
     NotLent,
 }

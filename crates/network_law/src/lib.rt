@@ -7,6 +7,7 @@
 #![tactic(auto)]
 
 mod fault;
+mod grant;
 mod words;
 mod worked;
 
@@ -16,13 +17,14 @@ ghost use Rattle.network_law.specs.Checked.{IsChecked, IsBounded, IsRanked, Rank
 ghost use Rattle.network_law.specs.Entries.{Entry, history};
 ghost use Rattle.network_law.specs.Runs.{IsLegal, IsRun};
 ghost use Rattle.network_law.specs.Claims.{Safe, Covered, IsWithinLimits, BorrowedWasLent, OneContent};
-ghost use Rattle.network_law.specs.Legal.{FailsAreMarked, FailsAreReversed, IsReadAsDecided, ForwardsOnce};
+ghost use Rattle.network_law.specs.Legal.{FailsAreMarked, FailsAreReversed, IsReadAsDecided, ForwardsOnce, ReversalsLeaveLess, ReversalsDecide};
 
 pub use fault::StepFault;
-pub use words::{plain_words, plain_words_of_lent_amounts};
+pub use grant::{Grant, GrantPacket, packet_bytes, read_packet};
+pub use words::{plain_words, plain_words_of_advices, plain_words_of_lent_amounts};
 pub use worked::{
-    worked_answers, worked_lent_amounts, worked_limits, worked_partial_reversals, worked_refusals,
-    worked_reversals, worked_run, wrong_traces_are_not_legal,
+    worked_answers, worked_full_load, worked_lent_amounts, worked_limits, worked_partial_reversals,
+    worked_refusals, worked_reversals, worked_run, worked_two_hops, wrong_traces_are_not_legal,
 };
 
 /// Where the tables are sound, ranks fall along each route and limits stay within ceilings, every run is safe and nothing in it is
@@ -45,10 +47,12 @@ pub fn every_legal_trace_is_within_limits()
 {}
 
 /// Of a legal trace alone: its entries are read as what was decided, and it forwards a request once. The mark of a failing key stands
-/// exactly where the key fails, and its reversal is made there.
+/// exactly where the key fails, and its reversal is made there. What is left of a reversed own approval is decided by its reversals.
 pub fn every_legal_trace_is_read()
     ensures decided { (t : Network) → IsChecked t → IsReadAsDecided t }
     ensures forwards_once { (t : Network) → IsChecked t → ForwardsOnce t }
     ensures marked { (t : Network) → IsChecked t → FailsAreMarked t }
     ensures reversed { (t : Network) → IsChecked t → FailsAreReversed t }
+    ensures leave_less { (t : Network) → IsChecked t → ReversalsLeaveLess t }
+    ensures decide { (t : Network) → IsChecked t → ReversalsDecide t }
 {}

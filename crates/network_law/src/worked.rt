@@ -1,17 +1,19 @@
 //! Steps, traces and a run that are worked by hand: the definitions say what they should.
-ghost use Rattle.std.specs.Prelude.{◌≡◌, ℕ, List, [], ◌∷◌, ◌++◌, codes, Some, None};
+ghost use Rattle.std.specs.Prelude.{◌≡◌, ℕ, true, false, List, [], ◌∷◌, ◌++◌, drop, codes, Some, None};
 ghost use Rattle.network_law.specs.Grants.{packet_bytes, read_packet};
 ghost use Rattle.iso_message.specs.declared.kind.Kind.TheVariants.{K0100, K0400, K0420, K0421};
-ghost use Rattle.network_law.specs.Traces.{used, Enter, Take, TakePacket, LinkUp, LinkDown, Tick, HostAnswer, NewDate, Lend, Put, PutPacket, Answer, Ask, Post};
-ghost use Rattle.network_law.specs.declared.fault.StepFault.TheVariants.{ForeignAcquirer, Missing, TypeNotForGate, UnknownAsk, Replacement, NotLent};
+ghost use Rattle.network_law.specs.Traces.{ReadInput, Gate, forwarded as forwarded_on, comes_late, advices, History, load, date_of, opening, reversed, known, used, borrowed, lent, Enter, Take, TakePacket, LinkUp, LinkDown, Tick, HostAnswer, NewDate, Lend, Put, PutPacket, Answer, Ask, Post};
+ghost use Rattle.network_law.specs.declared.fault.StepFault.TheVariants.{ForeignAcquirer, Missing, TypeNotForGate, UnknownAsk, Replacement, NotLent, NoPlace};
 ghost use Rattle.network_law.specs.Refusals.{refusal};
-ghost use Rattle.network_law.specs.Entries.{spelled_trace};
+ghost use Rattle.iso_message.specs.Keys.{key_of, identity_of};
+ghost use Rattle.network_law.specs.Decision.{decide};
+ghost use Rattle.network_law.specs.Entries.{read_history, spelled_trace, newest_outputs};
 ghost use Rattle.network_law.specs.Checked.{IsChecked, IsRanked, IsBounded};
 ghost use Rattle.network_law.specs.Runs.{IsLegal, IsRun};
-ghost use Rattle.network_law.specs.Worked.{next_alternate_in_time, twenty_dollars, entered_with, base, limited, diamond, entered, entered_in, forwarded, answered, answered_in, reversal, reversal_as, acknowledged, stand_in, reversal_by_acquirer, partial_reversal, reversal_reply, one, two, three, four, ten_dollars, six_dollars, four_dollars, one_cent, history_after, outputs_after, card_number, ticks, next_alternate, stood_in_though_reversed, late_approval_dropped, same_tick_not_counted, advice_dropped_when_sent, own_reversal_frees, reversed_run, lent_run, base_ranks, lenders, lend_to_b, granted, received, entered_at_b, answered_at_b, three_dollars, two_dollars, partial_frees_all, repeated_grant_counted, lent_amount_used, grant_dropped_when_put};
+ghost use Rattle.network_law.specs.Worked.{next_alternate_in_time, twenty_dollars, entered_with, entered_card, answered_card, reversal_by, reversal_reply_with, base, limited, diamond, entered, entered_in, forwarded, answered, answered_in, reversal, reversal_as, acknowledged, stand_in, reversal_by_acquirer, partial_reversal, reversal_reply, one, two, three, four, ten_dollars, six_dollars, four_dollars, one_cent, history_after, outputs_after, card_number, ticks, next_alternate, stood_in_though_reversed, late_approval_dropped, same_tick_not_counted, advice_dropped_when_sent, own_reversal_frees, reversed_run, lent_run, two_hops, hop_ranks, hops_run, base_ranks, lenders, lender_ranks, lend_to_b, granted, received, entered_at_b, answered_at_b, three_dollars, two_dollars, partial_frees_all, repeated_grant_counted, lent_amount_used, grant_dropped_when_put};
 
 /// A request is forwarded with its settlement date, asked of the host, and answered; a repeat gets the same answer, and the answer
-/// again gives nothing.
+/// again gives nothing. Bad cards and those without an issuer are declined, and no 94 is passed on.
 pub fn worked_answers()
     ensures forwarded { outputs_after base 0 (Enter (entered one ten_dollars) ∷ []) ≡ Put 0 1 (forwarded one ten_dollars) ∷ [] }
     ensures asked { outputs_after base 1 (Take 0 1 (forwarded one ten_dollars) ∷ []) ≡ Ask 1 (forwarded one ten_dollars) ∷ [] }
@@ -19,17 +21,23 @@ pub fn worked_answers()
     ensures answered { outputs_after base 0 (Take 0 1 (answered one ten_dollars (codes "00")) ∷ Enter (entered one ten_dollars) ∷ []) ≡ Answer (answered one ten_dollars (codes "00")) ∷ [] }
     ensures repeated { outputs_after base 0 (Enter (entered one ten_dollars) ∷ Take 0 1 (answered one ten_dollars (codes "00")) ∷ Enter (entered one ten_dollars) ∷ []) ≡ Answer (answered one ten_dollars (codes "00")) ∷ [] }
     ensures other_content { outputs_after base 0 (Enter (entered one twenty_dollars) ∷ Enter (entered one ten_dollars) ∷ []) ≡ Answer (answered one twenty_dollars (codes "94")) ∷ [] }
+    ensures bad_card { outputs_after base 0 (Enter (entered_card (codes "4111111111111112")) ∷ []) ≡ Answer (answered_card (codes "4111111111111112") (codes "14")) ∷ [] }
+    ensures no_issuer { outputs_after base 0 (Enter (entered_card (codes "5555555555554444")) ∷ []) ≡ Answer (answered_card (codes "5555555555554444") (codes "92")) ∷ [] }
+    ensures link_says_94 { outputs_after base 0 (Take 0 1 (answered one ten_dollars (codes "94")) ∷ Enter (entered one ten_dollars) ∷ []) ≡ Answer (answered one ten_dollars (codes "96")) ∷ [] }
+    ensures host_says_94 { outputs_after base 1 (HostAnswer 1 (codes "94") ∷ Take 0 1 (forwarded one ten_dollars) ∷ []) ≡ Put 0 1 (answered one ten_dollars (codes "05")) ∷ [] }
     ensures answered_again { outputs_after base 0 (Take 0 1 (answered one ten_dollars (codes "00")) ∷ Take 0 1 (answered one ten_dollars (codes "00")) ∷ Enter (entered one ten_dollars) ∷ []) ≡ [] }
 {}
 
 /// Where a link goes down or a request's time is over, its reversal is sent and the node decides by itself; an advice is sent again
-/// after its ticks, and an approval that comes late is reversed.
+/// after its ticks, and an approval that comes late is reversed, by a link or by the host. A reversal of other content is answered 94.
 pub fn worked_reversals()
     ensures link_failed { outputs_after diamond 0 (LinkDown 0 ∷ Enter (entered one ten_dollars) ∷ []) ≡ Put 1 1 (reversal one ten_dollars) ∷ Answer (answered one ten_dollars (codes "00")) ∷ Put 1 2 (stand_in one ten_dollars) ∷ [] }
     ensures timed_out { outputs_after base 0 (ticks 3 (Enter (entered one ten_dollars) ∷ [])) ≡ Put 0 2 (reversal one ten_dollars) ∷ Answer (answered one ten_dollars (codes "91")) ∷ [] }
     ensures sent_again { outputs_after base 0 (ticks 53 (Enter (entered one ten_dollars) ∷ [])) ≡ Put 0 3 (reversal_as K0421 one ten_dollars) ∷ [] }
     ensures not_sooner { outputs_after base 0 (ticks 52 (Enter (entered one ten_dollars) ∷ [])) ≡ [] }
     ensures late_approval { outputs_after base 0 (Take 0 2 (answered one ten_dollars (codes "00")) ∷ Take 0 1 (answered one ten_dollars (codes "96")) ∷ Enter (entered one ten_dollars) ∷ []) ≡ Put 0 2 (reversal one ten_dollars) ∷ [] }
+    ensures late_host { outputs_after base 1 (HostAnswer 1 (codes "00") ∷ HostAnswer 1 (codes "96") ∷ Take 0 1 (forwarded one ten_dollars) ∷ []) ≡ Post (reversal_by (codes "1002") K0420 one ten_dollars) ∷ [] }
+    ensures other_content { outputs_after base 0 (Enter (reversal_by_acquirer K0400 one twenty_dollars) ∷ Enter (entered one ten_dollars) ∷ []) ≡ Answer (reversal_reply_with (codes "94") one twenty_dollars) ∷ [] }
     ensures reversed_before { outputs_after base 0 (Take 0 1 (answered one ten_dollars (codes "00")) ∷ ticks 3 (Enter (entered one ten_dollars) ∷ [])) ≡ [] }
     ensures acknowledged { outputs_after base 0 (ticks 50 (Take 0 1 (acknowledged one ten_dollars) ∷ ticks 53 (Enter (entered one ten_dollars) ∷ []))) ≡ [] }
     ensures reversed_while_pending { outputs_after base 0 (Enter (reversal_by_acquirer K0400 one ten_dollars) ∷ Enter (entered one ten_dollars) ∷ []) ≡ Answer (answered one ten_dollars (codes "68")) ∷ Answer (reversal_reply one ten_dollars) ∷ Put 0 2 (reversal_by_acquirer K0420 one ten_dollars) ∷ [] }
@@ -56,6 +64,7 @@ pub fn worked_limits()
 
 /// A partial reversal leaves its actual amount, and frees the rest once.
 pub fn worked_partial_reversals()
+    ensures approved { outputs_after limited 0 (Enter (entered one ten_dollars) ∷ LinkDown 0 ∷ []) ≡ Answer (answered one ten_dollars (codes "00")) ∷ [] }
     ensures accepted { outputs_after limited 0 (Enter (partial_reversal four_dollars one ten_dollars) ∷ Enter (entered one ten_dollars) ∷ LinkDown 0 ∷ []) ≡ Answer (reversal_reply one ten_dollars) ∷ [] }
     ensures rest_freed { outputs_after limited 0 (Enter (entered two six_dollars) ∷ Enter (partial_reversal four_dollars one ten_dollars) ∷ Enter (entered one ten_dollars) ∷ LinkDown 0 ∷ []) ≡ Answer (answered two six_dollars (codes "00")) ∷ [] }
     ensures no_more_freed { outputs_after limited 0 (Enter (entered three one_cent) ∷ Enter (entered two six_dollars) ∷ Enter (partial_reversal four_dollars one ten_dollars) ∷ Enter (entered one ten_dollars) ∷ LinkDown 0 ∷ []) ≡ Answer (answered three one_cent (codes "61")) ∷ [] }
@@ -78,6 +87,7 @@ pub fn worked_lent_amounts()
     ensures no_more { outputs_after lenders 1 (Enter (entered_at_b two one_cent) ∷ Enter (entered_at_b one three_dollars) ∷ LinkDown 2 ∷ TakePacket 0 1 (granted 100) ∷ TakePacket 0 1 (granted 100) ∷ []) ≡ Answer (answered_at_b two one_cent (codes "61")) ∷ [] }
     ensures left_to_lender { outputs_after lenders 0 (Enter (entered one two_dollars) ∷ LinkDown 1 ∷ lend_to_b 100 ∷ []) ≡ Answer (answered one two_dollars (codes "00")) ∷ [] }
     ensures no_more_left { outputs_after lenders 0 (Enter (entered two one_cent) ∷ Enter (entered one two_dollars) ∷ LinkDown 1 ∷ lend_to_b 100 ∷ []) ≡ Answer (answered two one_cent (codes "61")) ∷ [] }
+    ensures own_limit { outputs_after lenders 1 (Enter (entered_at_b one two_dollars) ∷ LinkDown 2 ∷ []) ≡ Answer (answered_at_b one two_dollars (codes "00")) ∷ [] }
     ensures not_taken { outputs_after lenders 1 (Enter (entered_at_b two one_cent) ∷ Enter (entered_at_b one two_dollars) ∷ LinkDown 2 ∷ []) ≡ Answer (answered_at_b two one_cent (codes "61")) ∷ [] }
     ensures all_lent { outputs_after lenders 0 (Enter (entered one one_cent) ∷ LinkDown 1 ∷ lend_to_b 300 ∷ []) ≡ Answer (answered one one_cent (codes "91")) ∷ [] }
     ensures put_again { outputs_after lenders 0 (ticks 50 (lend_to_b 100 ∷ [])) ≡ PutPacket 0 2 (granted 100) ∷ [] }
@@ -91,6 +101,17 @@ pub fn worked_lent_amounts()
     ensures not_joined { refusal lenders 0 [] (Lend 0 card_number (0 ∷ 3 ∷ 1 ∷ 4 ∷ []) 100) ≡ Some NotLent }
     ensures for_another { refusal lenders 0 [] (TakePacket 0 1 (granted 100)) ≡ Some NotLent }
     ensures may { refusal lenders 0 [] (lend_to_b 300) ≡ None }
+{}
+
+/// Where all places are taken, after whatever came before: a request that finds but one of its two is declined, and a reversal, an
+/// advice, a late approval and a grant that find none are refused.
+pub fn worked_full_load()
+    ensures request { (past : History) → load base 0 past ≡ 65535 → date_of base past ≡ (0 ∷ 3 ∷ 1 ∷ 4 ∷ []) → opening base past (key_of (forwarded one ten_dollars)) ≡ None → reversed base 0 past (key_of (forwarded one ten_dollars)) ≡ false → newest_outputs (decide base 0 past (Enter (entered one ten_dollars))) ≡ Answer (answered one ten_dollars (codes "96")) ∷ [] }
+    ensures reversal { (past : History) → load base 0 past ≡ 65536 → opening base past (key_of (forwarded one ten_dollars)) ≡ None → known base 0 past (identity_of (reversal_by_acquirer K0400 one ten_dollars)) ≡ false → refusal base 0 past (Enter (reversal_by_acquirer K0400 one ten_dollars)) ≡ Some NoPlace }
+    ensures last_place { (past : History) → load base 0 past ≡ 65535 → opening base past (key_of (forwarded one ten_dollars)) ≡ None → known base 0 past (identity_of (reversal_by_acquirer K0400 one ten_dollars)) ≡ false → refusal base 0 past (Enter (reversal_by_acquirer K0400 one ten_dollars)) ≡ None }
+    ensures advice { (past : History) → load base 0 past ≡ 65536 → known base 0 past (identity_of (stand_in one ten_dollars)) ≡ false → refusal base 0 past (Take 0 1 (stand_in one ten_dollars)) ≡ Some NoPlace }
+    ensures late_approval { (past : History) (i : ReadInput) (count : ℕ) → load base 0 past ≡ 65536 → forwarded_on past (key_of (forwarded one ten_dollars)) ≡ Some 0 → comes_late past (advices base 0 past) (key_of (forwarded one ten_dollars)) ≡ true → opening base past (key_of (forwarded one ten_dollars)) ≡ Some (record { message = forwarded one ten_dollars; source = Gate; count = count; input = i }) → refusal base 0 past (Take 0 2 (answered one ten_dollars (codes "00"))) ≡ Some NoPlace }
+    ensures grant { (past : History) → load lenders 0 past ≡ 65536 → used lenders 0 past card_number (0 ∷ 3 ∷ 1 ∷ 4 ∷ []) ≡ 0 → borrowed past card_number (0 ∷ 3 ∷ 1 ∷ 4 ∷ []) ≡ 0 → lent lenders 0 past card_number (0 ∷ 3 ∷ 1 ∷ 4 ∷ []) ≡ 0 → refusal lenders 0 past (lend_to_b 100) ≡ Some NoPlace }
 {}
 
 /// What a node refuses, and with which fault.
@@ -118,7 +139,19 @@ pub fn worked_run()
     ensures bounded { IsBounded base }
     ensures run { IsRun base (λ n. spelled_trace (reversed_run n)) }
     ensures lenders_checked { IsChecked lenders }
+    ensures lenders_ranked { IsRanked lenders lender_ranks }
+    ensures lenders_bounded { IsBounded lenders }
     ensures lent_run { IsRun lenders (λ n. spelled_trace (lent_run n)) }
+{}
+
+/// And by a run of two hops: a host approves, a node stands in, its advice is posted at the home, and a reversal frees what was used.
+pub fn worked_two_hops()
+    ensures checked { IsChecked two_hops }
+    ensures ranked { IsRanked two_hops hop_ranks }
+    ensures bounded { IsBounded two_hops }
+    ensures run { IsRun two_hops (λ n. spelled_trace (hops_run n)) }
+    ensures used { used two_hops 0 (read_history (drop 4 (hops_run 0))) card_number (0 ∷ 3 ∷ 1 ∷ 4 ∷ []) ≡ 1000 }
+    ensures freed { used two_hops 0 (read_history (drop 3 (hops_run 0))) card_number (0 ∷ 3 ∷ 1 ∷ 4 ∷ []) ≡ 0 }
 {}
 
 /// Traces of nodes that decide otherwise aren't legal.

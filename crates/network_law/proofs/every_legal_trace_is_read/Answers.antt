@@ -8,6 +8,7 @@ use Rattle.network_law.specs.Legal.{marked_failed}
 use Rattle.network_law.proofs.every_legal_trace_is_read.Goals as goal
 use Rattle.network_law.proofs.Node.{legal_facts}
 use Rattle.network_law.proofs.Reading.{Legible, legible, EntryRead, entry_read}
+use Rattle.network_law.proofs.Leaves.{legal_leaves, legal_left}
 use Rattle.network_law.proofs.Marks.{fails_are_marked, fails_are_reversed}
 
 pub returns-clause-marked : goal.returns-clause-marked
@@ -33,3 +34,11 @@ pub returns-clause-forwards_once : goal.returns-clause-forwards_once
 unfolding history
 returns-clause-forwards_once c t checked n trace i j l s k u x y less legal has has' r r' e =
     (legal_facts t n (read_trace trace) (Legible.legal (legible t n checked less trace legal))).one_put i j l s k u x y has has' r r' e
+
+pub returns-clause-leave_less : goal.returns-clause-leave_less
+unfolding history
+returns-clause-leave_less c t checked n trace a x less legal m mx own r = legal_leaves t n (read_trace trace) (Legible.legal (legible t n checked less trace legal)) a x m mx own r
+
+pub returns-clause-decide : goal.returns-clause-decide
+unfolding history
+returns-clause-decide c t checked n trace a less legal m rev = legal_left t n (read_trace trace) (Legible.legal (legible t n checked less trace legal)) a m rev

@@ -1,5 +1,5 @@
 use Rattle.network_law.proofs.words.plain_words.Goals as goal
-use Rattle.network_law.proofs.Plain.{asked_by_number, counts_asks, counts_puts, up_by_last, dated_by_last, opened_by_first, opened_once, each_of_its_key, fail_in_opening_order, answered_by_first, forwarded_by_first, counts_ticks, used_is_sum, leaves_least, leaves_all, late_is_reversed}
+use Rattle.network_law.proofs.Plain.{asked_by_number, counts_asks, counts_puts, up_by_last, dated_by_last, opened_by_first, opened_once, each_of_its_key, fail_in_opening_order, answered_by_first, forwarded_by_first, counts_ticks, used_is_sum, leaves_least, leaves_one, leaves_no_more, leaves_all, late_is_reversed}
 
 pub returns-clause-opened_by_first : goal.returns-clause-opened_by_first
 returns-clause-opened_by_first c = opened_by_first
@@ -27,6 +27,12 @@ returns-clause-used c = used_is_sum
 
 pub returns-clause-left_least : goal.returns-clause-left_least
 returns-clause-left_least c = leaves_least
+
+pub returns-clause-left_one : goal.returns-clause-left_one
+returns-clause-left_one c = leaves_one
+
+pub returns-clause-left_no_more : goal.returns-clause-left_no_more
+returns-clause-left_no_more c = leaves_no_more
 
 pub returns-clause-left_all : goal.returns-clause-left_all
 returns-clause-left_all c = leaves_all

@@ -29,3 +29,19 @@ returns-clause-other_content c = refl
 pub returns-clause-answered_again : goal.returns-clause-answered_again
 unfolding outputs_after
 returns-clause-answered_again c = refl
+
+pub returns-clause-bad_card : goal.returns-clause-bad_card
+unfolding outputs_after
+returns-clause-bad_card c = refl
+
+pub returns-clause-no_issuer : goal.returns-clause-no_issuer
+unfolding outputs_after
+returns-clause-no_issuer c = refl
+
+pub returns-clause-link_says_94 : goal.returns-clause-link_says_94
+unfolding outputs_after
+returns-clause-link_says_94 c = refl
+
+pub returns-clause-host_says_94 : goal.returns-clause-host_says_94
+unfolding outputs_after
+returns-clause-host_says_94 c = refl

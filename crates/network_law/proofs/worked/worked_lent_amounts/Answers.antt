@@ -99,3 +99,7 @@ returns-clause-grant_first c = refl
 pub returns-clause-advices_first : goal.returns-clause-advices_first
 unfolding history_after outputs_after
 returns-clause-advices_first c = refl
+
+pub returns-clause-own_limit : goal.returns-clause-own_limit
+unfolding history_after outputs_after
+returns-clause-own_limit c = refl

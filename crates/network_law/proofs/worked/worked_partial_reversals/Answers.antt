@@ -26,3 +26,7 @@ returns-clause-freed_once c = refl
 pub returns-clause-used : goal.returns-clause-used
 unfolding history_after outputs_after used
 returns-clause-used c = refl
+
+pub returns-clause-approved : goal.returns-clause-approved
+unfolding history_after outputs_after used
+returns-clause-approved c = refl

@@ -45,3 +45,11 @@ returns-clause-posted c = refl
 pub returns-clause-posted_once : goal.returns-clause-posted_once
 unfolding outputs_after
 returns-clause-posted_once c = refl
+
+pub returns-clause-late_host : goal.returns-clause-late_host
+unfolding outputs_after
+returns-clause-late_host c = refl
+
+pub returns-clause-other_content : goal.returns-clause-other_content
+unfolding outputs_after
+returns-clause-other_content c = refl

@@ -1,0 +1,16 @@
+//! Amounts that messages carry.
+ghost use Rattle.std.specs.Prelude.{◌≡◌};
+ghost use Rattle.iso_message.specs.Amounts.{actual_amount};
+
+use crate::message::Message;
+use card_digits::Amount;
+
+/// The actual amount of a partial reversal, in the currency's smallest unit: the first of the replacement amounts (ISO 8583,
+/// element 95). None where that element is absent, or where its first twelve bytes are not all ASCII digits.
+pub fn actual_amount(message: &Message) -> Option<Amount>
+    ensures { result ≡ actual_amount message.now }
+{
+    let _ = message.kind();
+    let amounts = message.get(95)?;
+    Amount::read(&amounts[..12]).ok()
+}
