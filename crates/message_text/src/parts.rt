@@ -5,6 +5,7 @@ ghost use Rattle.iso_message.specs.Frames.{frame, IsCut};
 ghost use Rattle.message_text.specs.Parts.{lines_of};
 
 use byteorder::{BigEndian, ByteOrder};
+use memchr::memchr;
 
 /// The first line of an input that has bytes, and what stands behind its line feed.
 pub(crate) fn first_line(input: &[u8]) -> (&[u8], &[u8])
@@ -19,11 +20,12 @@ pub(crate) fn first_line(input: &[u8]) -> (&[u8], &[u8])
 }
 
 /// Where the first line feed stands.
+#[tactic(auto, using(crate::proofs::PartLemmas::place_of_first))]
 fn line_end(input: &[u8]) -> Option<usize>
     ensures place { result ≡ position_from (λ b. b == 10) 0 input.now }
     ensures bound { IfSome result (λ end. end < length input.now) }
 {
-    input.iter().position(|byte| *byte == b'\n')
+    memchr(b'\n', input)
 }
 
 /// The bytes of the first frame, and what stands behind it; none where the frame is cut.

@@ -61,7 +61,14 @@ fn frames(rt: HostRuntime) -> Result<(), Fail> {
     assert!(rt; answers_frames(&rt, &input, &text, false)?);
     assert!(rt; answers_frames(&rt, b"", "", true)?);
     assert!(rt; answers_frames(&rt, &[0x00], "message 1\nfault message 1 short\n", false)?);
-    assert!(rt; answers_frames(&rt, &[0x00, 0x00], "message 1\nfault message 1 short\n", false)?);
+    assert!(rt;
+        answers_frames(
+            &rt,
+            &[0x00, 0x00],
+            "message 1\nfault message 1 short\n",
+            false
+        )?
+    );
     Ok(())
 }
 
