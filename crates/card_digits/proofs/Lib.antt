@@ -6,3 +6,4 @@ pub mod Deepest
 pub mod Known
 pub mod Decimals
 pub mod Cuts
+pub mod LineCuts

@@ -5,3 +5,4 @@ pub mod Reading
 pub mod Stream
 pub mod Numbers
 pub mod Cut
+pub mod Lines

@@ -4,7 +4,6 @@ use Rattle.std.specs.Prelude.{◌≡◌, ℕ, ◌<◌, ◌≤◌, ◌==◌, ◌|
 use Rattle.std.specs.List.{AllByRecursion, list_all}
 use Rattle.std.specs.Option.{option_map_or}
 use Rattle.card_digits.specs.Digits.{IsDateLabel, IsId}
-use Rattle.net_rows.specs.declared.row.Node.{Node}
 use Rattle.net_rows.specs.declared.row.Link.{Link}
 use Rattle.net_rows.specs.declared.row.Acquirer.{Acquirer}
 use Rattle.net_rows.specs.declared.row.Route.{Route}

@@ -1,7 +1,9 @@
 //! Rows, found by their longest prefix.
-ghost use Rattle.std.specs.Prelude.{◌≡◌, ◌==◌, ◌≤◌, ◌<◌, ◌+◌, length, ℕ, Option, IfOk, OnOk, option_and_then, slice_get};
-ghost use Rattle.std.specs.List.{filter};
+ghost use Rattle.std.specs.Prelude.{◌≡◌, ◌==◌, ◌≤◌, ◌<◌, ◌+◌, length, true, ℕ, Option, IfOk, OnOk, option_and_then, slice_get};
+ghost use Rattle.std.specs.Char.{is_ascii_digit};
+ghost use Rattle.std.specs.List.{filter, list_all};
 ghost use Rattle.std.specs.Option.{option_copied, option_eq};
+ghost use Rattle.card_digits.specs.Digits.{digits_of};
 ghost use Rattle.card_digits.specs.Longest.{longest};
 ghost use Rattle.net_rows.specs.Index.{IsIndexed, slot, places_at};
 ghost use Rattle.net_rows.specs.Adding.{IsAdded};
@@ -62,6 +64,18 @@ impl<R: Prefixed + Drop> Rows<R> {
             node,
             prefix: Prefix::of(card),
         })
+    }
+
+    /// The same for a card number in ASCII digits, however many they are.
+    pub fn for_number(&self, node: Option<NodeNo>, number: &[u8]) -> Option<&R>
+        requires { list_all is_ascii_digit number.now ≡ true }
+        ensures { option_copied result ≡ longest R.prefix_of (filter (λ r. option_eq ◌==◌ (R.node_of r) node) self.now) (digits_of number.now) }
+    {
+        let _ = &self.rows;
+        match Prefix::read(&number[..number.len().min(12)]) {
+            Ok(prefix) => self.for_class(RowKey { node, prefix }),
+            Err(_) => None,
+        }
     }
 }
 

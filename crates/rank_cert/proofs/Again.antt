@@ -14,10 +14,12 @@ use Rattle.card_digits.specs.Numbers.{decimal_from}
 use Rattle.card_digits.specs.Reading.{name_of, read_digits}
 use Rattle.rank_cert.specs.declared.cert.Rank.{Rank}
 use Rattle.rank_cert.specs.Ranks.{rank_of, IsRow, AddsRows, IsCert}
-use Rattle.rank_cert.specs.Reading.{lines, fields, three, number_of, row_of, is_line, rows_in, cert_in}
+use Rattle.card_digits.specs.Lines.{lines}
+use Rattle.card_digits.proofs.LineCuts.{lines-at}
+use Rattle.rank_cert.specs.Reading.{fields, three, number_of, row_of, is_line, rows_in, cert_in}
 use Rattle.rank_cert.specs.Writing.{digits_text, line_of, lines_of, text_of}
 use Rattle.card_digits.proofs.Cuts.{Others}
-use Rattle.rank_cert.proofs.Cuts.{lines-at, three_of_three}
+use Rattle.rank_cert.proofs.Cuts.{three_of_three}
 use Rattle.rank_cert.proofs.Pairs.{same_text}
 
 -- ---- bytes that pass a test are other ones than a byte that doesn't

@@ -3,7 +3,8 @@ use Rattle.std.proofs.Common.{◌≡◌, ℕ, ◌==◌, true, false, cond, List,
 use Rattle.std.specs.List.{onto_first}
 use Rattle.rank_cert.specs.declared.cert.Rank.{Rank}
 use Rattle.rank_cert.specs.declared.fault.CertFault.TheVariants.{AfterEnd}
-use Rattle.rank_cert.specs.Reading.{lines, ended}
+use Rattle.card_digits.specs.Lines.{lines}
+use Rattle.rank_cert.specs.Reading.{ended}
 
 -- something stands behind the end
 pub ended_with : (done : List Rank) (text : List ℕ) → (length text == 0) ≡ false → ended done (lines text) ≡ Err AfterEnd

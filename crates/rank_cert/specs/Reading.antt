@@ -1,20 +1,16 @@
 -- What the text of a certificate says, or the first fault in it.
-use Rattle.std.specs.Prelude.{◌≡◌, ℕ, ◌+◌, ◌==◌, ◌||◌, nat_lt, not, Bool, false, List, [], ◌∷◌, ◌++◌, length, codes, All, Option, Some, None, is_some, Result, Ok, Err, if◌then◌else◌, option_and_then}
-use Rattle.std.specs.List.{list_all, slice_split, onto_first}
+use Rattle.std.specs.Prelude.{◌≡◌, ℕ, ◌+◌, ◌==◌, ◌||◌, nat_lt, not, Bool, List, [], ◌∷◌, ◌++◌, length, codes, Option, Some, None, is_some, Result, Ok, Err, if◌then◌else◌, option_and_then}
+use Rattle.std.specs.List.{list_all, slice_split}
 use Rattle.std.specs.Result.{result_ok}
 use Rattle.std.specs.Char.{is_ascii_digit}
 use Rattle.std.specs.Cmp.Lexicographic.{pointwise}
+use Rattle.card_digits.specs.Lines.{lines}
 use Rattle.card_digits.specs.Numbers.{decimal}
 use Rattle.card_digits.specs.Reading.{name_of, read_digits}
 use Rattle.rank_cert.specs.declared.cert.Rank.{Rank}
 use Rattle.rank_cert.specs.declared.fault.CertFault.{CertFault}
 use Rattle.rank_cert.specs.declared.fault.CertFault.TheVariants.{Header, Line, Twice, NoEnd, AfterEnd, Memory}
 use Rattle.rank_cert.specs.Ranks.{rank_of}
-
--- the lines of a text: a line feed ends each, and the last may lack it
-abbrev pub lines : List ℕ → List (List ℕ)
-lines [] = []
-lines (b ∷ bs) = if b == 10 then [] ∷ lines bs else onto_first b (lines bs)
 
 -- the parts of a line round its spaces
 abbrev pub fields : List ℕ → List (List ℕ)

@@ -3,7 +3,6 @@
 
 mod cert;
 mod fault;
-mod parts;
 mod read;
 mod row;
 #[cfg(test)]

@@ -1,11 +1,12 @@
 //! Certificates from text.
 ghost use Rattle.std.specs.Prelude.{◌≡◌, [], codes};
-ghost use Rattle.rank_cert.specs.Reading.{is_line, lines, new_row, line_behind, rows_in, cert_in, Gives};
+ghost use Rattle.card_digits.specs.Lines.{lines};
+ghost use Rattle.rank_cert.specs.Reading.{is_line, new_row, line_behind, rows_in, cert_in, Gives};
 
 use crate::cert::{Cert, Rank};
 use crate::fault::CertFault;
-use crate::parts::first_line;
 use crate::row::row_of;
+use card_digits::first_line;
 use std::alloc::Global;
 
 fn is_header(line: &[u8]) -> bool

@@ -1,5 +1,6 @@
 use Rattle.std.proofs.Common.{◌≡◌, [], length}
-use Rattle.rank_cert.specs.Reading.{rows_in, lines}
+use Rattle.card_digits.specs.Lines.{lines}
+use Rattle.rank_cert.specs.Reading.{rows_in}
 use Rattle.rank_cert.proofs.read.read_rows.Given as goal
 
 abbrev pub invariant-loop-line : goal.invariant-loop-line

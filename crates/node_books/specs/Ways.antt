@@ -1,0 +1,67 @@
+-- Outputs as code keeps them.
+use Rattle.std.specs.Prelude.{ℕ, Bool, false, ◌==◌, List, [], ◌∷◌, ◌++◌, map, Option, Some, None, if◌then◌else◌}
+use Rattle.iso_message.specs.Fields.{Fields}
+use Rattle.iso_message.specs.Groups.{group}
+use Rattle.iso_message.specs.Keys.{identity_of}
+use Rattle.iso_message.specs.declared.keys.AdviceId.{AdviceId}
+use Rattle.node_machine.specs.Books.{Stored}
+use Rattle.node_books.specs.Advices.{marked_by}
+use Rattle.card_digits.specs.declared.key.Key.{Key}
+use Rattle.node_machine.specs.Lists.{LinkState, Lists, with_put, row_after}
+use Rattle.node_books.specs.Values.{message_of, output_key}
+use Rattle.network_law.specs.Traces.{ReadOutput, Put, Answer, Ask, Post, PutPacket, is_advice_group}
+use Rattle.node_books.specs.declared.output.Way.{Way}
+use Rattle.node_books.specs.declared.output.Way.TheVariants as ways
+
+abbrev pub output_of : Way → Fields → ReadOutput
+output_of (ways.Put l s) m = Put l s m
+output_of ways.Answer m = Answer m
+output_of (ways.Ask a) m = Ask a m
+output_of ways.Post m = Post m
+
+-- the identity of an advice
+abbrev pub advice_of : Fields → Option AdviceId
+advice_of m = if is_advice_group (group m.kind) then Some (identity_of m) else None
+
+abbrev pub mark_if : Option AdviceId → List Stored → List Stored
+mark_if None store = store
+mark_if (Some id) store = map (marked_by id) store
+
+-- it is put on this link
+abbrev pub is_put : ℕ → ReadOutput → Bool
+is_put l (Put k s m) = k == l
+is_put l (PutPacket k s p) = k == l
+is_put l o = false
+
+-- the advice that an output puts
+abbrev pub put_in : ReadOutput → Option AdviceId
+put_in (Put l s m) = advice_of m
+put_in o = None
+
+-- what an output that goes this way does to the links, the store and the asks
+abbrev pub links_by : Way → List LinkState → List LinkState
+links_by (ways.Put l s) links = with_put l links
+links_by _ links = links
+
+abbrev pub store_by : Way → Option AdviceId → List Stored → List Stored
+store_by (ways.Put l s) id store = mark_if id store
+store_by _ id store = store
+
+abbrev pub asks_by : Way → Key → List Key → List Key
+asks_by (ways.Ask a) k asks = asks ++ k ∷ []
+asks_by _ k asks = asks
+
+abbrev pub after_way : Way → ReadOutput → Lists → Lists
+after_way w o x = record {
+  rows = map (row_after o) x.rows;
+  marks = x.marks;
+  takes = x.takes;
+  store = store_by w (advice_of (message_of o)) x.store;
+  known = x.known;
+  loans = x.loans;
+  borrowed = x.borrowed;
+  links = links_by w x.links;
+  asks = asks_by w (output_key o) x.asks;
+  date = x.date;
+  count = x.count;
+}

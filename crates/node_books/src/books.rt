@@ -1,0 +1,355 @@
+//! All books of a node.
+ghost use Rattle.std.specs.Prelude.{◌≡◌, ◌+◌, ◌-◌, ◌<◌, ◌≤◌, ◌^◌, suc, [], ◌∷◌, ◌++◌, map, filter, not, OnOk, OnErr, IfOk, length, replicate};
+ghost use Rattle.node_machine.specs.Lists.{row_after, after_output, ask_at, of_key, is_marked, is_among, fresh};
+ghost use Rattle.std.specs.Option.{option_copied};
+ghost use Rattle.node_books.specs.Effects.{applied_one, keep_in};
+ghost use Rattle.node_books.specs.Links.{IsFar};
+ghost use Rattle.node_books.specs.Values.{IsUnique};
+ghost use Rattle.net_rows.specs.Network.{Network};
+ghost use Rattle.node_machine.specs.Machine.{load};
+ghost use Rattle.node_machine.specs.Lists.{view};
+ghost use Rattle.std.specs.Prelude.{ℕ, is_some};
+ghost use Rattle.node_books.specs.declared.effect.Effect.TheVariants.{Lent};
+ghost use Rattle.network_law.specs.Traces.{PutPacket};
+ghost use Rattle.std.specs.List.{list_any};
+ghost use Rattle.node_machine.specs.Machine.{was_put};
+ghost use Rattle.node_books.specs.Advices.{has_id};
+
+use crate::advices::{AdviceStore, KeptAdvice, KeptGrant, StoredItem};
+use crate::effect::{Effect, NewAdvice};
+use crate::lending::{Borrowed, LendingBook, Loan};
+use crate::links::{LinkState, Links};
+use crate::output::{PreparedOutput, Way};
+use crate::pending::{Mark, PendingBook};
+use crate::row::Row;
+use crate::standin::{OwnApproval, StandInBook};
+use card_digits::{DateLabel, Key, LinkNo};
+use iso_message::AdviceId;
+use network_law::GrantPacket;
+use std::alloc::{AllocError, Global};
+use std::marker::Model;
+
+/// The books, and how many changes more need no memory.
+#[derive(Drop)]
+pub struct Books {
+    pub(crate) pending: PendingBook,
+    pub(crate) standin: StandInBook,
+    pub(crate) advices: AdviceStore,
+    pub(crate) lending: LendingBook,
+    pub(crate) links: Links,
+    pub(crate) asks: Vec<Key>,
+    pub(crate) date: DateLabel,
+    pub(crate) count: u64,
+    pub(crate) room: usize,
+}
+
+impl Model for Books {
+    ghost use Rattle.std.specs.Prelude.{vec_len, vec_capacity};
+    ghost use Rattle.node_books.specs.Values.{Roomy, HasRooms};
+
+    ghost Value = { Roomy };
+
+    ghost view = { λ b. record { lists = record { rows = b.pending.rows; marks = b.pending.marks; takes = b.standin.takes; store = b.advices.store; known = b.advices.known; loans = b.lending.loans; borrowed = b.lending.borrowed; links = b.links.links; asks = b.asks.items; date = b.date; count = b.count }; room = b.room } };
+
+    ghost invariant = { λ b. HasRooms b.room b.pending.room b.standin.room b.advices.room b.lending.room b.links.room (vec_len b.asks) (vec_capacity b.asks) b.count };
+}
+
+fn ask_in(asks: &mut Vec<Key>, way: Way, key: Key)
+    requires { vec_len asks.old < vec_capacity asks.old }
+    ensures items { asks.new.items ≡ asks_by way key asks.old.items }
+    ensures len { vec_len asks.new ≤ vec_len asks.old + 1 }
+    ensures capacity { vec_capacity asks.new ≡ vec_capacity asks.old }
+{
+    if let Way::Ask(_) = way {
+        asks.push_reserved(key);
+    }
+}
+
+ghost use Rattle.std.specs.Prelude.{vec_len, vec_capacity};
+ghost use Rattle.node_books.specs.Ways.{asks_by, after_way};
+
+impl Books {
+    /// The books of a new node with so many links.
+    pub fn new(alloc: Global, date: DateLabel, links: usize) -> Result<Books, AllocError>
+        ensures { IfOk result (λ b. b.lists ≡ record { rows = []; marks = []; takes = []; store = []; known = []; loans = []; borrowed = []; links = replicate links fresh; asks = []; date = date; count = 0 }) }
+    {
+        let links = Links::new(alloc, links)?;
+        Ok(Books {
+            pending: PendingBook::new(alloc),
+            standin: StandInBook::new(alloc),
+            advices: AdviceStore::new(alloc),
+            lending: LendingBook::new(alloc),
+            links,
+            asks: Vec::new(alloc),
+            date,
+            count: 0,
+            room: 0,
+        })
+    }
+
+    /// The next n changes need no memory.
+    pub fn reserve(&mut self, n: usize) -> Result<(), AllocError>
+        ensures lists { self.new.lists ≡ self.old.lists }
+        ensures ok { OnOk result (self.new.room ≡ n) }
+    {
+        self.room = 0;
+        if n >= 1 << 61 || self.count >= 1 << 61 {
+            return Err(AllocError);
+        }
+        self.pending.reserve(n)?;
+        self.standin.reserve(n)?;
+        self.advices.reserve(n)?;
+        self.lending.reserve(n)?;
+        self.links.reserve(n)?;
+        self.asks.reserve(n)?;
+        self.room = n;
+        Ok(())
+    }
+
+    /// The key of an ask.
+    pub fn ask(&self, ask: u64) -> Option<Key>
+        ensures { result ≡ ask_at self.now.lists.asks ask }
+    {
+        if ask < 1 {
+            return None;
+        }
+        let asks = self.asks.as_slice();
+        let place = (ask - 1) as usize;
+        if place < asks.len() {
+            Some(asks[place])
+        } else {
+            None
+        }
+    }
+
+    /// The request of a key.
+    pub fn of_key(&self, key: Key) -> Option<&Row>
+        ensures { option_copied result ≡ of_key key self.now.lists.rows }
+    {
+        self.pending.of_key(key)
+    }
+
+    /// The links by their numbers, on none of which more than 2^62 messages were put.
+    pub fn links(&self) -> &[LinkState]
+        ensures links { result.now ≡ self.now.lists.links }
+        ensures few { IsFar 0 result.now }
+    {
+        self.links.states()
+    }
+
+    /// Whether the key has a request.
+    pub fn has_key(&self, key: Key) -> bool
+        ensures { result ≡ is_some (of_key key self.now.lists.rows) }
+    {
+        match self.pending.of_key(key) {
+            Some(_) => true,
+            None => false,
+        }
+    }
+
+    /// The requests in opening order, each key once.
+    pub fn rows(&self) -> &[Row]
+        ensures rows { result.now ≡ self.now.lists.rows }
+        ensures unique { IsUnique self.now.lists.rows }
+    {
+        self.pending.rows()
+    }
+
+    /// The places taken: one by each stored advice and grant, two by each pending request.
+    pub fn load(&self) -> u128
+        ensures { (t : Network) (n : ℕ) → result ≡ load (view t n self.now.lists) }
+    {
+        let _ = self.pending.rows();
+        self.advices.items().len() as u128 + 2 * self.pending.open_count() as u128
+    }
+
+    /// The keys of which a reversal was accepted, the oldest first.
+    pub fn marks(&self) -> &[Mark]
+        ensures { result.now ≡ self.now.lists.marks }
+    {
+        self.pending.marks()
+    }
+
+    /// Whether a reversal of the key was accepted.
+    pub fn is_marked(&self, key: Key) -> bool
+        ensures { result ≡ is_marked key self.now.lists.marks }
+    {
+        self.pending.is_marked(key)
+    }
+
+    /// Whether an advice of this identity was made or accepted.
+    pub fn is_known(&self, id: AdviceId) -> bool
+        ensures { result ≡ is_among id self.now.lists.known }
+    {
+        self.advices.is_known(id)
+    }
+
+    /// Whether an advice of this identity is stored.
+    pub fn is_stored(&self, id: AdviceId) -> bool
+        ensures { result ≡ list_any (has_id id) self.now.lists.store }
+    {
+        self.advices.is_stored(id)
+    }
+
+    /// Whether an advice of this identity is stored, and was put.
+    pub fn was_put(&self, id: AdviceId) -> bool
+        ensures { result ≡ list_any (was_put id) self.now.lists.store }
+    {
+        self.advices.was_put(id)
+    }
+
+    /// What waits for its acknowledgement, the oldest first.
+    pub fn stored(&self) -> &[StoredItem]
+        ensures { result.now ≡ self.now.lists.store }
+    {
+        self.advices.items()
+    }
+
+    pub fn takes(&self) -> &[OwnApproval]
+        ensures { result.now ≡ self.now.lists.takes }
+    {
+        self.standin.takes()
+    }
+
+    pub fn loans(&self) -> &[Loan]
+        ensures { result.now ≡ self.now.lists.loans }
+    {
+        self.lending.loans()
+    }
+
+    pub fn borrowed(&self) -> &[Borrowed]
+        ensures { result.now ≡ self.now.lists.borrowed }
+    {
+        self.lending.borrowed()
+    }
+
+    /// How often the host was asked.
+    pub fn ask_count(&self) -> usize
+        ensures count { result ≡ length self.now.lists.asks }
+        ensures few { result + 1 < 2 ^ 64 }
+    {
+        self.asks.len()
+    }
+
+    pub fn date(&self) -> DateLabel
+        ensures { result ≡ self.now.lists.date }
+    {
+        self.date
+    }
+
+    /// The number of ticks.
+    pub fn count(&self) -> u64
+        ensures count { result ≡ self.now.lists.count }
+        ensures few { result ≤ 2 ^ 62 }
+    {
+        self.count
+    }
+
+    /// An output went out.
+    #[tactic(auto, using(crate::proofs::Codes::after_is))]
+    fn send(&mut self, output: PreparedOutput)
+        requires { 0 < self.old.room }
+        ensures { self.new ≡ record { lists = after_output output self.old.lists; room = self.old.room - 1 } }
+    {
+        let key = output.key();
+        self.links.after(output.way());
+        self.advices.after(output.way(), &output);
+        ask_in(&mut self.asks, output.way(), key);
+        self.pending.after(output);
+        self.room -= 1;
+    }
+
+    /// An advice was made or accepted.
+    #[tactic(auto, using(crate::proofs::Codes::id_key))]
+    fn keep(&mut self, advice: NewAdvice)
+        requires { 0 < self.old.room }
+        ensures { self.new ≡ record { lists = keep_in advice self.old.lists; room = self.old.room - 1 } }
+    {
+        self.room -= 1;
+        let NewAdvice {
+            id,
+            message,
+            actual,
+            count,
+            own,
+            home,
+            put,
+        } = advice;
+        if self.advices.is_known(id) {
+            return;
+        }
+        if !own && message.kind().is_04xx() {
+            self.pending.mark(Mark::new(id.key, actual));
+            self.standin.give_back(id.key, actual);
+        }
+        if home {
+            self.advices.note(id);
+        } else {
+            self.advices.store(KeptAdvice::new(id, message, count, put));
+        }
+    }
+
+    /// The node lent to another.
+    fn lend(&mut self, grant: KeptGrant)
+        requires { 0 < self.old.room }
+        ensures { self.new ≡ record { lists = applied_one (Lent grant) self.old.lists; room = self.old.room - 1 } }
+    {
+        let lent = grant.grant();
+        self.lending
+            .lend(Loan::new(lent.card, lent.date, lent.amount));
+        self.advices.lend(grant);
+        self.room -= 1;
+    }
+
+    /// A packet was put on a link, with this serial.
+    #[tactic(auto, using(crate::proofs::Packets::packet_quiet))]
+    fn send_packet(&mut self, link: LinkNo, serial: u64, packet: GrantPacket)
+        requires { 0 < self.old.room }
+        ensures { self.new ≡ record { lists = after_output (PutPacket link serial packet) self.old.lists; room = self.old.room - 1 } }
+    {
+        self.links.put(link);
+        self.room -= 1;
+    }
+
+    /// A change is made.
+    pub fn apply(&mut self, effect: Effect)
+        requires { 0 < self.old.room }
+        ensures { self.new ≡ record { lists = applied_one effect self.old.lists; room = self.old.room - 1 } }
+    {
+        match effect {
+            Effect::Sent(output) => self.send(output),
+            Effect::Kept(advice) => self.keep(advice),
+            Effect::Approved(approval) => {
+                self.standin.take(approval);
+                self.room -= 1;
+            }
+            Effect::Opened(row) => {
+                self.pending.open(row);
+                self.room -= 1;
+            }
+            Effect::Acknowledged(id) => {
+                self.advices.ack(id);
+                self.room -= 1;
+            }
+            Effect::LinkIs(link, up) => {
+                self.links.set_up(link, up);
+                self.room -= 1;
+            }
+            Effect::Dated(date) => {
+                self.date = date;
+                self.room -= 1;
+            }
+            Effect::Ticked => {
+                self.count += 1;
+                self.room -= 1;
+            }
+            Effect::PacketSent(link, serial, packet) => self.send_packet(link, serial, packet),
+            Effect::Lent(grant) => self.lend(grant),
+            Effect::PacketTaken(packet) => {
+                self.advices.take_packet(&packet);
+                self.lending.take_packet(&packet);
+                self.room -= 1;
+            }
+        }
+    }
+}

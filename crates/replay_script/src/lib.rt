@@ -1,0 +1,13 @@
+//! The lines of a script, which say what happens at which node.
+#![tactic(auto)]
+
+mod command;
+mod line;
+mod script;
+#[cfg(test)]
+mod tests;
+mod words;
+
+pub use command::{Command, ScriptLine};
+pub use line::read_line;
+pub use script::{MalformedLine, Script};

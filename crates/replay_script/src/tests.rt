@@ -1,0 +1,192 @@
+ghost use Rattle.std.specs.Prelude.{◌≡◌, length, IfOk};
+ghost use Rattle.std.specs.List.{AllByRecursion};
+ghost use Rattle.card_digits.specs.Digits.{IsId};
+ghost use Rattle.net_rows.specs.Sound.{AreEnds};
+
+use crate::{Command, MalformedLine, Script, read_line};
+use card_digits::{DateLabel, Id, Name, NodeNo, ShortBytes};
+use net_rows::{Link, Node, Settings, Tables};
+use std::alloc::Global;
+use std::test::Fail;
+
+fn name(text: &[u8]) -> Result<Name, Fail> {
+    Ok(Name::read(text).ok_or("name")?)
+}
+
+fn node(text: &[u8]) -> Result<Node, Fail>
+    ensures { IfOk result (λ n. IsId n.id) }
+{
+    let Some(id) = Id::read(b"1001") else {
+        return Err("id")?;
+    };
+    let name = name(text)?;
+    Ok(Node { name, id })
+}
+
+fn nodes(alloc: Global) -> Result<Vec<Node>, Fail>
+    ensures three { IfOk result (λ v. length v.items ≡ 3) }
+    ensures ids { IfOk result (λ v. AllByRecursion (λ n. IsId n.id) v.items) }
+{
+    let mut nodes = Vec::new(alloc);
+    nodes.push(node(b"A")?)?;
+    nodes.push(node(b"B")?)?;
+    nodes.push(node(b"H")?)?;
+    Ok(nodes)
+}
+
+/// One link, from A to H.
+fn links(alloc: Global) -> Result<Vec<Link>, Fail>
+    ensures one { IfOk result (λ v. length v.items ≡ 1) }
+    ensures ends { IfOk result (λ v. AreEnds 3 v.items) }
+{
+    let mut links = Vec::new(alloc);
+    links.push(Link {
+        name: name(b"AH")?,
+        from: NodeNo::new(0),
+        to: NodeNo::new(2),
+        ticks: 3,
+    })?;
+    Ok(links)
+}
+
+fn tables(alloc: Global) -> Result<Tables, Fail> {
+    let settings = Settings {
+        currency: ShortBytes::from_slice(b"840"),
+        date: DateLabel::read(b"0314").ok().ok_or("date")?,
+        host_ticks: 100,
+        advice_ticks: 50,
+    };
+    let (nodes, links) = (nodes(alloc)?, links(alloc)?);
+    let tables = Tables::new(
+        alloc,
+        settings,
+        nodes,
+        links,
+        Vec::new(alloc),
+        Vec::new(alloc),
+        Vec::new(alloc),
+        Vec::new(alloc),
+    )?;
+    Ok(tables)
+}
+
+/// The message that is entered, or the word of another command.
+fn word_of<'a>(command: &Command<'a>) -> &'a [u8] {
+    match command {
+        Command::Enter(message) => message,
+        Command::Take { .. } => b"take",
+        Command::LinkUp(_) => b"up",
+        Command::LinkDown(_) => b"down",
+        Command::Tick => b"tick",
+        Command::HostAnswer { .. } => b"host",
+        Command::NewDate(_) => b"date",
+        Command::Lend { .. } => b"lend",
+    }
+}
+
+/// Whether the line says this of the node at a place.
+fn says(tables: &Tables, text: &[u8], node: usize, word: &[u8]) -> bool {
+    match read_line(tables, text) {
+        Some(line) => line.node.place() == node && word_of(&line.command) == word,
+        None => false,
+    }
+}
+
+#[test]
+fn reads_each_command(rt: HostRuntime) -> Result<(), Fail> {
+    let tables = tables(rt.alloc())?;
+    let cases: [(&[u8], usize, &[u8]); 12] = [
+        (b"enter A 0100 rest", 0, b"0100 rest"),
+        (b"enter B ", 1, b""),
+        (b"take AH H 1", 2, b"take"),
+        (b"take AH A 9999999999", 0, b"take"),
+        (b"take AH A 0", 0, b"take"),
+        (b"up AH A", 0, b"up"),
+        (b"down AH H", 2, b"down"),
+        (b"tick B", 1, b"tick"),
+        (b"host H 1 00", 2, b"host"),
+        (b"host H 0000000001   ", 2, b"host"),
+        (b"date A 9999", 0, b"date"),
+        (b"lend A H 4111111111111111 0314 100", 0, b"lend"),
+    ];
+    for (text, node, word) in cases {
+        assert!(rt; says(&tables, text, node, word));
+    }
+    Ok(())
+}
+
+#[test]
+fn refuses_what_is_no_line(rt: HostRuntime) -> Result<(), Fail> {
+    let tables = tables(rt.alloc())?;
+    let cases: [&[u8]; 40] = [
+        b"",
+        b" ",
+        b"tick",
+        b"Tick A",
+        b"ticks A",
+        b" tick A",
+        b"tick  A",
+        b"tick A ",
+        b"tick C",
+        b"tick a",
+        b"enter A",
+        b"enter C 0100",
+        b"enter  0100",
+        b"take AH A",
+        b"take AH A 1 ",
+        b"take AH A ",
+        b"take AH A 12345678901",
+        b"take AH A x",
+        b"take AH A -1",
+        b"take A AH 1",
+        b"take AH B 1",
+        b"take AX A 1",
+        b"up A AH",
+        b"up AH B",
+        b"down AH",
+        b"down AH C",
+        b"host H 1",
+        b"host H 1 0",
+        b"host H 1 000",
+        b"host H 1 0\x7f",
+        b"host H x 00",
+        b"host C 1 00",
+        b"date A 314",
+        b"date A 03140",
+        b"date A 03x4",
+        b"lend A C 4111111111111111 0314 100",
+        b"lend A H 4111111 0314 100",
+        b"lend A H 4111111111111111 314 100",
+        b"lend A H 4111111111111111 0314 000000000000",
+        b"lend A H 4111111111111111 0314 1000000000000",
+    ];
+    for text in cases {
+        assert!(rt; read_line(&tables, text).is_none());
+    }
+    Ok(())
+}
+
+/// How many lines are read before the first that is malformed, and the number of that, 0 where there is none.
+fn first_malformed(tables: &Tables, text: &[u8]) -> (usize, usize) {
+    let mut script = Script::new(text);
+    let mut read: usize = 0;
+    while let Some(line) = script.next_line(tables) {
+        match line {
+            Ok(_) => read = read.saturating_add(1),
+            Err(MalformedLine(number)) => return (read, number),
+        }
+    }
+    (read, 0)
+}
+
+#[test]
+fn numbers_the_lines(rt: HostRuntime) -> Result<(), Fail> {
+    let tables = tables(rt.alloc())?;
+    assert!(rt; first_malformed(&tables, b"") == (0, 0));
+    assert!(rt; first_malformed(&tables, b"tick A\ntick B") == (2, 0));
+    assert!(rt; first_malformed(&tables, b"tick A\ntick B\n") == (2, 0));
+    assert!(rt; first_malformed(&tables, b"\ntick A") == (0, 1));
+    assert!(rt; first_malformed(&tables, b"tick A\n\ntick B") == (1, 2));
+    assert!(rt; first_malformed(&tables, b"tick A\ntick B\r\n") == (1, 2));
+    Ok(())
+}

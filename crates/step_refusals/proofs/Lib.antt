@@ -1,0 +1,4 @@
+pub mod Lends
+pub mod Loads
+pub mod Present
+pub mod Entered

@@ -1,0 +1,10 @@
+use Rattle.std.proofs.Common.{◌≡◌, true, false, sym, ◌∙◌}
+use Rattle.iso_message.proofs.KeyLemmas.{when_none}
+use Rattle.step_refusals.proofs.Present.{answer_known}
+use Rattle.step_refusals.proofs.places.late_finds_no_place.Goals as goal
+
+pub returns-in-None : goal.returns-in-None
+returns-in-None c =
+    let unknown = when_none _ _ (sym c.in-None.ensures) in
+    let known = answer_known c.args.message.now (rw (← c.kind.ensures.kind) (sym c.if-not-is_answer.ensures)) c.requires in
+    absurd (let wrong : true ≡ false = sym known ∙ unknown in cc)

@@ -1,0 +1,73 @@
+//! What a node may lend.
+ghost use Rattle.std.specs.Prelude.{◌≡◌, ◌<◌, ◌^◌};
+ghost use Rattle.node_machine.specs.Lists as lists;
+ghost use Rattle.node_machine.specs.Lists.{view, LeftAsMarked};
+ghost use Rattle.node_machine.specs.Machine.{allowance, may_not_lend};
+ghost use Rattle.network_law.specs.Traces.{added};
+ghost use Rattle.node_machine.specs.Machine.{lent_for, borrowed_for};
+
+use crate::sums::total;
+use card_digits::{Amount, Card, DateLabel, NodeNo};
+use net_rows::Tables;
+use node_books::Books;
+use step_rules::{are_linked, day, is_named};
+
+/// What the node's own approvals use for a card and a settlement date.
+pub fn used(books: &Books, card: &Card, date: &DateLabel) -> u128
+    ensures used { result ≡ lists.used books.now.lists.takes card.now date.now }
+    ensures bound { result < 2 ^ 104 }
+{
+    total(books.takes(), card.digits(), date.digits())
+}
+
+/// What the node lent of a card and a settlement date.
+pub fn lent(books: &Books, card: &Card, date: &DateLabel) -> u128
+    ensures lent { result ≡ added (lent_for card.now date.now) books.now.lists.loans }
+    ensures bound { result < 2 ^ 104 }
+{
+    total(books.loans(), card.digits(), date.digits())
+}
+
+/// What the node borrowed of a card and a settlement date.
+pub fn borrowed(books: &Books, card: &Card, date: &DateLabel) -> u128
+    ensures borrowed { result ≡ added (borrowed_for card.now date.now) books.now.lists.borrowed }
+    ensures bound { result < 2 ^ 104 }
+{
+    total(books.borrowed(), card.digits(), date.digits())
+}
+
+/// The node's allowance of a card and a settlement date: its day limit and what it borrowed, less what it lent.
+pub fn allowance(
+    books: &Books,
+    tables: &Tables,
+    node: NodeNo,
+    card: &Card,
+    date: &DateLabel,
+) -> u128
+    ensures { result ≡ allowance tables.now node (view tables.now node books.now.lists) card.now date.now }
+{
+    let most = day(tables, node, card).value() as u128 + borrowed(books, card, date);
+    most.saturating_sub(lent(books, card, date))
+}
+
+/// Whether the node may not lend so much of a card and a settlement date to another: no link joins the two, the amount is 0, the
+/// card's issuer does not name the borrower, or less is left.
+pub fn may_not_lend(
+    books: &Books,
+    tables: &Tables,
+    node: NodeNo,
+    borrower: NodeNo,
+    card: &Card,
+    date: &DateLabel,
+    amount: Amount,
+) -> bool
+    // What own approvals count for is what accepted reversals leave of them.
+    requires { LeftAsMarked books.now.lists.marks books.now.lists.takes }
+    ensures { result ≡ may_not_lend tables.now node (view tables.now node books.now.lists) borrower card.now date.now amount }
+{
+    if !are_linked(tables, node, borrower) || amount.value() == 0 {
+        return true;
+    }
+    let left = allowance(books, tables, node, card, date).saturating_sub(used(books, card, date));
+    !is_named(tables, borrower, card) || left < amount.value() as u128
+}

@@ -1,0 +1,175 @@
+//! Places for advices.
+ghost use Rattle.std.specs.Prelude.{◌≡◌, ◌&&◌, true, None};
+ghost use Rattle.iso_message.specs.Groups.{group, is_reversal};
+ghost use Rattle.iso_message.specs.Made.{without_forwarder};
+ghost use Rattle.network_law.specs.Refusals.{entered_kind, required_entered, required_taken, missing};
+ghost use Rattle.network_law.specs.Traces.{dated, is_link};
+ghost use Rattle.node_machine.specs.Lists.{view};
+ghost use Rattle.node_machine.specs.Machine.{other_content, finds_no_place, late_finds_no_place, home_of_key};
+ghost use Rattle.step_refusals.specs.Keyed.{is_pending_at, request_at, link_at_key};
+ghost use Rattle.step_refusals.specs.Places.{is_late, late_has_no_place, finds_no_place_as, has_no_place, is_accepted, given_up};
+
+use crate::readings::{comes_late, is_pending, other_content};
+use card_digits::{Key, LinkNo, NodeNo};
+use iso_message::{AdviceId, Message, advice_id, key_of};
+use net_rows::Tables;
+use node_books::Books;
+use step_rules::{
+    has_good_card, has_issuer, is_advice_group, is_answer, is_approval, is_at_home, is_reversal,
+};
+
+/// How many places a node has, for stored advices and grants and for open requests.
+pub const PLACES: u128 = 65536;
+
+/// Whether the message takes back a request that is pending.
+fn reverses_pending(books: &Books, message: &Message, key: Key) -> bool
+    ensures { result ≡ (is_reversal message.now.kind && is_pending_at books.now.lists key) }
+{
+    is_reversal(message.kind()) && is_pending(books, key)
+}
+
+/// The places that a pending request gives up where the message takes it back.
+fn given_up(books: &Books, message: &Message, key: Key) -> u128
+    ensures { result ≡ given_up books.now.lists message.now key }
+{
+    if reverses_pending(books, message, key) {
+        2
+    } else {
+        0
+    }
+}
+
+/// Whether this advice would be stored, and has no place.
+fn has_no_place(books: &Books, tables: &Tables, node: NodeNo, message: &Message, key: Key) -> bool
+    ensures { result ≡ has_no_place tables.now node books.now.lists message.now key }
+{
+    let load = books.load().saturating_sub(given_up(books, message, key));
+    !is_at_home(tables, node, message) && load >= PLACES
+}
+
+/// Whether the message takes back a request of other content.
+fn reverses_other(books: &Books, message: &Message, key: Key) -> bool
+    ensures { result ≡ (is_reversal message.now.kind && other_content (request_at books.now.lists key) message.now) }
+{
+    is_reversal(message.kind()) && other_content(books, key, message)
+}
+
+/// Whether the message is an advice that is not declined.
+fn is_accepted(books: &Books, tables: &Tables, message: &Message, key: Key) -> bool
+    ensures { result ≡ is_accepted tables.now books.now.lists message.now key }
+{
+    is_advice_group(message.kind().group())
+        && has_good_card(message)
+        && has_issuer(tables, message)
+        && !reverses_other(books, message, key)
+}
+
+/// Whether an advice that the node would accept and know by this identity finds no place.
+fn finds_no_place_as(
+    books: &Books,
+    tables: &Tables,
+    node: NodeNo,
+    message: &Message,
+    id: AdviceId,
+) -> bool
+    ensures { result ≡ finds_no_place_as tables.now node books.now.lists message.now id }
+{
+    is_accepted(books, tables, message, id.key)
+        && !books.is_known(id)
+        && has_no_place(books, tables, node, message, id.key)
+}
+
+/// Whether an advice that an acquirer enters finds no place. It loses its forwarder there.
+pub(crate) fn entered_finds_no_place(
+    books: &Books,
+    tables: &Tables,
+    node: NodeNo,
+    message: &Message,
+) -> bool
+    requires kind { entered_kind message.now.kind ≡ true }
+    requires whole { missing message.now (required_entered (group message.now.kind)) ≡ None }
+    ensures { result ≡ finds_no_place tables.now node (view tables.now node books.now.lists) (dated books.now.lists.date (without_forwarder message.now)) }
+{
+    match advice_id(message) {
+        Some(id) => {
+            let forwarder = [b'0'; 11];
+            finds_no_place_as(books, tables, node, message, AdviceId { forwarder, ..id })
+        }
+        None => false,
+    }
+}
+
+/// Whether an advice that comes by a link finds no place.
+pub(crate) fn taken_finds_no_place(
+    books: &Books,
+    tables: &Tables,
+    node: NodeNo,
+    message: &Message,
+) -> bool
+    requires { missing message.now (required_taken (group message.now.kind) message.now.kind) ≡ None }
+    ensures { result ≡ finds_no_place tables.now node (view tables.now node books.now.lists) message.now }
+{
+    match advice_id(message) {
+        Some(id) => finds_no_place_as(books, tables, node, message, id),
+        None => false,
+    }
+}
+
+/// Whether the key's request was put on this link.
+fn went_by(books: &Books, link: LinkNo, key: Key) -> bool
+    ensures { result ≡ is_link link (link_at_key books.now.lists key) }
+{
+    match books.of_key(key) {
+        Some(row) => match row.link() {
+            Some(other) => other == link,
+            None => false,
+        },
+        None => false,
+    }
+}
+
+/// Whether the node is the home of the card of the key's request.
+fn is_home_of_key(books: &Books, tables: &Tables, node: NodeNo, key: Key) -> bool
+    ensures { result ≡ home_of_key tables.now node (request_at books.now.lists key) }
+{
+    match books.of_key(key) {
+        Some(row) => is_at_home(tables, node, row.message()),
+        None => false,
+    }
+}
+
+/// Whether an approval of this key by this link comes late, of a card whose home is elsewhere.
+fn is_late(books: &Books, tables: &Tables, node: NodeNo, link: LinkNo, key: Key) -> bool
+    ensures { result ≡ is_late tables.now node books.now.lists link key }
+{
+    went_by(books, link, key)
+        && comes_late(books, tables, node, key)
+        && !is_home_of_key(books, tables, node, key)
+}
+
+/// Whether the reversal of such an approval would be stored in one place too many.
+fn late_has_no_place(books: &Books, tables: &Tables, node: NodeNo, link: LinkNo, key: Key) -> bool
+    ensures { result ≡ late_has_no_place tables.now node books.now.lists link key }
+{
+    is_late(books, tables, node, link, key) && books.load() >= PLACES
+}
+
+/// Whether the reversal of an approval that comes late by this link finds no place.
+pub(crate) fn late_finds_no_place(
+    books: &Books,
+    tables: &Tables,
+    node: NodeNo,
+    link: LinkNo,
+    message: &Message,
+) -> bool
+    requires { missing message.now (required_taken (group message.now.kind) message.now.kind) ≡ None }
+    ensures { result ≡ late_finds_no_place tables.now node (view tables.now node books.now.lists) link message.now }
+{
+    if !is_answer(message.kind()) || !is_approval(message) {
+        return false;
+    }
+    match key_of(message) {
+        Some(key) => late_has_no_place(books, tables, node, link, key),
+        None => false,
+    }
+}

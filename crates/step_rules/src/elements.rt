@@ -1,0 +1,79 @@
+//! Elements, as a node reads them.
+ghost use Rattle.std.specs.Prelude.{◌≡◌, bytes_eq};
+ghost use Rattle.card_digits.specs.Numbers.{decimal};
+ghost use Rattle.iso_message.specs.Codes.{code_of, code_00};
+ghost use Rattle.iso_message.specs.Fields.{el};
+ghost use Rattle.iso_message.specs.Keys.{own_key, part};
+ghost use Rattle.network_law.specs.Refusals.{strange_original, strange_actual};
+
+use card_digits::{Amount, decimal, pad11};
+use iso_message::{Message, actual_amount};
+
+/// The bytes of an element, none where it is absent.
+#[tactic(auto, unfolding(iso_message::specs::Fields::el))]
+pub fn element(message: &Message, number: u8) -> &[u8]
+    ensures { result.now ≡ el message.now number }
+{
+    match message.get(number) {
+        Some(bytes) => bytes,
+        None => &[],
+    }
+}
+
+/// So many bytes from a place on, fewer where the bytes end.
+fn part(bytes: &[u8], from: usize, count: usize) -> &[u8]
+    ensures { result.now ≡ part from count bytes.now }
+{
+    let rest = &bytes[from.min(bytes.len())..];
+    &rest[..count.min(rest.len())]
+}
+
+/// The acquiring institution of the message (element 32), padded.
+pub fn acquirer_of(message: &Message) -> [u8; 11]
+    ensures { result ≡ (own_key message.now).acquirer }
+{
+    let _ = message.kind();
+    pad11(element(message, 32))
+}
+
+/// The amount of the message (element 4), 0 where it is absent.
+pub fn amount_of(message: &Message) -> Amount
+    ensures { result ≡ decimal (el message.now 4) }
+{
+    let _ = message.kind();
+    Amount::new(decimal(element(message, 4)))
+}
+
+/// Whether a reversal, or what answers one, names no request of its own acquirer in element 90.
+pub fn strange_original(message: &Message) -> bool
+    ensures { result ≡ strange_original message.now }
+{
+    if !message.kind().is_04xx() {
+        return false;
+    }
+    let original = element(message, 90);
+    let request = part(original, 0, 4) == b"0100".as_slice();
+    let own = part(original, 20, 11) == acquirer_of(message).as_slice();
+    !(request && own)
+}
+
+/// Whether element 95 is there, and what should be its actual amount is no number, or more than the amount of element 4.
+pub fn strange_actual(message: &Message) -> bool
+    ensures { result ≡ strange_actual message.now }
+{
+    if !message.has(95) {
+        return false;
+    }
+    match actual_amount(message) {
+        Some(actual) => amount_of(message).value() < actual.value(),
+        None => true,
+    }
+}
+
+/// Whether the message's response code (element 39) approves.
+#[tactic(auto, unfolding(iso_message::specs::Codes::code_of))]
+pub fn is_approval(message: &Message) -> bool
+    ensures { result ≡ bytes_eq (code_of message.now) code_00 }
+{
+    element(message, 39) == b"00".as_slice()
+}

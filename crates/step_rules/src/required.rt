@@ -1,0 +1,76 @@
+//! The elements that a message must have.
+ghost use Rattle.std.specs.Prelude.{◌≡◌};
+ghost use Rattle.iso_message.specs.Groups.{group};
+ghost use Rattle.network_law.specs.Refusals.{required_entered, required_taken, first_missing, missing};
+
+use crate::elements::strange_original;
+use iso_message::{Group, Kind, Message};
+
+/// The elements of a message of this group that an acquirer enters.
+pub fn required_entered(group: Group) -> &'static [u8]
+    ensures { result.now ≡ required_entered group }
+{
+    match group {
+        Group::Request => &[2, 3, 4, 7, 11, 32, 49],
+        Group::Reversal => &[2, 3, 4, 7, 11, 32, 49, 90],
+        Group::Answer | Group::StandInAdvice | Group::Acknowledgement | Group::Reply => &[],
+    }
+}
+
+/// The elements of a message of this group and type that comes by a link.
+pub fn required_taken(group: Group, kind: Kind) -> &'static [u8]
+    ensures { result.now ≡ required_taken group kind }
+{
+    match group {
+        Group::Request => &[2, 3, 4, 7, 11, 15, 32, 49],
+        Group::Answer => &[7, 11, 32, 39],
+        Group::StandInAdvice => &[2, 3, 4, 7, 11, 15, 32, 33, 39, 49],
+        Group::Reversal => &[2, 3, 4, 7, 11, 32, 49, 90],
+        Group::Acknowledgement => match kind {
+            Kind::K0130 => &[7, 11, 32, 33, 39],
+            _ => &[32, 39, 90],
+        },
+        Group::Reply => &[],
+    }
+}
+
+/// The first of these elements that the message lacks.
+fn first_missing(message: &Message, numbers: &[u8]) -> Option<u8>
+    ensures { result ≡ first_missing message.now numbers.now }
+{
+    for number in numbers {
+        if !message.has(*number) {
+            return Some(*number);
+        }
+    }
+    None
+}
+
+/// The same, and 90 where that names no request of the message's own acquirer.
+fn missing(message: &Message, numbers: &[u8]) -> Option<u8>
+    ensures { result ≡ missing message.now numbers.now }
+{
+    let absent = first_missing(message, numbers);
+    if absent.is_some() {
+        return absent;
+    }
+    if strange_original(message) {
+        return Some(90);
+    }
+    None
+}
+
+/// The first element that a message lacks to be entered at a gate: 90 also where it names no request of the message's own acquirer.
+pub fn missing_entered(message: &Message) -> Option<u8>
+    ensures { result ≡ missing message.now (required_entered (group message.now.kind)) }
+{
+    missing(message, required_entered(message.kind().group()))
+}
+
+/// The same of a message that comes by a link.
+pub fn missing_taken(message: &Message) -> Option<u8>
+    ensures { result ≡ missing message.now (required_taken (group message.now.kind) message.now.kind) }
+{
+    let kind = message.kind();
+    missing(message, required_taken(kind.group(), kind))
+}

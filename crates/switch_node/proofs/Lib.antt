@@ -1,0 +1,11 @@
+pub mod Drafts
+pub mod Stepped
+pub mod SoFar
+pub mod Messages
+pub mod Quiet
+pub mod Parts
+pub mod Few
+pub mod Takings
+pub mod Requested
+pub mod Starts
+pub mod Coming

@@ -1,0 +1,12 @@
+use Rattle.std.proofs.Common.{◌≡◌, ap, sym, ◌∙◌}
+use Rattle.network_law.specs.Traces.{Gate}
+use Rattle.node_books.specs.Effects.{progress}
+use Rattle.switch_node.proofs.Parts.{on_ok}
+use Rattle.switch_node.proofs.Coming.{enter_steps, opened_quiet}
+use Rattle.switch_node.proofs.draft.Draft.enter.Goals as goal
+
+pub on_message-requires-clause-quiet : goal.on_message-requires-clause-quiet
+on_message-requires-clause-quiet c = opened_quiet c.args.self.now.base c.open.new.self.base (record { message = c.in_ok-handled.handled; source = Gate }) (progress c.open.new.self) c.in_ok-open.ensures.base c.in_ok-open.ensures.ok
+
+pub returns-clause-ok : goal.returns-clause-ok
+returns-clause-ok c = on_ok c.on_message.result (λ e. enter_steps c.args.tables.now c.args.node c.args.self.now.base c.open.new.self.base c.args.m c.in_ok-handled.handled (progress c.open.new.self) (progress c.on_message.new.self) c.in_ok-handled.ensures c.in_ok-open.ensures.ok c.in_ok-open.ensures.base e) c.on_message.ensures.ok

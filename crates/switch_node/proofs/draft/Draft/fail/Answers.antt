@@ -1,0 +1,12 @@
+use Rattle.std.proofs.Common.{◌≡◌, ℕ, ap, ◌∙◌, Some}
+use Rattle.node_machine.specs.Lists.{of_key, view, request_of}
+use Rattle.node_machine.specs.Steps as steps
+use Rattle.node_books.specs.Effects.{Drafted, progress}
+use Rattle.node_books.specs.Values.{source_of}
+use Rattle.switch_node.proofs.Parts.{fail_with}
+use Rattle.switch_node.proofs.draft.Draft.fail.Goals as goal
+
+pub returns-clause-ok : goal.returns-clause-ok
+returns-clause-ok c =
+    let found = c.in-Some.ensures ∙ ap (λ (d : Drafted). of_key c.args.key d.base.rows) c.self.view_is in
+    fail_with c.args.tables.now c.args.node c.args.self.now.base c.args.key c.in-Some.row.now c.in_ok-request.request (source_of c.source-source.result) (progress c.args.self.now) (progress c.fail_request.new.self) c.fail_request.result found (c.in_ok-request.ensures ∙ c.message.ensures) c.source-source.ensures c.fail_request.ensures.ok

@@ -1,0 +1,47 @@
+use Rattle.std.proofs.Common.{◌≡◌, ℕ, ◌<◌, ◌≤◌, List, [], ◌∷◌, ◌++◌, length, map, reverse, Bool, true, false, nat_le, inl, inr, refl, sym, ap, subst, ◌∙◌, arith}
+use Rattle.std.proofs.lemmas.Bool.{cases_Bool, leb-true, leb-false}
+use Rattle.std.proofs.lemmas.List.{reverse-append, reverse-reverse, length-reverse}
+use Rattle.network_law.specs.Entries.{Entry, spelled}
+use Rattle.node_books.specs.Effects.{progress, sent_in}
+use Rattle.switch_node.specs.Node.{Does, Given, IsNode}
+use Rattle.switch_node.proofs.Stepped.{Stepped, stepped, faulted, full}
+use Rattle.switch_node.proofs.node.Node.step.Goals as goal
+
+not_full : (entries : List Entry) → length entries < 1000000 → nat_le 1000000 (length (reverse entries)) ≡ false
+not_full entries p = rw (length-reverse entries) (elim (cases_Bool (nat_le 1000000 (length entries))) [ inl t ↦ absurd (omega (arith, leb-true 1000000 (length entries) t, p)) | inr f ↦ f ])
+
+made : (c : goal.After-push_reserved) → Stepped c.self.inside.tables.now c.self.inside.node (reverse c.self.inside.trace.items) (record { input = c.args.input; outputs = c.in-Ok.outs.items }) (progress c.step.new.self).lists
+made c =
+    let t = c.self.inside.tables.now in
+    let n = c.self.inside.node in
+    let trace : List Entry = reverse c.self.inside.trace.items in
+    let does : Does t n c.args.input c.self.inside.draft c.step.new.self = c.in_default.ensures.ok in
+    let room : nat_le 1000000 (length trace) ≡ false = not_full c.self.inside.trace.items (omega (arith, ap length c.as_slice.ensures.value)) in
+    let own = rw (← c.self.view_is) at c.requires.own in
+    stepped t n trace c.self.inside.draft.base (record { input = c.args.input; outputs = c.in-Ok.outs.items }) (Does.read does) (progress c.step.new.self) c.self.invariant.given own c.requires.typed (Does.reads does) room (Does.accepted does) (Does.done does) (c.in-Ok.ensures.outs ∙ ap (map spelled) (sym (reverse-reverse (sent_in c.step.new.self.effects))))
+
+pub invariant_of-self-2 : goal.invariant_of-self-2
+invariant_of-self-2 c = rw (c.push_reserved.ensures.items, c.reserve.ensures.items, c.new.ensures, c.from_vec-2.ensures, reverse-append c.self.inside.trace.items (record { input = c.args.input; outputs = c.in-Ok.outs.items } ∷ []), c.in-Ok.ensures.done) (record { given = Stepped.given (made c); empty = refl })
+
+pub returns-clause-accepted : goal.returns-clause-accepted
+returns-clause-accepted c = rw (← c.self.view_is) (Stepped.accepted (made c))
+
+pub returns-clause-decided : goal.returns-clause-decided
+returns-clause-decided c = rw (← c.self.view_is) (c.from_vec.ensures ∙ (c.in-Ok.ensures.lent ∙ (sym c.in-Ok.ensures.outs ∙ Stepped.outputs (made c))))
+
+pub returns-in-Err-clause-fault : goal.returns-in-Err-clause-fault
+returns-in-Err-clause-fault c =
+    let t = c.self.inside.tables.now in
+    let n = c.self.inside.node in
+    let room = not_full c.self.inside.trace.items (omega (arith, ap length c.as_slice.ensures.value)) in
+    let own = rw (← c.self.view_is) at c.requires.own in
+    elim (c.in-Err.ensures.fault) [
+      | inl m ↦ inl m
+      | inr e ↦ inr (rw (← c.self.view_is) (faulted t n (reverse c.self.inside.trace.items) c.self.inside.draft.base c.args.input c.in-Err.fault c.self.invariant.given own room e))
+    ]
+
+is_full : (entries : List Entry) → 1000000 ≤ length entries → nat_le 1000000 (length (reverse entries)) ≡ true
+is_full entries p = rw (length-reverse entries) (elim (cases_Bool (nat_le 1000000 (length entries))) [ inl t ↦ t | inr f ↦ absurd (omega (arith, leb-false 1000000 (length entries) f, p)) ])
+
+pub returns-then-as_slice-ge-MOST-clause-fault : goal.returns-then-as_slice-ge-MOST-clause-fault
+returns-then-as_slice-ge-MOST-clause-fault c = inr (rw (← c.self.view_is) (full c.self.inside.tables.now c.self.inside.node (reverse c.self.inside.trace.items) c.args.input (is_full c.self.inside.trace.items (omega (arith, ap length c.as_slice.ensures.value)))))

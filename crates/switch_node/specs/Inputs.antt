@@ -1,0 +1,14 @@
+-- Inputs as code takes them.
+use Rattle.network_law.specs.Entries.{Input, Enter, Take, LinkUp, LinkDown, Tick, HostAnswer, NewDate, Lend}
+use Rattle.switch_node.specs.declared.input.Case.{Case}
+use Rattle.switch_node.specs.declared.input.Case.TheVariants as cases
+
+abbrev pub input_of : Case → Input
+input_of (cases.Enter v) = Enter v.items
+input_of (cases.Take l s v) = Take l s v.items
+input_of (cases.LinkUp l) = LinkUp l
+input_of (cases.LinkDown l) = LinkDown l
+input_of cases.Tick = Tick
+input_of (cases.HostAnswer a code) = HostAnswer a code
+input_of (cases.NewDate date) = NewDate date
+input_of (cases.Lend m card date amount) = Lend m card date amount

@@ -1,0 +1,204 @@
+//! Messages that come to a node.
+ghost use Rattle.std.specs.Prelude.{◌≡◌, ◌++◌, [], IfOk, IfSome, OnOk, true, false};
+ghost use Rattle.std.specs.Option.{option_and_then};
+ghost use Rattle.card_digits.specs.Digits.{AreDigits};
+ghost use Rattle.iso_message.specs.Groups.{group, is_request};
+ghost use Rattle.iso_message.specs.Keys.{key_of};
+ghost use Rattle.iso_message.specs.Made.{without_forwarder};
+ghost use Rattle.network_law.specs.Cards.{text_of};
+ghost use Rattle.network_law.specs.Traces.{ByLink, Enter, dated, is_advice_group, is_link};
+ghost use Rattle.node_machine.specs.Lists.{LeftAsMarked, of_key, row_link, view};
+ghost use Rattle.node_machine.specs.Steps.{on_advice, on_answer, on_group, on_request, on_reversal, step};
+ghost use Rattle.node_books.specs.Effects.{progress};
+ghost use Rattle.node_books.specs.Values.{IsKeyOf, source_of};
+ghost use Rattle.switch_node.specs.Used.{IsQuiet};
+ghost use Rattle.switch_node.specs.Coming.{opened_start};
+
+use crate::draft::Draft;
+use card_digits::{Key, LinkNo, NodeNo};
+use iso_message::{Code, Group, Message, advice_id, code_of, key_of};
+use net_rows::Tables;
+use node_books::{Effect, Row, is_request};
+use std::alloc::AllocError;
+
+/// The key of a request.
+#[tactic(auto, using(crate::proofs::Messages::request_key))]
+fn request_key(m: &Message) -> Option<Key>
+    requires { is_request m.now.kind ≡ true }
+    ensures { IfSome result (λ k. IsKeyOf k m.now) }
+{
+    key_of(m)
+}
+
+/// Writes digits in ASCII.
+fn push_digits(out: &mut Vec<u8>, digits: &[u8]) -> Result<(), AllocError>
+    requires { AreDigits digits.now }
+    ensures { OnOk result (out.new.items ≡ out.old.items ++ text_of digits.now) }
+{
+    for digit in digits {
+        out.push(*digit + b'0')?;
+    }
+    Ok(())
+}
+
+impl Draft {
+    /// A message as its gate handles it: without the forwarding institution, and a request with the settlement date.
+    fn handled(&self, m: Message) -> Result<Message, AllocError>
+        ensures { IfOk result (λ h. h ≡ dated self.now.base.date (without_forwarder m)) }
+    {
+        let mut handled = m;
+        handled.remove(33);
+        if !is_request(handled.kind()) {
+            return Ok(handled);
+        }
+        let date = self.books.date();
+        let mut text = Vec::new(self.alloc);
+        push_digits(&mut text, date.digits())?;
+        match handled.set(15, &text) {
+            Ok(()) => Ok(handled),
+            Err(_) => Err(AllocError),
+        }
+    }
+
+    /// A request opens its key, where that has none yet; another message does nothing as it comes.
+    #[tactic(auto, using(crate::proofs::Coming::opens, crate::proofs::Coming::opens_none))]
+    fn open(&mut self, m: &Message, source: Option<LinkNo>) -> Result<(), AllocError>
+        requires { self.old.effects ≡ [] }
+        ensures base { self.new.base ≡ self.old.base }
+        ensures ok { OnOk result (progress self.new ≡ opened_start self.old.base (record { message = m.now; source = source_of source })) }
+    {
+        if !is_request(m.kind()) {
+            return Ok(());
+        }
+        let Some(key) = request_key(m) else {
+            return Err(AllocError);
+        };
+        let request = m.copy()?;
+        let row = Row::new(key, request, source, self.books.count());
+        self.change(Effect::Opened(row))
+    }
+
+    /// Whether the key's request was put on this link before the entry.
+    fn was_put_on(&self, key: Key, link: LinkNo) -> bool
+        ensures { result ≡ is_link link (option_and_then row_link (of_key key self.now.base.rows)) }
+    {
+        match self.books.of_key(key) {
+            Some(row) => match row.link() {
+                Some(own) => own == link,
+                None => false,
+            },
+            None => false,
+        }
+    }
+
+    /// An answer counts on the link on which its request was put.
+    #[tactic(auto, using(crate::proofs::Coming::answer_counts, crate::proofs::Coming::answer_strange))]
+    fn on_answer(
+        &mut self,
+        tables: &Tables,
+        node: NodeNo,
+        m: &Message,
+        link: LinkNo,
+    ) -> Result<(), AllocError>
+        ensures base { self.new.base ≡ self.old.base }
+        ensures ok { OnOk result (progress self.new ≡ on_answer tables.now node (view tables.now node self.old.base) m.now (ByLink link) (progress self.old)) }
+    {
+        let Some(key) = key_of(m) else {
+            return Err(AllocError);
+        };
+        let Some(code) = code_of(m) else {
+            return Err(AllocError);
+        };
+        if !self.was_put_on(key, link) {
+            return Ok(());
+        }
+        self.on_code(tables, node, key, code, Code::new(*b"96"))
+    }
+
+    fn on_keyed_request(
+        &mut self,
+        tables: &Tables,
+        node: NodeNo,
+        m: &Message,
+        source: Option<LinkNo>,
+    ) -> Result<(), AllocError>
+        requires request { is_request m.now.kind ≡ true }
+        requires quiet { IsQuiet self.old.base (progress self.old).lists }
+        requires left { LeftAsMarked self.old.base.marks self.old.base.takes }
+        ensures base { self.new.base ≡ self.old.base }
+        ensures ok { OnOk result (progress self.new ≡ on_request tables.now node (view tables.now node self.old.base) m.now (source_of source) ((view tables.now node self.old.base).opening (key_of m.now)) (progress self.old)) }
+    {
+        match request_key(m) {
+            Some(key) => self.on_request(tables, node, key, m, source),
+            None => Err(AllocError),
+        }
+    }
+
+    #[tactic(auto, using(crate::proofs::Messages::known_identity))]
+    fn on_identified(
+        &mut self,
+        tables: &Tables,
+        node: NodeNo,
+        m: &Message,
+        source: Option<LinkNo>,
+        reverses: bool,
+    ) -> Result<(), AllocError>
+        requires { is_advice_group (group m.now.kind) ≡ true }
+        ensures base { self.new.base ≡ self.old.base }
+        ensures reversal { OnOk result (reverses ≡ true → progress self.new ≡ on_reversal tables.now node (view tables.now node self.old.base) m.now (source_of source) (progress self.old)) }
+        ensures stand_in { OnOk result (reverses ≡ false → progress self.new ≡ on_advice tables.now node (view tables.now node self.old.base) m.now (source_of source) (progress self.old)) }
+    {
+        let Some(id) = advice_id(m) else {
+            return Err(AllocError);
+        };
+        if reverses {
+            self.on_reversal(tables, node, id, m, source)
+        } else {
+            self.on_advice(tables, node, id, m, source)
+        }
+    }
+
+    /// A message, as it is handled.
+    #[tactic(auto, using(crate::proofs::Messages::request_group))]
+    fn on_message(
+        &mut self,
+        tables: &Tables,
+        node: NodeNo,
+        m: &Message,
+        source: Option<LinkNo>,
+    ) -> Result<(), AllocError>
+        requires quiet { IsQuiet self.old.base (progress self.old).lists }
+        requires left { LeftAsMarked self.old.base.marks self.old.base.takes }
+        ensures base { self.new.base ≡ self.old.base }
+        ensures ok { OnOk result (progress self.new ≡ on_group tables.now node (view tables.now node self.old.base) m.now (source_of source) (group m.now.kind) (progress self.old)) }
+    {
+        match m.kind().group() {
+            Group::Request => self.on_keyed_request(tables, node, m, source),
+            Group::Answer => match source {
+                Some(link) => self.on_answer(tables, node, m, link),
+                None => Ok(()),
+            },
+            Group::StandInAdvice => self.on_identified(tables, node, m, source, false),
+            Group::Reversal => self.on_identified(tables, node, m, source, true),
+            Group::Acknowledgement => Ok(()),
+            Group::Reply => Ok(()),
+        }
+    }
+
+    /// A message that an acquirer enters.
+    pub(crate) fn enter(
+        &mut self,
+        tables: &Tables,
+        node: NodeNo,
+        m: Message,
+    ) -> Result<(), AllocError>
+        requires empty { self.old.effects ≡ [] }
+        requires left { LeftAsMarked self.old.base.marks self.old.base.takes }
+        ensures base { self.new.base ≡ self.old.base }
+        ensures ok { OnOk result (progress self.new ≡ step tables.now node self.old.base (Enter m)) }
+    {
+        let handled = self.handled(m)?;
+        self.open(&handled, None)?;
+        self.on_message(tables, node, &handled, None)
+    }
+}

@@ -1,0 +1,108 @@
+//! One node.
+ghost use Rattle.std.specs.Prelude.{◌≡◌, ◌⊎◌, ◌<◌, ◌≤◌, [], ◌∷◌, length, OnOk, OnErr, IfErr, IfOk, Some, None};
+ghost use Rattle.network_law.specs.Checked.{IsChecked};
+ghost use Rattle.network_law.specs.Tables.{is_link_of};
+ghost use Rattle.network_law.specs.Runs.{IsLegal, NamesOwnLink, IsTyped, step_refusal, step_outputs};
+ghost use Rattle.network_law.specs.declared.fault.StepFault.TheVariants.{Memory};
+
+use crate::draft::Draft;
+use crate::input::Input;
+use crate::output::{Entry, Outputs};
+use card_digits::{LinkNo, NodeNo};
+use net_rows::Tables;
+use network_law::StepFault;
+use node_books::Books;
+use std::alloc::{AllocError, Global};
+use std::marker::Model;
+
+/// The most entries that a trace has.
+const MOST: usize = 1_000_000;
+
+/// A node of the network with its trace.
+#[derive(Drop)]
+pub struct Node<'a> {
+    tables: &'a Tables,
+    node: NodeNo,
+    draft: Draft,
+    trace: Vec<Entry>,
+}
+
+impl<'a> Model for Node<'a> {
+    ghost use Rattle.std.specs.Prelude.{reverse};
+    ghost use Rattle.switch_node.specs.Node.{NodeView, IsNode};
+
+    ghost Value = { NodeView };
+
+    ghost view = { λ a. record { t = a.tables.now; n = a.node; trace = reverse a.trace.items } };
+
+    ghost invariant = { λ a. IsNode a.tables.now a.node (reverse a.trace.items) a.draft };
+}
+
+impl<'a> Node<'a> {
+    /// A node of checked tables, to which nothing came yet.
+    pub fn new(alloc: Global, tables: &'a Tables, node: NodeNo) -> Result<Node<'a>, AllocError>
+        requires checked { IsChecked tables.now }
+        requires there { node < length tables.now.nodes }
+        ensures { IfOk result (λ a. (a.t ≡ tables.now) × (a.n ≡ node) × (a.trace ≡ [])) }
+    {
+        let books = Books::new(alloc, tables.settings().date, tables.links().len())?;
+        Ok(Node {
+            tables,
+            node,
+            draft: Draft::new(alloc, books),
+            trace: Vec::new(alloc),
+        })
+    }
+
+    /// Whether the node is an end of the link.
+    pub fn has_link(&self, link: LinkNo) -> bool
+        ensures { result ≡ is_link_of self.now.t self.now.n link }
+    {
+        match self.tables.links().get(link.place()) {
+            Some(row) => row.from == self.node || row.to == self.node,
+            None => false,
+        }
+    }
+
+    /// What the node was given and put out, the oldest first.
+    pub fn trace(&self) -> &[Entry]
+        ensures trace { reverse result.now ≡ self.now.trace }
+        ensures legal { IsLegal self.now.t self.now.n self.now.trace }
+    {
+        self.trace.as_slice()
+    }
+
+    /// Adds the entry of an input, and lends its outputs; or changes nothing.
+    pub fn step(&mut self, input: Input, out: &mut Outputs) -> Result<(), StepFault>
+        requires own { NamesOwnLink self.old.t self.old.n input }
+        requires typed { IsTyped input }
+        ensures same { (self.new.t ≡ self.old.t) × (self.new.n ≡ self.old.n) }
+        ensures entry { OnOk result (self.new.trace ≡ record { input = input; outputs = out.new } ∷ self.old.trace) }
+        ensures accepted { OnOk result (step_refusal self.old.t self.old.n self.old.trace input ≡ None) }
+        ensures decided { OnOk result (out.new ≡ step_outputs self.old.t self.old.n self.old.trace input) }
+        ensures err { OnErr result ((self.new ≡ self.old) × (out.new ≡ [])) }
+        ensures fault { IfErr result (λ f. (f ≡ Memory) ⊎ (step_refusal self.old.t self.old.n self.old.trace input ≡ Some f)) }
+    {
+        out.clear();
+        if self.trace.as_slice().len() >= MOST {
+            return Err(StepFault::HistoryFull);
+        }
+        if self.trace.reserve(1).is_err() {
+            return Err(StepFault::Memory);
+        }
+        if let Err(fault) = self.draft.step(self.tables, self.node, &input) {
+            self.draft.rollback();
+            return Err(fault);
+        }
+        let Ok((outs, lent)) = self.draft.commit() else {
+            self.draft.rollback();
+            return Err(StepFault::Memory);
+        };
+        *out = Outputs::from_vec(lent);
+        self.trace
+            .push_reserved(Entry::new(input, Outputs::from_vec(outs)));
+        Ok(())
+    }
+}
+
+ghost use Rattle.std.specs.Prelude.{reverse};

@@ -1,0 +1,126 @@
+//! What ticks and links that go down do.
+ghost use Rattle.std.specs.Prelude.{◌≡◌, ◌≤◌, ◌<◌, ◌+◌, ◌==◌, ◌^◌, OnOk, length, drop};
+ghost use Rattle.network_law.specs.Traces.{LinkDown, Tick};
+ghost use Rattle.node_machine.specs.Lists.{LeftAsMarked, row_fails, view};
+ghost use Rattle.node_machine.specs.Machine.{due, failing, is_due};
+ghost use Rattle.node_machine.specs.Steps.{fail_all, send_all};
+ghost use Rattle.node_books.specs.Effects.{progress};
+ghost use Rattle.switch_node.specs.Used.{IsQuiet};
+ghost use Rattle.switch_node.specs.Failures.{cause_of, fail_next, head_key};
+ghost use Rattle.node_books.specs.Values.{IsUnique};
+
+use crate::draft::Draft;
+use card_digits::{Key, LinkNo, NodeNo};
+use net_rows::Tables;
+use node_books::{Row, StoredCase, StoredItem};
+use std::alloc::AllocError;
+use step_rules::{is_due_again, ticks_by};
+
+/// What makes pending requests fail.
+#[derive(Drop)]
+pub(crate) enum Cause {
+    /// The link on which they were put goes down.
+    LinkDown(LinkNo),
+    /// Their time is over.
+    Tick,
+}
+
+/// Whether so many ticks went by since a count.
+fn is_over(now: u64, count: u64, ticks: u16) -> bool
+    ensures { result ≡ (count + ticks == now) }
+{
+    let ticks = ticks as u64;
+    ticks <= now && now - ticks == count
+}
+
+/// Whether a request fails.
+fn row_fails(tables: &Tables, count: u64, cause: &Cause, row: &Row) -> bool
+    requires { count ≤ 2 ^ 62 }
+    ensures { result ≡ row_fails tables.now count (cause_of cause.now) row.now }
+{
+    if !row.is_open() {
+        return false;
+    }
+    match cause {
+        Cause::LinkDown(link) => match row.link() {
+            Some(own) => own == *link,
+            None => false,
+        },
+        Cause::Tick => match ticks_by(tables, row.link(), row.asked()) {
+            Some(ticks) => is_over(count + 1, row.count(), ticks),
+            None => false,
+        },
+    }
+}
+
+/// Whether an advice or a grant is sent again.
+fn is_due(ticks: u16, now: u64, item: &StoredItem) -> bool
+    ensures { result ≡ is_due ticks now item.now }
+{
+    match item.case() {
+        StoredCase::Advice(advice) => is_due_again(ticks, now, advice.count()),
+        StoredCase::Grant(grant) => is_due_again(ticks, now, grant.count()),
+    }
+}
+
+impl Draft {
+    /// The key of the request at this place, if it fails.
+    fn failing_at(&self, tables: &Tables, cause: &Cause, place: usize) -> Option<Key>
+        requires { place < length self.now.base.rows }
+        ensures { result ≡ head_key (row_fails tables.now self.now.base.count (cause_of cause.now)) (drop place self.now.base.rows) }
+    {
+        let row = &self.books.rows()[place];
+        if row_fails(tables, self.books.count(), cause, row) {
+            Some(row.key())
+        } else {
+            None
+        }
+    }
+
+    /// The request at this place fails, if it does.
+    #[tactic(auto, using(crate::proofs::Parts::next_quiet))]
+    fn fail_at(
+        &mut self,
+        tables: &Tables,
+        node: NodeNo,
+        cause: &Cause,
+        place: usize,
+    ) -> Result<(), AllocError>
+        requires place { place < length self.old.base.rows }
+        requires quiet { IsQuiet self.old.base (progress self.old).lists }
+        requires left { LeftAsMarked self.old.base.marks self.old.base.takes }
+        ensures base { self.new.base ≡ self.old.base }
+        ensures ok { OnOk result (progress self.new ≡ fail_next tables.now node (view tables.now node self.old.base) (head_key (row_fails tables.now self.old.base.count (cause_of cause.now)) (drop place self.old.base.rows)) (progress self.old)) }
+    {
+        match self.failing_at(tables, cause, place) {
+            Some(key) => self.fail(tables, node, key),
+            None => Ok(()),
+        }
+    }
+
+    /// The requests that fail do so one after another, in the order in which they came.
+    pub(crate) fn fail_all(
+        &mut self,
+        tables: &Tables,
+        node: NodeNo,
+        cause: &Cause,
+    ) -> Result<(), AllocError>
+        requires quiet { IsQuiet self.old.base (progress self.old).lists }
+        requires left { LeftAsMarked self.old.base.marks self.old.base.takes }
+        ensures base { self.new.base ≡ self.old.base }
+        ensures ok { OnOk result (progress self.new ≡ fail_all tables.now node (view tables.now node self.old.base) (failing tables.now (view tables.now node self.old.base) (cause_of cause.now)) (progress self.old)) }
+    {
+        for place in 0..self.row_count() {
+            self.fail_at(tables, node, cause, place)?;
+        }
+        Ok(())
+    }
+
+    /// The number of requests, each of which has a key of its own.
+    fn row_count(&self) -> usize
+        ensures count { result ≡ length self.now.base.rows }
+        ensures unique { IsUnique self.now.base.rows }
+    {
+        self.books.rows().len()
+    }
+}
