@@ -4,8 +4,13 @@
 usage: make_bundles.py FOLDER [SEED]
 
 64 nodes stand in a tree whose root is the home of every issuer, with more links towards the root, 256 in all. Each class
-is an issuer's prefix or extends one; every node but the home has a route row and a stand-in row for each class. The same
-seed gives the same bytes."""
+is an issuer's prefix or extends one. There are two shapes:
+
+- 1.bundle, 4.bundle, 16.bundle: every node but the home has a route row and a stand-in row for each class;
+- many-1.bundle, many-4.bundle, many-16.bundle: many classes with a row at three nodes each, under issuers with a row at
+  six, and ranks at the nodes that need one. many-16-refused.bundle lacks a rank of its last class.
+
+The same seed gives the same bytes."""
 
 import random
 import sys
@@ -127,6 +132,62 @@ def make_bundle(size, seed):
     return tables + "%%\nRANKS 1\n" + "".join(lines) + "END\n"
 
 
+def route_row(node, prefix, chosen):
+    names = ", ".join(f'"{link_name(link)}"' for link in chosen)
+    return f'[[route]]\nnode = "{node_name(node)}"\nprefix = "{prefix}"\nlinks = [{names}]\n'
+
+
+def needed_ranks(prefix, rows, links, ranks):
+    """A rank for each node with a row in force, and for the other ends of its links."""
+    nodes = set(rows)
+    for chosen in rows.values():
+        nodes.update(links[link][1] for link in chosen)
+    return [f"{node_name(node)} {prefix} {ranks[node]}\n" for node in sorted(nodes)]
+
+
+def make_many(size, seed):
+    """The tables, and the lines of ranks of each class."""
+    rng = random.Random(seed)
+    links = make_links(rng)
+    ranks = make_ranks(links)
+    down = [[link for link, (frm, _) in enumerate(links) if frm == node] for node in range(NODES)]
+    head = heading(links)
+    classes = Classes(rng)
+    own_rows, issuers, routes, lines = {}, [], [], {}
+    used = len(head) + len("%%\nRANKS 1\nEND\n")
+    while True:
+        prefix = classes.next()
+        is_issuer = prefix in classes.issuers
+        nodes = rng.sample(range(1, NODES), 6 if is_issuer else 3)
+        own = {node: rng.sample(down[node], min(len(down[node]), rng.randrange(1, 3))) for node in nodes}
+        text = "".join(route_row(node, prefix, chosen) for node, chosen in own.items())
+        issuer = issuer_row(len(classes.issuers), prefix, "") if is_issuer else ""
+        begun = [prefix[:n] for n in range(1, len(prefix) + 1) if prefix[:n] in own_rows]
+        rows = {}
+        for front in begun:
+            rows.update(own_rows[front])
+        rows.update(own)
+        ranks_of = needed_ranks(prefix, rows, links, ranks)
+        used += len(issuer) + len(text) + sum(map(len, ranks_of))
+        if used > size - size // 50:
+            break
+        own_rows[prefix] = own
+        issuers.append(issuer)
+        routes.append(text)
+        lines[prefix] = (rows, ranks_of)
+    # A class that was made before a class that begins it: its rows in force are those of both, and it needs some more ranks.
+    for prefix in lines:
+        rows = {}
+        for n in range(1, len(prefix) + 1):
+            rows.update(own_rows.get(prefix[:n], {}))
+        lines[prefix] = needed_ranks(prefix, rows, links, ranks)
+    return "".join([head, *issuers, *routes]), lines
+
+
+def many_bundle(tables, lines):
+    return tables + "%%\nRANKS 1\n" + "".join("".join(ranks_of) for ranks_of in lines.values()) + "END\n"
+
+
 def main():
     folder = Path(sys.argv[1])
     seed = int(sys.argv[2]) if len(sys.argv) > 2 else 1
@@ -134,6 +195,11 @@ def main():
     for size in SIZES_MIB:
         bundle = make_bundle(size * 2**20, seed)
         (folder / f"{size}.bundle").write_text(bundle)
+        tables, lines = make_many(size * 2**20, seed)
+        (folder / f"many-{size}.bundle").write_text(many_bundle(tables, lines))
+    last = max(lines)
+    lines[last] = lines[last][:-1]
+    (folder / f"many-{size}-refused.bundle").write_text(many_bundle(tables, lines))
 
 
 if __name__ == "__main__":
