@@ -1,12 +1,9 @@
 -- The code of a message is its element 39.
 use Rattle.std.proofs.Common.{◌≡◌, ℕ, List, [], ◌∷◌, map, Option, Some, None, Bool, true, false, ◌||◌, ◌&&◌, cond, refl, ap}
-use Rattle.std.specs.Prelude.{bytes_eq}
-use Rattle.std.specs.Option.{option_copied}
 use Rattle.iso_message.specs.Fields.{Fields, get, el}
 use Rattle.iso_message.specs.Groups.{group}
-use Rattle.iso_message.specs.Keys.{when, has_key, key_of, has_identity, identity_of, identity_eq}
+use Rattle.iso_message.specs.Keys.{key_of, identity_of, identity_eq}
 use Rattle.iso_message.specs.declared.keys.AdviceId.{AdviceId}
-use Rattle.card_digits.specs.declared.key.Key.{Key}
 use Rattle.network_law.specs.Traces.{ReadOutput, Put, Answer, Ask, Post, PutPacket, is_advice_group, is_put_of}
 use Rattle.node_machine.specs.Books.{Stored, Advised, Granted}
 use Rattle.node_machine.specs.Machine.{marked}

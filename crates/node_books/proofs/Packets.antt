@@ -1,11 +1,7 @@
 -- A packet that goes out changes a link, and nothing else.
-use Rattle.std.proofs.Common.{◌≡◌, ℕ, List, [], ◌∷◌, map, refl, sym, ap}
-use Rattle.network_law.specs.declared.grant.Grant.{Grant}
+use Rattle.std.proofs.Common.{◌≡◌, ℕ, List, [], ◌∷◌, map, refl, sym}
 use Rattle.network_law.specs.declared.grant.GrantPacket.{GrantPacket}
-use Rattle.network_law.specs.declared.grant.GrantPacket.TheVariants as packets
 use Rattle.network_law.specs.Traces.{PutPacket}
-use Rattle.node_machine.specs.Books.{Stored}
-use Rattle.node_machine.specs.Machine.{marked}
 use Rattle.node_machine.specs.Lists.{Row, Lists, row_after, with_put, after_output}
 use Rattle.node_books.proofs.Codes.{marks_put}
 use Rattle.node_books.proofs.Unique.{or_none, or_false}

@@ -7,11 +7,11 @@ use Rattle.iso_message.specs.Fields.{Fields}
 use Rattle.iso_message.specs.Groups.{is_request, is_answer}
 use Rattle.iso_message.specs.Codes.{code_of, code_94}
 use Rattle.iso_message.specs.Keys.{key_of, key_eq}
-use Rattle.network_law.specs.Traces.{ReadOutput, Put, Answer, Ask, Post, PutPacket, sent, answers, forwards, asks}
+use Rattle.network_law.specs.Traces.{ReadOutput, Put, Answer, Ask, Post, PutPacket, answers, forwards}
 use Rattle.network_law.proofs.Emits.{key_eq_refl, key_eq_is}
 use Rattle.node_machine.specs.Lists.{Row, of_key, row_key, row_after}
 use Rattle.node_machine.proofs.Views.{found_after, found_more}
-use Rattle.node_books.specs.Values.{output_key, message_of, IsUnique, opened}
+use Rattle.node_books.specs.Values.{output_key, IsUnique, opened}
 
 pub key_flip : (a b : Key) → key_eq a b ≡ false → key_eq b a ≡ false
 key_flip a b e = go (key_eq b a) refl

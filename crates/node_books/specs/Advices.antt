@@ -2,9 +2,7 @@
 use Rattle.std.specs.Prelude.{ℕ, List, Bool, false, ◌||◌}
 use Rattle.iso_message.specs.declared.keys.AdviceId.{AdviceId}
 use Rattle.iso_message.specs.Keys.{identity_of, identity_eq}
-use Rattle.network_law.specs.declared.grant.Grant.{Grant}
 use Rattle.network_law.specs.declared.grant.GrantPacket.{GrantPacket}
-use Rattle.network_law.specs.declared.grant.GrantPacket.TheVariants as packets
 use Rattle.node_machine.specs.Machine.{packet_acks}
 use Rattle.node_machine.specs.Books.{Stored, Advised, Granted}
 use Rattle.node_books.specs.declared.advices.StoredCase.{StoredCase}

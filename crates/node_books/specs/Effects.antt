@@ -1,10 +1,7 @@
 -- What an entry does to the lists, one change after the other.
-use Rattle.std.specs.Prelude.{ℕ, suc, List, [], ◌∷◌, ◌++◌, reverse, filter, Bool, ◌&&◌, not, if◌then◌else◌}
-use Rattle.card_digits.specs.declared.key.Key.{Key}
-use Rattle.iso_message.specs.Fields.{Fields}
+use Rattle.std.specs.Prelude.{suc, List, [], ◌∷◌, ◌++◌, reverse, filter, ◌&&◌, not, if◌then◌else◌}
 use Rattle.iso_message.specs.Groups.{is_04xx}
-use Rattle.iso_message.specs.Keys.{key_of, identity_of, identity_eq}
-use Rattle.iso_message.specs.declared.keys.AdviceId.{AdviceId}
+use Rattle.iso_message.specs.Keys.{key_of, identity_of}
 use Rattle.network_law.specs.Traces.{ReadOutput, PutPacket}
 use Rattle.node_machine.specs.Books.{Advised, Granted}
 use Rattle.node_machine.specs.Lists as lists

@@ -1,13 +1,13 @@
 -- What contracts see of the books' rows.
-use Rattle.std.specs.Prelude.{◌≡◌, ◌≤◌, ◌<◌, ◌+◌, ◌^◌, ℕ, List, [], ◌∷◌, ◌++◌, Bool, true, false, ◌&&◌, ◌||◌, not, if◌then◌else◌, Option, Some, None, is_none, ⊤}
+use Rattle.std.specs.Prelude.{◌≡◌, ◌≤◌, ◌+◌, ◌^◌, ℕ, List, [], ◌∷◌, ◌++◌, Bool, true, ◌&&◌, not, if◌then◌else◌, Option, Some, None, is_none, ⊤}
 use Rattle.card_digits.specs.declared.key.Key.{Key}
 use Rattle.iso_message.specs.declared.kind.Kind.TheVariants.{K0100}
 use Rattle.iso_message.specs.Fields.{Fields}
 use Rattle.iso_message.specs.Groups.{is_request, is_answer, is_04xx}
 use Rattle.iso_message.specs.Keys.{key_of, key_eq, has_own_key}
 use Rattle.network_law.specs.Traces.{Source, Gate, ByLink, ReadOutput, Put, Answer, Ask, Post, PutPacket}
-use Rattle.node_machine.specs.Books.{Stored, Loan, Borrowed}
-use Rattle.node_machine.specs.Lists.{Row, Mark, Take, LinkState, Lists, of_key, row_key, leaves}
+use Rattle.node_machine.specs.Books.{Loan, Borrowed}
+use Rattle.node_machine.specs.Lists.{Row, Mark, Take, Lists, of_key, row_key, leaves}
 
 -- a source is the gate, or a link
 abbrev pub source_of : Option ℕ → Source

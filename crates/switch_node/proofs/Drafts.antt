@@ -1,11 +1,11 @@
 -- Changes one by one.
-use Rattle.std.proofs.Common.{◌≡◌, ℕ, suc, ◌+◌, ◌==◌, ◌<◌, ◌≤◌, zero, List, [], ◌∷◌, ◌++◌, map, filter, reverse, length, get_or, set, Bool, true, false, cond, refl, sym, ap, subst, ◌∙◌, inl, inr, arith, Result, Ok, Err, IfOk}
+use Rattle.std.proofs.Common.{◌≡◌, ℕ, suc, ◌==◌, ◌<◌, ◌≤◌, zero, List, [], ◌∷◌, ◌++◌, map, length, get_or, set, true, cond, refl, sym, ap, subst, ◌∙◌, inl, inr, arith, Result, Ok, Err, IfOk}
 use Rattle.iso_message.specs.Fields.{Fields}
 use Rattle.iso_message.specs.Spelling.{spelling}
 use Rattle.network_law.specs.Traces.{ReadOutput}
 use Rattle.network_law.specs.declared.grant.GrantPacket.{GrantPacket}
 use Rattle.network_law.specs.Grants.{packet_bytes}
-use Rattle.network_law.specs.Entries.{Output, spelled}
+use Rattle.network_law.specs.Entries.{spelled}
 use Rattle.node_machine.specs.Lists.{Lists, LinkState, Take, link_at, fresh, is_among}
 use Rattle.card_digits.specs.Numbers.{decimal}
 use Rattle.iso_message.specs.Fields.{el}

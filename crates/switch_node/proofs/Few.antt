@@ -1,8 +1,6 @@
 -- Digits that messages carry.
-use Rattle.std.proofs.Common.{◌≡◌, ℕ, ◌≤◌, List, [], length, Option, Some, None, true, refl, arith}
+use Rattle.std.proofs.Common.{◌≡◌, ℕ, List, [], Option, Some, None, refl, arith}
 use Rattle.std.specs.Prelude.{unwrap_or}
-use Rattle.std.specs.Char.{is_ascii_digit}
-use Rattle.std.specs.List.{list_all}
 use Rattle.iso_message.specs.Table.{table, form_of}
 use Rattle.iso_message.specs.Fields.{Fields, get, el}
 use Rattle.iso_message.specs.Spelling.{IsMessage}

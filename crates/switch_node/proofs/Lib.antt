@@ -9,3 +9,5 @@ pub mod Takings
 pub mod Requested
 pub mod Starts
 pub mod Coming
+pub mod Reading
+pub mod Sends

@@ -1,11 +1,9 @@
 -- Keys and identities of what a node makes of messages.
-use Rattle.std.proofs.Common.{◌≡◌, ℕ, ◌≤◌, List, Bool, true, false, cond, refl, sym, ap, subst, ◌∙◌, Option, Some, None, arith, length}
-use Rattle.std.specs.Prelude.{unwrap_or, ◌&&◌, is_some}
+use Rattle.std.proofs.Common.{◌≡◌, ℕ, ◌≤◌, List, Bool, true, false, cond, refl, sym, ap, ◌∙◌, Option, Some, None, length}
+use Rattle.std.specs.Prelude.{◌&&◌, is_some}
 use Rattle.card_digits.specs.declared.key.Key.{Key}
 use Rattle.card_digits.specs.Numbers.{pad11}
 use Rattle.iso_message.specs.Fields.{Fields, get, has, el, as_kind, set_element}
-use Rattle.iso_message.specs.Finding.{put}
-use Rattle.iso_message.specs.Table.{table, form_of}
 use Rattle.iso_message.specs.Spelling.{IsMessage}
 use Rattle.iso_message.specs.declared.kind.Kind.{Kind}
 use Rattle.iso_message.specs.declared.kind.Kind.TheVariants.{K0100, K0101, K0110, K0120, K0121, K0130, K0400, K0401, K0410, K0420, K0421, K0430}
@@ -14,7 +12,7 @@ use Rattle.iso_message.specs.declared.keys.AdviceKind.TheVariants.{Reversal, Sta
 use Rattle.iso_message.specs.Groups.{group, is_request, is_04xx, response_kind}
 use Rattle.iso_message.specs.declared.kind.Group.TheVariants as groups
 use Rattle.iso_message.specs.Keys.{key_of, own_key, original_key, part, identity_of, has_own_key, has_key, has_identity, when, padded_or_zeros}
-use Rattle.iso_message.specs.Made.{response, made_reversal, made_stand_in, made_from, kept, response_numbers, original_data}
+use Rattle.iso_message.specs.Made.{response, made_reversal, made_stand_in, made_from}
 use Rattle.iso_message.specs.Codes.{code_00, code_68}
 use Rattle.iso_message.proofs.KeyLemmas as keys
 use Rattle.iso_message.proofs.Changes.{get_set, get_set_same}

@@ -1,7 +1,6 @@
 -- A request that fails neither accepts a reversal nor lends.
-use Rattle.std.proofs.Common.{◌≡◌, ℕ, List, [], ◌∷◌, ◌++◌, map, filter, drop, length, Bool, true, false, cond, Option, Some, None, refl, sym, ap, subst, ◌∙◌, bytes_eq}
+use Rattle.std.proofs.Common.{ℕ, [], ◌∷◌, ◌++◌, Bool, true, false, cond, Option, Some, None, bytes_eq}
 use Rattle.std.proofs.lemmas.Bool.{cond_both}
-use Rattle.card_digits.specs.declared.key.Key.{Key}
 use Rattle.iso_message.specs.Fields.{Fields}
 use Rattle.iso_message.specs.Codes.{code_00}
 use Rattle.iso_message.specs.Keys.{key_of, identity_of}
@@ -12,7 +11,6 @@ use Rattle.network_law.specs.Tables.{node_id}
 use Rattle.network_law.specs.Traces.{Source, ReadOutput, Post, is_at_home}
 use Rattle.node_machine.specs.Books.{Request, Books, Advised}
 use Rattle.node_machine.specs.Machine as machine
-use Rattle.node_machine.specs.Lists as lists
 use Rattle.node_machine.specs.Lists.{Lists, view, is_among}
 use Rattle.node_machine.specs.Steps as steps
 use Rattle.node_machine.specs.Steps.{Progress}

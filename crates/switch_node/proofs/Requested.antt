@@ -1,14 +1,14 @@
 -- Requests, advices and reversals, case by case.
-use Rattle.std.proofs.Common.{◌≡◌, ℕ, ◌+◌, suc, List, Bool, true, false, cond, not, refl, sym, ap, subst, ◌∙◌, Option, Some, None, Result, Ok, Err, OnOk, find, inl, inr, arith}
+use Rattle.std.proofs.Common.{◌≡◌, ℕ, ◌+◌, suc, Bool, true, false, refl, sym, ap, ◌∙◌, Option, Some, None, find, inl, inr, arith}
 use Rattle.std.proofs.lemmas.Bool.{cases_Bool, ltb-true, ltb-false, lt-ltb, le-ltb}
-use Rattle.std.specs.Prelude.{is_none, is_some, ◌&&◌, nat_lt, bytes_eq}
+use Rattle.std.specs.Prelude.{is_none, is_some, ◌&&◌, nat_lt}
 use Rattle.std.specs.Option.{option_map, option_and_then}
 use Rattle.card_digits.specs.declared.key.Key.{Key}
 use Rattle.iso_message.specs.declared.kind.Kind.{Kind}
 use Rattle.iso_message.specs.declared.kind.Kind.TheVariants.{K0100, K0101, K0110, K0120, K0121, K0130, K0400, K0401, K0410, K0420, K0421, K0430}
 use Rattle.iso_message.specs.Groups.{group, is_answer}
 use Rattle.iso_message.specs.Fields.{Fields, as_kind, el}
-use Rattle.iso_message.specs.Codes.{code_00, code_68, code_92, code_94, code_96}
+use Rattle.iso_message.specs.Codes.{code_00, code_68, code_94, code_96}
 use Rattle.iso_message.specs.Keys.{key_of, identity_of, content, content_eq}
 use Rattle.iso_message.specs.Made.{response}
 use Rattle.net_rows.specs.Network.{Network, issuer}
@@ -22,7 +22,6 @@ use Rattle.node_machine.specs.Machine as machine
 use Rattle.node_machine.specs.Lists.{Lists, Row, of_key, row_answer, request_of, view}
 use Rattle.node_machine.specs.Steps as steps
 use Rattle.node_machine.specs.Steps.{Progress}
-use Rattle.switch_node.proofs.Parts.{on_ok}
 
 -- where a request goes
 

@@ -1,34 +1,26 @@
 -- What is read change by change is what the books are after the changes.
-use Rattle.std.proofs.Common.{◌≡◌, ℕ, suc, ◌+◌, ◌==◌, ◌<◌, ◌≤◌, zero, List, [], ◌∷◌, ◌++◌, map, filter, reverse, length, Bool, true, false, cond, ◌&&◌, ◌||◌, not, Option, Some, None, refl, sym, ap, subst, ◌∙◌, inl, inr, arith, bytes_eq}
-use Rattle.std.specs.Prelude.{is_some, is_none, min}
+use Rattle.std.proofs.Common.{◌≡◌, ℕ, List, [], ◌∷◌, ◌++◌, map, filter, Bool, true, false, cond, ◌&&◌, ◌||◌, not, Option, Some, None, refl, sym, ap, subst, ◌∙◌, inl, inr}
+use Rattle.std.specs.Prelude.{is_some}
 use Rattle.std.specs.Option.{option_or, option_map, option_and_then}
 use Rattle.std.specs.List.{list_any}
 use Rattle.std.proofs.lemmas.Bool.{cases_Bool}
-use Rattle.std.proofs.lemmas.List.{map-append}
 use Rattle.std.proofs.lemmas.List.Folds.{list_any-append}
-use mathlib.Core.List.{reverse-cons}
 use Rattle.card_digits.specs.declared.key.Key.{Key}
 use Rattle.iso_message.specs.declared.keys.AdviceId.{AdviceId}
-use Rattle.iso_message.specs.Groups.{is_04xx}
 use Rattle.iso_message.specs.Keys.{key_eq, key_of, identity_of, identity_eq}
 use Rattle.iso_message.proofs.Equality.{key_eq_is, identity_eq_is}
-use Rattle.net_rows.specs.Network.{Network}
-use Rattle.network_law.specs.declared.grant.Grant.{Grant}
 use Rattle.network_law.specs.declared.grant.GrantPacket.{GrantPacket}
-use Rattle.network_law.specs.declared.grant.GrantPacket.TheVariants as packets
-use Rattle.network_law.specs.Traces.{ReadOutput, PutPacket, forwards, is_put_of, added}
-use Rattle.node_machine.specs.Books.{Taken, Borrowed, Loan, Stored, Advised, Granted, Kept, borrowed_of}
-use Rattle.node_machine.specs.Machine as machine
-use Rattle.node_machine.specs.Machine.{was_put, is_number_of, marked, packet_borrowed, packet_acks}
-use Rattle.node_machine.specs.Lists as lists
-use Rattle.node_machine.specs.Lists.{Row, Take, Mark, Lists, of_key, row_key, row_link, row_after, row_has, is_among, forget, leaves, left_marks, left_mark, give_back_to, view, LinkState, link_at}
+use Rattle.network_law.specs.Traces.{ReadOutput, PutPacket, forwards, is_put_of}
+use Rattle.node_machine.specs.Books.{Stored, Advised, Granted}
+use Rattle.node_machine.specs.Machine.{was_put, marked, packet_acks}
+use Rattle.node_machine.specs.Lists.{Row, Lists, of_key, row_key, row_link, row_after, row_has, is_among}
 use Rattle.node_machine.proofs.Views.{found_after, found_more}
 use Rattle.node_books.specs.declared.effect.Effect.{Effect}
 use Rattle.node_books.specs.declared.effect.Effect.TheVariants as effects
 use Rattle.node_books.specs.Advices.{has_id, packet_acked}
-use Rattle.node_books.specs.Values.{opened, NewAdvice, leaves_of}
+use Rattle.node_books.specs.Values.{opened, NewAdvice}
 use Rattle.node_books.specs.Effects.{applied, applied_one, keep_in}
-use Rattle.switch_node.specs.SoFar.{Forwarding, forwarding, forward_step, forward_from, AdviceState, advice_state, advice_step, advice_from, count_step, count_from, approved_in, lent_in, number_step, number_from}
+use Rattle.switch_node.specs.SoFar.{Forwarding, forwarding, forward_step, forward_from, AdviceState, advice_state, advice_step, advice_from, count_step, count_from}
 
 -- requests
 

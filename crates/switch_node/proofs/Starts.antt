@@ -1,22 +1,18 @@
 -- Inputs that are done at once.
-use Rattle.std.proofs.Common.{◌≡◌, ℕ, ◌+◌, Option, List, [], ◌∷◌, filter, Ok, Some, None, is_none, true, false, not, Bool, suc, ◌++◌, subst, refl, ap, sym, ◌∙◌, arith}
-use Rattle.card_digits.specs.declared.key.Key.{Key}
-use Rattle.iso_message.specs.Codes.{code_05}
-use Rattle.iso_message.specs.Fields.{Fields}
-use Rattle.iso_message.specs.Made.{response}
+use Rattle.std.proofs.Common.{◌≡◌, ℕ, ◌+◌, List, [], ◌∷◌, filter, Some, None, true, false, not, length, Bool, cond, suc, ◌++◌, subst, refl, ap, sym, ◌∙◌, arith}
 use Rattle.network_law.specs.declared.fault.StepFault.{StepFault}
-use Rattle.network_law.specs.declared.fault.StepFault.TheVariants.{UnknownAsk}
-use Rattle.network_law.specs.Decision.{as_code}
 use Rattle.net_rows.specs.Network.{Network}
 use Rattle.network_law.specs.Entries as entries
 use Rattle.network_law.specs.Entries.{read_input}
 use Rattle.network_law.specs.Traces as messages
-use Rattle.std.specs.Option.{option_map}
-use Rattle.node_machine.specs.Books.{Request, Books, Stored, Advised, Granted}
+use Rattle.node_machine.specs.Books.{Stored, Advised, Granted}
 use Rattle.node_books.specs.declared.effect.Effect.TheVariants as effects
 use Rattle.node_machine.specs.Machine as machine
 use Rattle.node_machine.specs.Machine.{refuse}
-use Rattle.node_machine.specs.Lists.{Lists, Row, view, ask_at, of_key, request_of}
+use Rattle.node_machine.specs.Lists.{Lists, view, ask_at}
+use Rattle.network_law.specs.declared.grant.Grant.{Grant}
+use Rattle.network_law.specs.declared.grant.GrantPacket.{GrantPacket}
+use Rattle.node_books.specs.Advices.{packet_acked}
 use Rattle.node_machine.specs.Steps as steps
 use Rattle.node_books.specs.Effects.{Drafted, progress, with_effect}
 use Rattle.node_books.specs.declared.effect.Effect.{Effect}
@@ -111,3 +107,51 @@ does_host t n a c before after empty none e = record {
 pub faults_host : (t : Network) (n a : ℕ) (c : List ℕ) (x : Lists) (f : StepFault) → Some f ≡ refuse t n (view t n x) (messages.HostAnswer a c) → fault_in t n x (read_input (entries.HostAnswer a c)) ≡ Some f
 unfolding read_input
 faults_host t n a c x f e = sym e
+
+pub tick_quiet : (x : Lists) (d : Drafted) → d ≡ record { base = x; effects = effects.Ticked ∷ [] } → IsQuiet d.base (progress d).lists
+tick_quiet x d e = subst (λ (z : Drafted). IsQuiet z.base (progress z).lists) (sym e) (record { marks = refl; loans = refl; borrowed = refl })
+
+pub ticks : (t : Network) (n : ℕ) (x y : Lists) (d : Drafted) (p p' : steps.Progress) → d ≡ record { base = x; effects = effects.Ticked ∷ [] } → y ≡ x → p ≡ steps.send_all t n (machine.due t (view t n d.base)) (progress d) → p' ≡ steps.fail_all t n (view t n y) (machine.failing t (view t n y) messages.Tick) p → p' ≡ steps.step t n x messages.Tick
+unfolding steps.step
+ticks t n x y d p p' e ey f g =
+    g
+    ∙ (ap (λ (z : Lists). steps.fail_all t n (view t n z) (machine.failing t (view t n z) messages.Tick) p) ey
+    ∙ ap (λ z. steps.fail_all t n (view t n x) (machine.failing t (view t n x) messages.Tick) z)
+    (f
+    ∙ (ap (λ (z : Drafted). steps.send_all t n (machine.due t (view t n z.base)) (progress z)) e
+    ∙ ap (λ z. steps.send_all t n (machine.due t (view t n x)) z) (starts_tick t n x))))
+
+pub does_tick : (t : Network) (n : ℕ) (before after : Drafted) → progress after ≡ steps.step t n before.base messages.Tick → Does t n entries.Tick before after
+unfolding read_input refuse
+does_tick t n before after e = record { read = messages.Tick; reads = refl; accepted = refl; done = e }
+
+packet_store : (l s : ℕ) (p : GrantPacket) (xs : List Stored) → filter (λ a. not (packet_acked p a)) xs ≡ filter (λ a. not (machine.acks (messages.TakePacket l s p) a)) xs
+packet_store l s p [] = refl
+packet_store l s p (Advised a ∷ xs) = ap (λ z. Advised a ∷ z) (packet_store l s p xs)
+packet_store l s p (Granted g ∷ xs) = ap (λ z. cond (not (machine.packet_acks p g)) (Granted g ∷ z) z) (packet_store l s p xs)
+
+starts_packet : (t : Network) (n l s : ℕ) (p : GrantPacket) (x : Lists) → progress (record { base = x; effects = effects.PacketTaken p ∷ [] }) ≡ steps.start t n (messages.TakePacket l s p) x
+starts_packet t n l s p x = rw (packet_store l s p x.store, zero_plus x.count) refl
+
+pub packets_taken : (t : Network) (n l s : ℕ) (pk : GrantPacket) (x : Lists) (d : Drafted) (p : steps.Progress) → d ≡ record { base = x; effects = effects.PacketTaken pk ∷ [] } → p ≡ steps.on_packet t n l pk (progress d) → p ≡ steps.step t n x (messages.TakePacket l s pk)
+unfolding steps.step
+packets_taken t n l s pk x d p e f = f ∙ (ap (λ (z : Drafted). steps.on_packet t n l pk (progress z)) e ∙ ap (steps.on_packet t n l pk) (starts_packet t n l s pk x))
+
+starts_lend : (t : Network) (n m : ℕ) (card date : List ℕ) (amount : ℕ) (x : Lists) → progress (record { base = x; effects = effects.Lent (record { grant = machine.new_grant t n (suc (length x.loans)) m card date amount; borrower = m; count = x.count }) ∷ [] }) ≡ steps.start t n (messages.Lend m card date amount) x
+starts_lend t n m card date amount x = rw (zero_plus x.count) refl
+
+pub lends : (t : Network) (n m : ℕ) (card date : List ℕ) (amount : ℕ) (g : Grant) (x : Lists) (d : Drafted) (p : steps.Progress) → g ≡ machine.new_grant t n (suc (length x.loans)) m card date amount → d ≡ record { base = x; effects = effects.Lent (record { grant = g; borrower = m; count = x.count }) ∷ [] } → p ≡ steps.send_grant t n m g (progress d) → p ≡ steps.step t n x (messages.Lend m card date amount)
+unfolding steps.step
+lends t n m card date amount g x d p eg e f =
+    f
+    ∙ (ap (λ (z : Drafted). steps.send_grant t n m g (progress z)) e
+    ∙ (ap (λ (z : Grant). steps.send_grant t n m z (progress (record { base = x; effects = effects.Lent (record { grant = z; borrower = m; count = x.count }) ∷ [] }))) eg
+    ∙ ap (λ z. steps.send_grant t n m (machine.new_grant t n (suc (length x.loans)) m card date amount) z) (starts_lend t n m card date amount x)))
+
+pub does_lend : (t : Network) (n m : ℕ) (card date : List ℕ) (amount : ℕ) (before after : Drafted) → None ≡ refuse t n (view t n before.base) (messages.Lend m card date amount) → progress after ≡ steps.step t n before.base (messages.Lend m card date amount) → Does t n (entries.Lend m card date amount) before after
+unfolding read_input
+does_lend t n m card date amount before after none done = record { read = messages.Lend m card date amount; reads = refl; accepted = sym none; done = done }
+
+pub faults_lend : (t : Network) (n m : ℕ) (card date : List ℕ) (amount : ℕ) (x : Lists) (f : StepFault) → Some f ≡ refuse t n (view t n x) (messages.Lend m card date amount) → fault_in t n x (read_input (entries.Lend m card date amount)) ≡ Some f
+unfolding read_input
+faults_lend t n m card date amount x f e = sym e

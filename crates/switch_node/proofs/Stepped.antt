@@ -1,30 +1,26 @@
 -- One step of a node: the machine over lists joins the legal trace.
-use Rattle.std.proofs.Common.{◌≡◌, ℕ, ◌<◌, List, [], ◌∷◌, map, filter, reverse, length, Bool, true, false, cond, Option, Some, None, Result, Ok, Err, ◌⊎◌, inl, inr, refl, sym, ap, subst, ◌∙◌, arith, nat_le}
+use Rattle.std.proofs.Common.{◌≡◌, ℕ, ◌<◌, List, [], ◌∷◌, map, filter, reverse, length, Bool, true, false, Option, Some, None, Result, Ok, Err, inl, inr, refl, sym, ap, subst, ◌∙◌, arith, nat_le}
 use Rattle.std.proofs.lemmas.Bool.{cases_Bool}
 use Rattle.std.specs.List.{AllByRecursion, list_all}
 use Rattle.std.specs.Option.{option_map_or}
-use Rattle.card_digits.specs.Longest.{begins, better, deepest, longest}
+use Rattle.card_digits.specs.Longest.{begins, better, deepest}
 use Rattle.iso_message.specs.declared.fault.DecodeFault.{DecodeFault}
 use Rattle.iso_message.specs.Fields.{Fields}
 use Rattle.iso_message.specs.Messages.{read}
 use Rattle.net_rows.specs.Network.{Network, route, routes_of}
-use Rattle.net_rows.specs.Sound.{IsSound, is_end, AreOwnLinks}
+use Rattle.net_rows.specs.Sound.{IsSound, is_end}
 use Rattle.net_rows.specs.declared.row.Route.{Route}
 use Rattle.network_law.specs.declared.fault.StepFault.{StepFault}
 use Rattle.network_law.specs.declared.fault.StepFault.TheVariants.{HistoryFull}
-use Rattle.network_law.specs.declared.grant.Grant.{Grant}
 use Rattle.network_law.specs.declared.grant.GrantPacket.{GrantPacket}
-use Rattle.network_law.specs.declared.grant.GrantPacket.TheVariants as packets
 use Rattle.network_law.specs.Grants.{read_packet}
-use Rattle.network_law.specs.Tables.{route_links, is_link_of}
+use Rattle.network_law.specs.Tables.{route_links}
 use Rattle.network_law.specs.Checked.{IsChecked}
 use Rattle.network_law.specs.Traces.{ReadInput, LinkUp, IsIn}
 use Rattle.network_law.specs.Decision.{decide}
 use Rattle.network_law.specs.Refusals.{refusal}
 use Rattle.network_law.specs.Entries.{Input, Entry, read_input, read_as, packet_or, history, spelled, newest_outputs}
-use Rattle.network_law.specs.Runs.{IsLegal, IsStep, NamesOwnLink, IsTyped, step_refusal, step_outputs, fault_of}
-use Rattle.network_law.proofs.Emits.{in_filter}
-use Rattle.node_machine.specs.Books.{books_of}
+use Rattle.network_law.specs.Runs.{IsLegal, NamesOwnLink, IsTyped, step_refusal, step_outputs, fault_of}
 use Rattle.node_machine.specs.Machine.{refuse}
 use Rattle.node_machine.specs.Lists.{Lists, view, Fine, RoutesFit, InputFits}
 use Rattle.node_machine.specs.Steps as steps

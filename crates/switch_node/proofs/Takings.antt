@@ -1,13 +1,11 @@
 -- What is used after the changes.
-use Rattle.std.proofs.Common.{◌≡◌, ℕ, ◌+◌, List, [], ◌∷◌, ◌++◌, map, reverse, Bool, true, false, cond, refl, sym, ap, subst, ◌∙◌, inl, inr, arith}
-use Rattle.std.proofs.lemmas.Bool.{cases_Bool}
+use Rattle.std.proofs.Common.{◌≡◌, ℕ, ◌+◌, List, [], ◌∷◌, ◌++◌, map, reverse, Bool, true, false, refl, sym, ap, ◌∙◌, arith}
 use mathlib.Core.List.{reverse-cons}
 use Rattle.card_digits.specs.declared.key.Key.{Key}
 use Rattle.iso_message.specs.Groups.{is_04xx}
 use Rattle.iso_message.specs.Keys.{key_of, identity_of}
 use Rattle.net_rows.specs.Network.{Network}
 use Rattle.network_law.specs.Traces.{added}
-use Rattle.node_machine.specs.Books.{Taken}
 use Rattle.node_machine.specs.Machine as machine
 use Rattle.node_machine.specs.Lists as lists
 use Rattle.node_machine.specs.Lists.{Take, Mark, Lists, LeftAsMarked, forget, give_back_to, is_among, leaves, view}

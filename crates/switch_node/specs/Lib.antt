@@ -5,3 +5,4 @@ pub mod SoFar
 pub mod Used
 pub mod Failures
 pub mod Coming
+pub mod Sends

@@ -1,15 +1,11 @@
 -- Outputs as code hands them out.
-use Rattle.std.specs.Prelude.{ℕ, suc, ◌+◌, ◌==◌, List, [], ◌∷◌, map, Bool, if◌then◌else◌}
+use Rattle.std.specs.Prelude.{List, map}
 use Rattle.network_law.specs.Cards.{Bytes}
-use Rattle.network_law.specs.Traces as messages
 use Rattle.network_law.specs.Entries.{Output, Put, Answer, Ask, Post, spelled}
-use Rattle.node_machine.specs.Lists.{LinkState, Lists, link_at}
 use Rattle.node_books.specs.declared.output.Way.{Way}
 use Rattle.node_books.specs.declared.output.Way.TheVariants as ways
 use Rattle.node_books.specs.declared.effect.Effect.{Effect}
-use Rattle.node_books.specs.declared.effect.Effect.TheVariants as effects
-use Rattle.node_books.specs.Effects.{Drafted, sent_in}
-use Rattle.node_books.specs.Ways.{is_put}
+use Rattle.node_books.specs.Effects.{sent_in}
 
 abbrev pub put_out : Way → Bytes → Output
 put_out (ways.Put l s) bytes = Put l s bytes

@@ -1,15 +1,14 @@
 -- What the books are after the changes so far, read change by change.
-use Rattle.std.specs.Prelude.{ℕ, suc, ◌+◌, ◌==◌, List, [], ◌∷◌, ◌++◌, min, Bool, true, false, ◌&&◌, ◌||◌, not, if◌then◌else◌, Option, Some, None, is_some}
+use Rattle.std.specs.Prelude.{ℕ, suc, ◌==◌, List, [], ◌∷◌, Bool, true, false, ◌&&◌, ◌||◌, not, if◌then◌else◌, Option, is_some}
 use Rattle.std.specs.Option.{option_or, option_and_then}
 use Rattle.std.specs.List.{list_any}
 use Rattle.card_digits.specs.declared.key.Key.{Key}
 use Rattle.iso_message.specs.declared.keys.AdviceId.{AdviceId}
-use Rattle.iso_message.specs.Keys.{key_eq, key_of, identity_of, identity_eq}
+use Rattle.iso_message.specs.Keys.{key_eq, identity_of, identity_eq}
 use Rattle.network_law.specs.declared.grant.Grant.{Grant}
-use Rattle.network_law.specs.declared.grant.GrantPacket.{GrantPacket}
 use Rattle.network_law.specs.declared.grant.GrantPacket.TheVariants as packets
 use Rattle.network_law.specs.Traces.{forwards, is_put_of}
-use Rattle.node_machine.specs.Books.{Taken, Borrowed, Loan, borrowed_of}
+use Rattle.node_machine.specs.Books.{Taken, Loan, borrowed_of}
 use Rattle.node_machine.specs.Machine.{was_put, is_number_of}
 use Rattle.node_machine.specs.Lists.{Row, LinkState, Lists, of_key, row_key, row_link, is_among, forget}
 use Rattle.node_books.specs.declared.effect.Effect.{Effect}

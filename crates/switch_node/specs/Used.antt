@@ -1,5 +1,5 @@
 -- What is used after the changes so far.
-use Rattle.std.specs.Prelude.{◌≡◌, ℕ, List, [], ◌∷◌, ◌&&◌, if◌then◌else◌, bytes_eq}
+use Rattle.std.specs.Prelude.{◌≡◌, ℕ, List, ◌&&◌, if◌then◌else◌, bytes_eq}
 use Rattle.node_machine.specs.Books.{Taken}
 use Rattle.node_machine.specs.Lists.{Mark, Lists, left_marks}
 

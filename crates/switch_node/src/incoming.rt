@@ -1,12 +1,14 @@
 //! Messages that come to a node.
-ghost use Rattle.std.specs.Prelude.{◌≡◌, ◌++◌, [], IfOk, IfSome, OnOk, true, false};
+ghost use Rattle.std.specs.Prelude.{◌≡◌, ◌&&◌, ◌++◌, ℕ, bytes_eq, [], IfOk, IfSome, OnOk, true, false};
 ghost use Rattle.std.specs.Option.{option_and_then};
 ghost use Rattle.card_digits.specs.Digits.{AreDigits};
 ghost use Rattle.iso_message.specs.Groups.{group, is_request};
 ghost use Rattle.iso_message.specs.Keys.{key_of};
+ghost use Rattle.iso_message.specs.Codes.{code_00, code_of};
 ghost use Rattle.iso_message.specs.Made.{without_forwarder};
+ghost use Rattle.net_rows.specs.Network.{Network};
 ghost use Rattle.network_law.specs.Cards.{text_of};
-ghost use Rattle.network_law.specs.Traces.{ByLink, Enter, dated, is_advice_group, is_link};
+ghost use Rattle.network_law.specs.Traces.{ByLink, Enter, Take, is_ack, dated, is_advice_group, is_link};
 ghost use Rattle.node_machine.specs.Lists.{LeftAsMarked, of_key, row_link, view};
 ghost use Rattle.node_machine.specs.Steps.{on_advice, on_answer, on_group, on_request, on_reversal, step};
 ghost use Rattle.node_books.specs.Effects.{progress};
@@ -20,6 +22,7 @@ use iso_message::{Code, Group, Message, advice_id, code_of, key_of};
 use net_rows::Tables;
 use node_books::{Effect, Row, is_request};
 use std::alloc::AllocError;
+use step_rules::is_approval;
 
 /// The key of a request.
 #[tactic(auto, using(crate::proofs::Messages::request_key))]
@@ -39,6 +42,17 @@ fn push_digits(out: &mut Vec<u8>, digits: &[u8]) -> Result<(), AllocError>
         out.push(*digit + b'0')?;
     }
     Ok(())
+}
+
+/// Whether a message acknowledges an advice.
+fn is_acknowledgement(m: &Message) -> bool
+    ensures { result ≡ (is_ack (group m.now.kind) && bytes_eq (code_of m.now) code_00) }
+{
+    let ack = match m.kind().group() {
+        Group::Acknowledgement => true,
+        _ => false,
+    };
+    ack && is_approval(m)
 }
 
 impl Draft {
@@ -200,5 +214,38 @@ impl Draft {
         let handled = self.handled(m)?;
         self.open(&handled, None)?;
         self.on_message(tables, node, &handled, None)
+    }
+
+    /// What a message acknowledges leaves the store.
+    fn acknowledge(&mut self, m: &Message) -> Result<(), AllocError>
+        requires empty { self.old.effects ≡ [] }
+        requires ack { (is_ack (group m.now.kind) && bytes_eq (code_of m.now) code_00) ≡ true }
+        ensures base { self.new.base ≡ self.old.base }
+        ensures ok { OnOk result ((t : Network) (n : ℕ) (link : ℕ) (serial : ℕ) → progress self.new ≡ step t n self.old.base (Take link serial m.now)) }
+    {
+        let Some(id) = advice_id(m) else {
+            return Err(AllocError);
+        };
+        self.change(Effect::Acknowledged(id))
+    }
+
+    /// A message that comes by a link, with any serial.
+    pub(crate) fn take_message(
+        &mut self,
+        tables: &Tables,
+        node: NodeNo,
+        link: LinkNo,
+        m: &Message,
+    ) -> Result<(), AllocError>
+        requires empty { self.old.effects ≡ [] }
+        requires left { LeftAsMarked self.old.base.marks self.old.base.takes }
+        ensures base { self.new.base ≡ self.old.base }
+        ensures ok { OnOk result ((serial : ℕ) → progress self.new ≡ step tables.now node self.old.base (Take link serial m.now)) }
+    {
+        if is_acknowledgement(m) {
+            return self.acknowledge(m);
+        }
+        self.open(m, Some(link))?;
+        self.on_message(tables, node, m, Some(link))
     }
 }

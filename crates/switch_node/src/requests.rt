@@ -27,8 +27,8 @@ use iso_message::{Code, Kind, Message, same_content};
 use net_rows::Tables;
 use node_books::{Books, PreparedOutput, Row, Way};
 use std::alloc::AllocError;
-use step_refusals::PLACES;
-use step_rules::{has_good_card, is_home, issuer_of, route_links, same_source};
+use step_refusals::{PLACES, same_source};
+use step_rules::{has_good_card, is_home, issuer_of, route_links};
 
 /// A request as it is put on a link, or asked of the host.
 #[tactic(auto, using(crate::proofs::Messages::forward_key))]

@@ -78,7 +78,6 @@ impl Draft {
     }
 
     /// An advice goes out, where a link is up.
-    #[tactic(auto, using(crate::proofs::Messages::sent_identity, crate::proofs::Messages::sent_is_advice, crate::proofs::Messages::advice_key))]
     pub(crate) fn send(
         &mut self,
         tables: &Tables,
@@ -89,6 +88,22 @@ impl Draft {
         ensures ok { OnOk result (progress self.new ≡ send tables.now node advice.message (progress self.old)) }
     {
         let Advice { id, message } = advice;
+        self.send_message(tables, node, id, message)
+    }
+
+    /// The advice of this identity goes out, where a link is up.
+    #[tactic(auto, using(crate::proofs::Messages::sent_identity, crate::proofs::Messages::sent_is_advice, crate::proofs::Messages::advice_key))]
+    pub(crate) fn send_message(
+        &mut self,
+        tables: &Tables,
+        node: NodeNo,
+        id: AdviceId,
+        message: Message,
+    ) -> Result<(), AllocError>
+        requires { id ≡ identity_of message }
+        ensures base { self.new.base ≡ self.old.base }
+        ensures ok { OnOk result (progress self.new ≡ send tables.now node message (progress self.old)) }
+    {
         let Some(link) = self.own_way(tables, node, id.key, &message) else {
             return Ok(());
         };

@@ -1,9 +1,10 @@
 //! What ticks and links that go down do.
-ghost use Rattle.std.specs.Prelude.{◌≡◌, ◌≤◌, ◌<◌, ◌+◌, ◌==◌, ◌^◌, OnOk, length, drop};
+ghost use Rattle.std.specs.Prelude.{◌≡◌, ◌≤◌, ◌<◌, ◌+◌, ◌==◌, ◌^◌, OnOk, length, drop, suc};
 ghost use Rattle.network_law.specs.Traces.{LinkDown, Tick};
 ghost use Rattle.node_machine.specs.Lists.{LeftAsMarked, row_fails, view};
 ghost use Rattle.node_machine.specs.Machine.{due, failing, is_due};
-ghost use Rattle.node_machine.specs.Steps.{fail_all, send_all};
+ghost use Rattle.node_machine.specs.Steps.{fail_all, send_all, send_grant};
+ghost use Rattle.switch_node.specs.Sends.{head_due, send_next};
 ghost use Rattle.node_books.specs.Effects.{progress};
 ghost use Rattle.switch_node.specs.Used.{IsQuiet};
 ghost use Rattle.switch_node.specs.Failures.{cause_of, fail_next, head_key};
@@ -12,9 +13,10 @@ ghost use Rattle.node_books.specs.Values.{IsUnique};
 use crate::draft::Draft;
 use card_digits::{Key, LinkNo, NodeNo};
 use net_rows::Tables;
+use network_law::{Grant, GrantPacket};
 use node_books::{Row, StoredCase, StoredItem};
 use std::alloc::AllocError;
-use step_rules::{is_due_again, ticks_by};
+use step_rules::{first_up_between, is_due_again, ticks_by};
 
 /// What makes pending requests fail.
 #[derive(Drop)]
@@ -122,5 +124,70 @@ impl Draft {
         ensures unique { IsUnique self.now.base.rows }
     {
         self.books.rows().len()
+    }
+
+    /// A grant goes out on the first link in the order of the tables that joins the two nodes and is up.
+    pub(crate) fn send_grant(
+        &mut self,
+        tables: &Tables,
+        node: NodeNo,
+        borrower: NodeNo,
+        grant: Grant,
+    ) -> Result<(), AllocError>
+        ensures base { self.new.base ≡ self.old.base }
+        ensures ok { OnOk result (progress self.new ≡ send_grant tables.now node borrower grant (progress self.old)) }
+    {
+        match first_up_between(self, tables, node, borrower) {
+            Some(link) => {
+                let serial = self.next_serial(link);
+                self.emit_packet(link, serial, GrantPacket::Grant(grant))
+            }
+            None => Ok(()),
+        }
+    }
+
+    /// What is stored at this place is sent again, if it is due.
+    #[tactic(auto, using(crate::proofs::Sends::item_not_due, crate::proofs::Sends::item_due))]
+    fn send_at(&mut self, tables: &Tables, node: NodeNo, place: usize) -> Result<(), AllocError>
+        requires { place < length self.old.base.store }
+        ensures base { self.new.base ≡ self.old.base }
+        ensures ok { OnOk result (progress self.new ≡ send_next tables.now node (head_due (is_due tables.now.settings.advice_ticks (suc self.old.base.count)) (drop place self.old.base.store)) (progress self.old)) }
+    {
+        let now = self.books.count() + 1;
+        let item = &self.books.stored()[place];
+        if !is_due(tables.settings().advice_ticks, now, item) {
+            return Ok(());
+        }
+        match item.case() {
+            StoredCase::Advice(advice) => {
+                let id = advice.id();
+                let message = advice.message().copy()?;
+                self.send_message(tables, node, id, message)
+            }
+            StoredCase::Grant(grant) => {
+                let borrower = grant.borrower();
+                let lent = grant.grant();
+                self.send_grant(tables, node, borrower, lent)
+            }
+        }
+    }
+
+    fn stored_count(&self) -> usize
+        ensures { result ≡ length self.now.base.store }
+    {
+        self.books.stored().len()
+    }
+
+    /// What is stored and due is sent again, in the order in which it was stored.
+    pub(crate) fn send_all(&mut self, tables: &Tables, node: NodeNo) -> Result<(), AllocError>
+        requires { IsQuiet self.old.base (progress self.old).lists }
+        ensures base { self.new.base ≡ self.old.base }
+        ensures quiet { OnOk result (IsQuiet self.old.base (progress self.new).lists) }
+        ensures ok { OnOk result (progress self.new ≡ send_all tables.now node (due tables.now (view tables.now node self.old.base)) (progress self.old)) }
+    {
+        for place in 0..self.stored_count() {
+            self.send_at(tables, node, place)?;
+        }
+        Ok(())
     }
 }

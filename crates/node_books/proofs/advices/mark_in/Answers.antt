@@ -1,4 +1,3 @@
-use Rattle.std.proofs.Common.{◌≡◌}
 use Rattle.node_books.proofs.Mapped.{set_mapped}
 use Rattle.node_books.specs.Advices.{marked_by}
 use Rattle.node_books.proofs.advices.mark_in.Goals as goal

@@ -1,5 +1,5 @@
-use Rattle.std.proofs.Common.{◌≡◌, ◌<◌, ℕ, ◌^◌}
-use Rattle.node_machine.specs.Lists.{LinkState, link_at}
+use Rattle.std.proofs.Common.{◌<◌, ℕ, ◌^◌}
+use Rattle.node_machine.specs.Lists.{link_at}
 use Rattle.node_books.proofs.links.is_far.Given as goal
 
 abbrev pub invariant-loop-state : goal.invariant-loop-state

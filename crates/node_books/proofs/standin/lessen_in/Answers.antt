@@ -1,4 +1,3 @@
-use Rattle.std.proofs.Common.{◌≡◌, ℕ, ◌+◌, ◌<◌, List, ◌++◌, map, take, drop, length, get_or, set, arith}
 use Rattle.node_books.proofs.Mapped.{set_mapped}
 use Rattle.node_books.specs.Approvals.{lessened}
 use Rattle.node_books.proofs.standin.lessen_in.Goals as goal

@@ -1,6 +1,5 @@
-use Rattle.std.proofs.Common.{◌≡◌, filter, not, refl, rules}
+use Rattle.std.proofs.Common.{not, refl, rules}
 use Rattle.std.proofs.lemmas.Fn.{filter_same}
-use Rattle.iso_message.specs.Keys.{identity_of, identity_eq}
 use Rattle.node_books.specs.Advices.{has_id}
 use Rattle.node_machine.specs.Books.{Stored}
 use Rattle.node_books.proofs.advices.AdviceStore.ack.Goals as goal

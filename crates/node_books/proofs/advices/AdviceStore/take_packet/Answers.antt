@@ -1,4 +1,4 @@
-use Rattle.std.proofs.Common.{◌≡◌, filter, not, refl, rules}
+use Rattle.std.proofs.Common.{not, refl, rules}
 use Rattle.std.proofs.lemmas.Fn.{filter_same}
 use Rattle.node_books.specs.Advices.{packet_acked}
 use Rattle.node_machine.specs.Books.{Stored}

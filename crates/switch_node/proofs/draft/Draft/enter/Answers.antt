@@ -1,4 +1,3 @@
-use Rattle.std.proofs.Common.{◌≡◌, ap, sym, ◌∙◌}
 use Rattle.network_law.specs.Traces.{Gate}
 use Rattle.node_books.specs.Effects.{progress}
 use Rattle.switch_node.proofs.Parts.{on_ok}

@@ -1,6 +1,5 @@
-use Rattle.std.proofs.Common.{◌≡◌, ℕ, ap, ◌∙◌, Some}
-use Rattle.node_machine.specs.Lists.{of_key, view, request_of}
-use Rattle.node_machine.specs.Steps as steps
+use Rattle.std.proofs.Common.{ap, ◌∙◌}
+use Rattle.node_machine.specs.Lists.{of_key}
 use Rattle.node_books.specs.Effects.{Drafted, progress}
 use Rattle.node_books.specs.Values.{source_of}
 use Rattle.switch_node.proofs.Parts.{fail_with}

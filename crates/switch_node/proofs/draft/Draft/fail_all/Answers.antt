@@ -1,11 +1,7 @@
-use Rattle.std.proofs.Common.{◌≡◌, ◌<◌, ◌≤◌, ℕ, suc, ◌+◌, length, map, filter, drop, ap, ◌∙◌, sym, subst, arith, add-one}
-use Rattle.node_machine.specs.Lists.{Lists, row_key, row_fails, view, rows_failing}
-use Rattle.node_machine.specs.Steps as steps
-use Rattle.node_machine.proofs.Readings.{failing_is}
+use Rattle.std.proofs.Common.{◌<◌, ◌≤◌, length, drop, ◌∙◌, arith}
+use Rattle.node_machine.specs.Lists.{row_fails, view}
 use Rattle.node_books.specs.Effects.{progress}
-use Rattle.node_books.proofs.Loads.{one_row}
 use Rattle.switch_node.specs.Failures.{cause_of, head_key}
-use Rattle.switch_node.specs.Used.{IsQuiet}
 use Rattle.switch_node.proofs.Parts.{failed_all, failed_more, next_at, still_quiet}
 use Rattle.switch_node.proofs.draft.Draft.fail_all.Goals as goal
 

@@ -1,4 +1,4 @@
-use Rattle.std.proofs.Common.{◌≡◌, ap, ◌∙◌, sym, true}
+use Rattle.std.proofs.Common.{◌≡◌, ap, ◌∙◌, true}
 use Rattle.iso_message.specs.Fields.{Fields}
 use Rattle.iso_message.specs.Made.{made_reversal}
 use Rattle.network_law.specs.Tables.{node_id}

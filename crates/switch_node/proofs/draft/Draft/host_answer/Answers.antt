@@ -1,4 +1,4 @@
-use Rattle.std.proofs.Common.{◌≡◌, inr}
+use Rattle.std.proofs.Common.{inr}
 use Rattle.switch_node.proofs.Starts.{faults_host}
 use Rattle.switch_node.proofs.draft.Draft.host_answer.Goals as goal
 

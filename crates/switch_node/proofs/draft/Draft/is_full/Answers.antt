@@ -1,4 +1,3 @@
-use Rattle.std.proofs.Common.{◌≡◌, ◌+◌}
 use Rattle.switch_node.proofs.Requested.{two_more}
 use Rattle.switch_node.proofs.draft.Draft.is_full.Goals as goal
 

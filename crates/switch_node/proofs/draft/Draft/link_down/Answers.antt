@@ -1,5 +1,5 @@
-use Rattle.std.proofs.Common.{◌≡◌, refl, false, [], ◌∷◌}
-use Rattle.node_books.specs.Effects.{Drafted, progress}
+use Rattle.std.proofs.Common.{refl, false}
+use Rattle.node_books.specs.Effects.{progress}
 use Rattle.node_books.specs.declared.effect.Effect.TheVariants as effects
 use Rattle.switch_node.proofs.Parts.{on_ok}
 use Rattle.switch_node.proofs.Starts.{changed, down_quiet, downs}

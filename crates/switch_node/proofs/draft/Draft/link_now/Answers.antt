@@ -1,4 +1,4 @@
-use Rattle.std.proofs.Common.{◌≡◌, ◌<◌, length, get_or, refl, ap, sym, ◌∙◌, arith}
+use Rattle.std.proofs.Common.{◌≡◌, ◌<◌, length, get_or, refl, ap, ◌∙◌, arith}
 use Rattle.switch_node.proofs.Drafts.{link_found}
 use Rattle.switch_node.proofs.draft.Draft.link_now.Goals as goal
 

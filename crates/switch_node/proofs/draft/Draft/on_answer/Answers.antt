@@ -1,7 +1,5 @@
 use Rattle.std.proofs.Common.{◌≡◌, ap, sym, ◌∙◌, true, rules}
 use Rattle.std.specs.Option.{option_and_then}
-use Rattle.iso_message.specs.Keys.{key_of}
-use Rattle.iso_message.specs.Codes.{code_of}
 use Rattle.network_law.specs.Traces.{is_link}
 use Rattle.node_machine.specs.Lists.{view, of_key, row_link}
 use Rattle.node_machine.specs.Steps as steps

@@ -1,4 +1,4 @@
-use Rattle.std.proofs.Common.{◌≡◌, ap, sym, ◌∙◌}
+use Rattle.std.proofs.Common.{ap, sym, ◌∙◌}
 use Rattle.node_machine.specs.Lists.{of_key}
 use Rattle.node_books.specs.Effects.{Drafted, progress}
 use Rattle.node_books.specs.Values.{source_of}

@@ -1,15 +1,11 @@
 use Rattle.std.proofs.Common.{◌≡◌, ap, sym, ◌∙◌, true, false, rules}
 use Rattle.std.specs.Prelude.{is_some}
-use Rattle.card_digits.specs.declared.key.Key.{Key}
 use Rattle.iso_message.specs.Fields.{el}
-use Rattle.iso_message.specs.Codes.{code_68}
-use Rattle.iso_message.specs.Keys.{key_of, identity_of}
+use Rattle.iso_message.specs.Keys.{identity_of}
 use Rattle.net_rows.specs.Network.{issuer}
 use Rattle.network_law.specs.Cards.{is_good_card, card_of}
 use Rattle.node_machine.specs.Machine as machine
-use Rattle.node_machine.specs.Lists.{Lists, view, is_among}
-use Rattle.node_machine.specs.Steps as steps
-use Rattle.node_machine.specs.Steps.{Progress}
+use Rattle.node_machine.specs.Lists.{view, is_among}
 use Rattle.node_books.specs.Effects.{Drafted, progress}
 use Rattle.node_books.specs.Values.{source_of}
 use Rattle.step_refusals.specs.Keyed.{request_at}

@@ -1,4 +1,4 @@
-use Rattle.std.proofs.Common.{◌≡◌, false}
+use Rattle.std.proofs.Common.{false}
 use Rattle.switch_node.proofs.Parts.{on_ok, stored_is}
 use Rattle.switch_node.proofs.draft.Draft.store_accepted.Goals as goal
 

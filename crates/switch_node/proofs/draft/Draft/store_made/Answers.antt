@@ -1,4 +1,4 @@
-use Rattle.std.proofs.Common.{◌≡◌, true}
+use Rattle.std.proofs.Common.{true}
 use Rattle.switch_node.proofs.Parts.{on_ok, stored_is}
 use Rattle.switch_node.proofs.draft.Draft.store_made.Goals as goal
 

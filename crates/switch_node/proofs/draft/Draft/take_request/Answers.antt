@@ -1,5 +1,4 @@
-use Rattle.std.proofs.Common.{◌≡◌, ◌+◌, ap, sym, ◌∙◌, true, false}
-use Rattle.std.specs.Prelude.{nat_lt}
+use Rattle.std.proofs.Common.{ap, sym, ◌∙◌}
 use Rattle.iso_message.specs.Made.{response}
 use Rattle.node_machine.specs.Lists.{view}
 use Rattle.node_machine.specs.Steps as steps

@@ -1,4 +1,3 @@
-use Rattle.std.proofs.Common.{◌≡◌, refl}
 use Rattle.switch_node.proofs.Takings.{used_after}
 use Rattle.switch_node.proofs.draft.Draft.used_now.Goals as goal
 

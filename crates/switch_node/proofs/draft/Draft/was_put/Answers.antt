@@ -1,4 +1,4 @@
-use Rattle.std.proofs.Common.{◌≡◌, ap, ◌∙◌}
+use Rattle.std.proofs.Common.{ap, ◌∙◌}
 use Rattle.switch_node.specs.SoFar.{AdviceState}
 use Rattle.switch_node.proofs.SoFar.{advice_are}
 use Rattle.switch_node.proofs.draft.Draft.was_put.Goals as goal

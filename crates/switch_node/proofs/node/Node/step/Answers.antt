@@ -1,9 +1,9 @@
-use Rattle.std.proofs.Common.{◌≡◌, ℕ, ◌<◌, ◌≤◌, List, [], ◌∷◌, ◌++◌, length, map, reverse, Bool, true, false, nat_le, inl, inr, refl, sym, ap, subst, ◌∙◌, arith}
+use Rattle.std.proofs.Common.{◌≡◌, ◌<◌, ◌≤◌, List, [], ◌∷◌, length, map, reverse, true, false, nat_le, inl, inr, refl, sym, ap, ◌∙◌, arith}
 use Rattle.std.proofs.lemmas.Bool.{cases_Bool, leb-true, leb-false}
 use Rattle.std.proofs.lemmas.List.{reverse-append, reverse-reverse, length-reverse}
 use Rattle.network_law.specs.Entries.{Entry, spelled}
 use Rattle.node_books.specs.Effects.{progress, sent_in}
-use Rattle.switch_node.specs.Node.{Does, Given, IsNode}
+use Rattle.switch_node.specs.Node.{Does}
 use Rattle.switch_node.proofs.Stepped.{Stepped, stepped, faulted, full}
 use Rattle.switch_node.proofs.node.Node.step.Goals as goal
 

@@ -1,0 +1,6 @@
+use Rattle.std.proofs.Common.{inr}
+use Rattle.switch_node.proofs.Reading.{faults_enter}
+use Rattle.switch_node.proofs.draft.Draft.enter_bytes.Goals as goal
+
+pub returns-in-Some-clause-fault : goal.returns-in-Some-clause-fault
+returns-in-Some-clause-fault c = inr (rw (← c.self.view_is) (faults_enter c.args.tables.now c.args.node c.self.inside.books.lists c.args.bytes.now c.in-Ok.m c.in-Some.fault c.in-Ok.ensures.exact c.in-Some.ensures))

@@ -1,0 +1,20 @@
+use Rattle.std.proofs.Common.{ap, ◌∙◌, inr}
+use Rattle.network_law.specs.Traces.{Take}
+use Rattle.node_machine.specs.Machine.{refuse}
+use Rattle.node_machine.specs.Lists.{view}
+use Rattle.node_books.specs.Effects.{Drafted}
+use Rattle.switch_node.proofs.Reading.{does_take, faults_take}
+use Rattle.switch_node.proofs.draft.Draft.take_text.Goals as goal
+
+pub returns-in-Some-clause-fault : goal.returns-in-Some-clause-fault
+returns-in-Some-clause-fault c =
+    let packet = c.requires.packet in
+    inr (rw (← c.self.view_is) (faults_take c.args.tables.now c.args.node c.self.inside.books.lists c.args.link c.args.serial c.args.bytes.now c.in-Ok.m c.in-Some.fault packet c.in-Ok.ensures.exact (c.in-Some.ensures c.args.serial)))
+
+pub returns-in-Ok-take_message-clause-ok : goal.returns-in-Ok-take_message-clause-ok
+returns-in-Ok-take_message-clause-ok c =
+    let t = c.args.tables.now in
+    let n = c.args.node in
+    let packet = c.requires.packet in
+    let accepted = c.in_default.ensures c.args.serial ∙ ap (λ (d : Drafted). refuse t n (view t n d.base) (Take c.args.link c.args.serial c.in-Ok.m)) c.self.view_is in
+    does_take t n c.args.link c.args.serial c.args.bytes.now c.in-Ok.m c.args.self.now c.take_message.new.self packet c.in-Ok.ensures.exact accepted (c.in-Ok-take_message.ensures.ok c.args.serial)
