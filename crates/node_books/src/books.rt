@@ -14,6 +14,8 @@ ghost use Rattle.network_law.specs.Traces.{PutPacket};
 ghost use Rattle.std.specs.List.{list_any};
 ghost use Rattle.node_machine.specs.Machine.{was_put};
 ghost use Rattle.node_books.specs.Advices.{has_id};
+ghost use Rattle.std.specs.Prelude.{vec_len, vec_capacity};
+ghost use Rattle.node_books.specs.Ways.{asks_by, after_way};
 
 use crate::advices::{AdviceStore, KeptAdvice, KeptGrant, StoredItem};
 use crate::effect::{Effect, NewAdvice};
@@ -64,9 +66,6 @@ fn ask_in(asks: &mut Vec<Key>, way: Way, key: Key)
         asks.push_reserved(key);
     }
 }
-
-ghost use Rattle.std.specs.Prelude.{vec_len, vec_capacity};
-ghost use Rattle.node_books.specs.Ways.{asks_by, after_way};
 
 impl Books {
     /// The books of a new node with so many links.

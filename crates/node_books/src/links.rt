@@ -1,7 +1,10 @@
 //! The links of a node.
 ghost use Rattle.std.specs.Prelude.{◌≡◌, ◌+◌, ◌-◌, ◌<◌, ◌≤◌, ◌^◌, suc, [], ◌∷◌, ◌++◌, true, replicate, IsTrue, OnOk, IfOk, OnErr, length};
 ghost use Rattle.node_machine.specs.Lists.{link_at, with_up, with_put, fresh};
+ghost use Rattle.node_books.specs.Links.{IsFar};
+ghost use Rattle.node_books.specs.Ways.{links_by};
 
+use crate::output::Way;
 use card_digits::LinkNo;
 use std::alloc::{AllocError, Global};
 use std::marker::Model;
@@ -111,11 +114,6 @@ fn is_far(links: &[LinkState], n: usize) -> bool
     }
     true
 }
-
-ghost use Rattle.node_books.specs.Links.{IsFar};
-ghost use Rattle.node_books.specs.Ways.{links_by};
-
-use crate::output::Way;
 
 impl Links {
     /// Links that are up, and on which nothing was put.

@@ -5,6 +5,7 @@ ghost use Rattle.iso_message.specs.Groups.{is_request, is_answer, group};
 ghost use Rattle.iso_message.specs.Keys.{key_of, key_eq, identity_of, identity_eq};
 ghost use Rattle.network_law.specs.Traces.{Put, Answer, Ask, Post, is_advice_group, is_put_of, forwards};
 ghost use Rattle.node_books.specs.Values.{output_key};
+ghost use Rattle.node_books.specs.Values.{message_of};
 
 use crate::advices::same_identity;
 use card_digits::{Key, LinkNo};
@@ -144,8 +145,6 @@ impl PreparedOutput {
         }
     }
 }
-
-ghost use Rattle.node_books.specs.Values.{message_of};
 
 /// Whether messages of the group are advices.
 pub fn is_advice(group: Group) -> bool

@@ -5,6 +5,7 @@ ghost use Rattle.iso_message.specs.Keys.{key_of, key_eq, has_own_key};
 ghost use Rattle.iso_message.specs.Groups.{is_request, is_answer};
 ghost use Rattle.node_machine.specs.Lists.{row_after};
 ghost use Rattle.node_books.specs.Values.{source_of, output_key, IsKeyOf, IsAnswerOf};
+ghost use Rattle.std.specs.Prelude.{false};
 
 use crate::output::{PreparedOutput, Way, has_code, is_answer, is_request};
 use card_digits::{Key, LinkNo};
@@ -141,5 +142,3 @@ impl Row {
         }
     }
 }
-
-ghost use Rattle.std.specs.Prelude.{false};

@@ -13,6 +13,12 @@ put_out ways.Answer bytes = Answer bytes
 put_out (ways.Ask a) bytes = Ask a bytes
 put_out ways.Post bytes = Post bytes
 
+abbrev pub bytes_of : Output → Bytes
+bytes_of (Put l s bytes) = bytes
+bytes_of (Answer bytes) = bytes
+bytes_of (Ask a bytes) = bytes
+bytes_of (Post bytes) = bytes
+
 -- the outputs of what was done, spelled
 abbrev pub spelled_in : List Effect → List Output
 spelled_in es = map spelled (sent_in es)

@@ -4,6 +4,7 @@ ghost use Rattle.network_law.specs.Checked.{IsChecked};
 ghost use Rattle.network_law.specs.Tables.{is_link_of};
 ghost use Rattle.network_law.specs.Runs.{IsLegal, NamesOwnLink, IsTyped, step_refusal, step_outputs};
 ghost use Rattle.network_law.specs.declared.fault.StepFault.TheVariants.{Memory};
+ghost use Rattle.std.specs.Prelude.{reverse};
 
 use crate::draft::Draft;
 use crate::input::Input;
@@ -104,5 +105,3 @@ impl<'a> Node<'a> {
         Ok(())
     }
 }
-
-ghost use Rattle.std.specs.Prelude.{reverse};

@@ -20,6 +20,7 @@ ghost use Rattle.std.specs.Prelude.{false};
 ghost use Rattle.node_books.specs.Effects.{progress};
 ghost use Rattle.node_books.specs.Values.{IsAnswerOf, IsKeyOf, source_of};
 ghost use Rattle.switch_node.specs.Used.{IsQuiet};
+ghost use Rattle.node_machine.specs.Lists.{link_at};
 
 use crate::draft::Draft;
 use card_digits::{Key, LinkNo, NodeNo};
@@ -52,8 +53,6 @@ fn was_up(books: &Books, link: LinkNo) -> bool
         None => true,
     }
 }
-
-ghost use Rattle.node_machine.specs.Lists.{link_at};
 
 /// The first of these links that was up before the entry.
 fn first_up(books: &Books, links: &[LinkNo]) -> Option<LinkNo>

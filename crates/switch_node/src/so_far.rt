@@ -7,6 +7,7 @@ ghost use Rattle.node_machine.specs.Lists.{link_at, of_key, row_link, view};
 ghost use Rattle.node_machine.specs.Machine.{put_before, own_way};
 ghost use Rattle.node_books.specs.Effects.{progress, applied};
 ghost use Rattle.switch_node.specs.SoFar.{link_from, forward_from, forwarding, advice_from, advice_state, count_from};
+ghost use Rattle.iso_message.specs.Groups.{is_reversal};
 
 use crate::draft::Draft;
 use card_digits::{Key, LinkNo, NodeNo};
@@ -136,8 +137,6 @@ fn is_reversal(kind: Kind) -> bool
         _ => false,
     }
 }
-
-ghost use Rattle.iso_message.specs.Groups.{is_reversal};
 
 impl Draft {
     /// A link as it is now: whether it is up, and its last serial.
