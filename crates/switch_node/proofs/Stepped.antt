@@ -15,7 +15,7 @@ use Rattle.network_law.specs.declared.fault.StepFault.TheVariants.{HistoryFull}
 use Rattle.network_law.specs.declared.grant.GrantPacket.{GrantPacket}
 use Rattle.network_law.specs.Grants.{read_packet}
 use Rattle.network_law.specs.Tables.{route_links}
-use Rattle.network_law.specs.Checked.{IsChecked}
+use Rattle.network_law.specs.Checked.{IsChecked, IsBounded}
 use Rattle.network_law.specs.Traces.{ReadInput, LinkUp, IsIn}
 use Rattle.network_law.specs.Decision.{decide}
 use Rattle.network_law.specs.Refusals.{refusal}
@@ -183,6 +183,7 @@ module _ (t : Network) (n : ℕ) (trace : List Entry) (x : Lists) (e : Entry) (i
   stepped = record {
     given = record {
       checked = Given.checked g;
+      bounded = Given.bounded g;
       node = Given.node g;
       legal = legal_more;
       are = subst (AreOf t n (length t.links) (e ∷ trace)) (sym lists_same) (next_are_of t (Given.checked g) n (length t.links) e trace i x (Given.node g) legal_more reads d);
@@ -192,5 +193,5 @@ module _ (t : Network) (n : ℕ) (trace : List Entry) (x : Lists) (e : Entry) (i
   }
 
 -- a node to which nothing came yet
-pub new_node : (t : Network) (n : ℕ) (d : Rattle.node_books.specs.Effects.Drafted) → IsChecked t → n < length t.nodes → d ≡ record { base = Rattle.node_machine.specs.Lists.empty t (length t.links); effects = [] } → Rattle.switch_node.specs.Node.IsNode t n [] d
-new_node t n d checked less e = rw e (record { given = record { checked = checked; node = less; legal = tt; are = lists_begin t n (length t.links) }; empty = refl })
+pub new_node : (t : Network) (n : ℕ) (d : Rattle.node_books.specs.Effects.Drafted) → IsChecked t → IsBounded t → n < length t.nodes → d ≡ record { base = Rattle.node_machine.specs.Lists.empty t (length t.links); effects = [] } → Rattle.switch_node.specs.Node.IsNode t n [] d
+new_node t n d checked bounded less e = rw e (record { given = record { checked = checked; bounded = bounded; node = less; legal = tt; are = lists_begin t n (length t.links) }; empty = refl })

@@ -1,6 +1,7 @@
 //! One node.
 ghost use Rattle.std.specs.Prelude.{◌≡◌, ◌⊎◌, ◌<◌, ◌≤◌, [], ◌∷◌, length, OnOk, OnErr, IfErr, IfOk, Some, None};
-ghost use Rattle.network_law.specs.Checked.{IsChecked};
+ghost use Rattle.network_law.specs.Claims.{IsWithinLimits};
+ghost use Rattle.network_law.specs.Entries.{history};
 ghost use Rattle.network_law.specs.Tables.{is_link_of};
 ghost use Rattle.network_law.specs.Runs.{IsLegal, NamesOwnLink, IsTyped, step_refusal, step_outputs};
 ghost use Rattle.network_law.specs.declared.fault.StepFault.TheVariants.{Memory};
@@ -11,10 +12,11 @@ use crate::input::Input;
 use crate::output::{Entry, Outputs};
 use card_digits::{LinkNo, NodeNo};
 use net_rows::Tables;
-use network_law::StepFault;
+use network_law::{StepFault, every_legal_trace_is_within_limits};
 use node_books::Books;
 use std::alloc::{AllocError, Global};
 use std::marker::Model;
+use table_checker::Accepted;
 
 /// The most entries that a trace has.
 const MOST: usize = 1_000_000;
@@ -40,12 +42,12 @@ impl<'a> Model for Node<'a> {
 }
 
 impl<'a> Node<'a> {
-    /// A node of checked tables, to which nothing came yet.
-    pub fn new(alloc: Global, tables: &'a Tables, node: NodeNo) -> Result<Node<'a>, AllocError>
-        requires checked { IsChecked tables.now }
-        requires there { node < length tables.now.nodes }
-        ensures { IfOk result (λ a. (a.t ≡ tables.now) × (a.n ≡ node) × (a.trace ≡ [])) }
+    /// A node of accepted tables, to which nothing came yet.
+    pub fn new(alloc: Global, accepted: &Accepted<'a>, node: NodeNo) -> Result<Node<'a>, AllocError>
+        requires there { node < length accepted.now.nodes }
+        ensures { IfOk result (λ a. (a.t ≡ accepted.now) × (a.n ≡ node) × (a.trace ≡ [])) }
     {
+        let tables = accepted.tables();
         let books = Books::new(alloc, tables.settings().date, tables.links().len())?;
         Ok(Node {
             tables,
@@ -69,7 +71,10 @@ impl<'a> Node<'a> {
     pub fn trace(&self) -> &[Entry]
         ensures trace { reverse result.now ≡ self.now.trace }
         ensures legal { IsLegal self.now.t self.now.n self.now.trace }
+        // Whatever the other nodes do, it approves by itself only what the issuer names it for, within its allowances.
+        ensures limits { IsWithinLimits self.now.t self.now.n (history self.now.trace) }
     {
+        every_legal_trace_is_within_limits();
         self.trace.as_slice()
     }
 

@@ -1,14 +1,13 @@
 -- Ids that stand once, and places in a list.
-use Rattle.std.proofs.Common.{◌≡◌, ◌≢◌, ℕ, zero, suc, ◌<◌, ◌+◌, ◌-◌, ◌≤◌, ◌==◌, ◌&&◌, ◌||◌, Bool, true, false, List, [], ◌∷◌, ◌++◌, length, map, get_or, nat_lt, take, drop, replicate, Option, Some, None, cond, option_map, slice_get, bytes_eq, refl, sym, ap, subst, ◌∙◌, inl, inr, arith}
+use Rattle.std.proofs.Common.{◌≡◌, ℕ, zero, suc, ◌<◌, ◌+◌, ◌≤◌, ◌==◌, ◌&&◌, ◌||◌, Bool, true, false, List, [], ◌∷◌, ◌++◌, length, map, get_or, nat_lt, take, drop, Option, Some, None, option_map, slice_get, bytes_eq, refl, sym, ap, subst, ◌∙◌, inl, inr, arith}
 use Rattle.std.specs.Prelude.{IfSome}
 use Rattle.std.specs.Option.{option_map_or, option_or}
-use Rattle.std.specs.List.{position_from, list_any, list_all, AllByRecursion}
+use Rattle.std.specs.List.{position_from, list_any, AllByRecursion}
 use Rattle.std.specs.Cmp.Lexicographic.{pointwise}
-use Rattle.std.proofs.lemmas.Bool.{cases_Bool, false≢true, and_parts, eqb-true, ltb-false}
+use Rattle.std.proofs.lemmas.Bool.{cases_Bool, false≢true, eqb-true, ltb-false}
 use Rattle.std.proofs.lemmas.List.{drop_more, take_more}
 use Rattle.std.proofs.lemmas.Cmp.{nat_list_eq_equiv}
-use Rattle.std.proofs.lemmas.List.Folds.{list_any-append, list_all-append}
-use Rattle.card_digits.specs.Digits.{IsId}
+use Rattle.std.proofs.lemmas.List.Folds.{list_any-append}
 use Rattle.card_digits.specs.Numbers.{pad11}
 use Rattle.net_rows.specs.declared.row.Node.{Node}
 use Rattle.net_rows.specs.declared.row.Link.{Link}
@@ -17,9 +16,7 @@ use Rattle.net_rows.specs.Network.{Network}
 use Rattle.net_rows.specs.Sound as rows
 use Rattle.rank_cert.specs.declared.cert.Rank.{Rank}
 use Rattle.network_law.specs.Checked.{IsChecked}
-use Rattle.network_law.specs.Tables.{is_attached, node_id}
 use Rattle.table_checker.specs.Rules.{repeated_behind, first_repeated, acquirer_twice, node_id_twice, timer_too_long, first_of_kind, first_refusal, kinds}
-use Rattle.table_checker.specs.declared.refusal.Refusal.{Refusal}
 use Rattle.table_checker.specs.declared.refusal.Refusal.TheVariants.{AcquirerTwice, NodeIdTwice, TimerTooLong}
 use Rattle.table_checker.specs.Search.{first_some}
 use Rattle.table_checker.specs.Property.{HasShortTimers}
