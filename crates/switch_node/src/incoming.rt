@@ -18,7 +18,7 @@ ghost use Rattle.switch_node.specs.Coming.{opened_start};
 
 use crate::draft::Draft;
 use card_digits::{Key, LinkNo, NodeNo};
-use iso_message::{Code, Group, Message, advice_id, code_of, key_of};
+use iso_message::{Code, DecodeFault, Group, Message, advice_id, code_of, key_of};
 use net_rows::Tables;
 use node_books::{Effect, Row, is_request};
 use std::alloc::AllocError;
@@ -70,7 +70,10 @@ impl Draft {
         push_digits(&mut text, date.digits())?;
         match handled.set(15, &text) {
             Ok(()) => Ok(handled),
-            Err(_) => Err(AllocError),
+            Err(fault) => match fault {
+                DecodeFault::Memory => Err(AllocError),
+                _ => unreachable!(),
+            },
         }
     }
 
