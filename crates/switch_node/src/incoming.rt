@@ -3,7 +3,7 @@ ghost use Rattle.std.specs.Prelude.{◌≡◌, ◌&&◌, ◌++◌, ℕ, bytes_eq
 ghost use Rattle.std.specs.Option.{option_and_then};
 ghost use Rattle.card_digits.specs.Digits.{AreDigits};
 ghost use Rattle.iso_message.specs.Groups.{group, is_request};
-ghost use Rattle.iso_message.specs.Keys.{key_of};
+ghost use Rattle.iso_message.specs.Keys.{key_of, identity_of, has_identity};
 ghost use Rattle.iso_message.specs.Codes.{code_00, code_of};
 ghost use Rattle.iso_message.specs.Made.{without_forwarder};
 ghost use Rattle.net_rows.specs.Network.{Network};
@@ -14,11 +14,11 @@ ghost use Rattle.node_machine.specs.Steps.{on_advice, on_answer, on_group, on_re
 ghost use Rattle.node_books.specs.Effects.{progress};
 ghost use Rattle.node_books.specs.Values.{IsKeyOf, source_of};
 ghost use Rattle.switch_node.specs.Used.{IsQuiet};
-ghost use Rattle.switch_node.specs.Coming.{opened_start};
+ghost use Rattle.switch_node.specs.Coming.{opened_start, is_complete};
 
 use crate::draft::Draft;
 use card_digits::{Key, LinkNo, NodeNo};
-use iso_message::{Code, DecodeFault, Group, Message, advice_id, code_of, key_of};
+use iso_message::{AdviceId, Code, DecodeFault, Group, Message, advice_id, code_of, key_of};
 use net_rows::Tables;
 use node_books::{Effect, Row, is_request};
 use std::alloc::AllocError;
@@ -53,6 +53,18 @@ fn is_acknowledgement(m: &Message) -> bool
         _ => false,
     };
     ack && is_approval(m)
+}
+
+/// What an advice, or what acknowledges one, is known by.
+#[tactic(auto, using(crate::proofs::Messages::known_identity))]
+fn identity(m: &Message) -> AdviceId
+    requires { has_identity m.now ≡ true }
+    ensures { result ≡ identity_of m.now }
+{
+    match advice_id(m) {
+        Some(id) => id,
+        None => unreachable!(),
+    }
 }
 
 impl Draft {
@@ -223,12 +235,11 @@ impl Draft {
     fn acknowledge(&mut self, m: &Message) -> Result<(), AllocError>
         requires empty { self.old.effects ≡ [] }
         requires ack { (is_ack (group m.now.kind) && bytes_eq (code_of m.now) code_00) ≡ true }
+        requires identity { has_identity m.now ≡ true }
         ensures base { self.new.base ≡ self.old.base }
         ensures ok { OnOk result ((t : Network) (n : ℕ) (link : ℕ) (serial : ℕ) → progress self.new ≡ step t n self.old.base (Take link serial m.now)) }
     {
-        let Some(id) = advice_id(m) else {
-            return Err(AllocError);
-        };
+        let id = identity(m);
         self.change(Effect::Acknowledged(id))
     }
 
@@ -241,6 +252,7 @@ impl Draft {
         m: &Message,
     ) -> Result<(), AllocError>
         requires empty { self.old.effects ≡ [] }
+        requires complete { is_complete (group m.now.kind) m.now ≡ true }
         requires left { LeftAsMarked self.old.base.marks self.old.base.takes }
         ensures base { self.new.base ≡ self.old.base }
         ensures ok { OnOk result ((serial : ℕ) → progress self.new ≡ step tables.now node self.old.base (Take link serial m.now)) }
