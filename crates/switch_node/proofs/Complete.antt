@@ -7,7 +7,7 @@ use Rattle.iso_message.specs.declared.kind.Kind.{Kind}
 use Rattle.iso_message.specs.declared.kind.Kind.TheVariants.{K0100, K0101, K0110, K0120, K0121, K0130, K0400, K0401, K0410, K0420, K0421, K0430}
 use Rattle.iso_message.specs.declared.kind.Group.{Group}
 use Rattle.iso_message.specs.declared.kind.Group.TheVariants as groups
-use Rattle.iso_message.specs.Fields.{Fields, has, set_element, remove_element}
+use Rattle.iso_message.specs.Fields.{Fields, get, has, set_element, remove_element}
 use Rattle.iso_message.specs.Groups.{group, is_request, is_answer, is_04xx}
 use Rattle.iso_message.specs.Keys.{has_own_key, has_key, has_identity, is_identified}
 use Rattle.iso_message.specs.Made.{is_one_of, with_date, without_forwarder}
@@ -160,3 +160,24 @@ acknowledged_known groups.Answer m approves ack complete = cc
 acknowledged_known groups.StandInAdvice m approves ack complete = cc
 acknowledged_known groups.Reversal m approves ack complete = cc
 acknowledged_known groups.Reply m approves ack complete = cc
+
+requests : (k : Kind) → is_request k ≡ true → group k ≡ groups.Request
+requests K0100 e = refl
+requests K0101 e = refl
+requests K0110 e = absurd cc
+requests K0120 e = absurd cc
+requests K0121 e = absurd cc
+requests K0130 e = absurd cc
+requests K0400 e = absurd cc
+requests K0401 e = absurd cc
+requests K0410 e = absurd cc
+requests K0420 e = absurd cc
+requests K0421 e = absurd cc
+requests K0430 e = absurd cc
+
+pub request_known : (m : Fields) → is_request m.kind ≡ true → is_complete (group m.kind) m ≡ true → has_key m ≡ true
+request_known m request complete = sym (ap (λ g. is_complete g m) (requests m.kind request)) ∙ complete
+
+pub not_absent : (m : Fields) (n : ℕ) → has m n ≡ true → None ≡ get m n → ⊥
+unfolding has
+not_absent m n there none = let wrong : false ≡ true = ap is_some none ∙ there in cc
