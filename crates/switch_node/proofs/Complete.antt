@@ -1,4 +1,4 @@
--- What a message that was not refused is handled by is there.
+-- A message that was not refused has what it is handled by.
 use Rattle.std.proofs.Common.{◌≡◌, ℕ, ◌==◌, List, [], ◌∷◌, Bool, true, false, cond, Option, Some, None, refl, sym, ap, ◌∙◌, inl, inr}
 use Rattle.std.specs.Prelude.{◌&&◌, not, is_some}
 use Rattle.std.specs.Option.{option_or, option_map}
@@ -160,23 +160,6 @@ acknowledged_known groups.Answer m approves ack complete = cc
 acknowledged_known groups.StandInAdvice m approves ack complete = cc
 acknowledged_known groups.Reversal m approves ack complete = cc
 acknowledged_known groups.Reply m approves ack complete = cc
-
-requests : (k : Kind) → is_request k ≡ true → group k ≡ groups.Request
-requests K0100 e = refl
-requests K0101 e = refl
-requests K0110 e = absurd cc
-requests K0120 e = absurd cc
-requests K0121 e = absurd cc
-requests K0130 e = absurd cc
-requests K0400 e = absurd cc
-requests K0401 e = absurd cc
-requests K0410 e = absurd cc
-requests K0420 e = absurd cc
-requests K0421 e = absurd cc
-requests K0430 e = absurd cc
-
-pub request_known : (m : Fields) → is_request m.kind ≡ true → is_complete (group m.kind) m ≡ true → has_key m ≡ true
-request_known m request complete = sym (ap (λ g. is_complete g m) (requests m.kind request)) ∙ complete
 
 pub not_absent : (m : Fields) (n : ℕ) → has m n ≡ true → None ≡ get m n → ⊥
 unfolding has

@@ -15,7 +15,7 @@ opened_start x h = record {
   outs = [];
 }
 
--- whether what a message of a group is handled by is there: the key of a request or an answer, an answer's code, and the identity of an advice or of what acknowledges one
+-- whether a message of a group has what it is handled by: a request or an answer its key, an answer its code, and an advice or what acknowledges one its identity
 abbrev pub is_complete : Group → Fields → Bool
 is_complete groups.Request m = has_key m
 is_complete groups.Answer m = has_key m && has m 39

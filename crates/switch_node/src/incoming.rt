@@ -1,5 +1,5 @@
 //! Messages that come to a node.
-ghost use Rattle.std.specs.Prelude.{◌≡◌, ◌&&◌, ◌++◌, ℕ, bytes_eq, [], IfOk, IfSome, OnOk, true, false};
+ghost use Rattle.std.specs.Prelude.{◌≡◌, ◌&&◌, ◌++◌, ℕ, bytes_eq, [], IfOk, OnOk, true, false};
 ghost use Rattle.std.specs.Option.{option_and_then};
 ghost use Rattle.card_digits.specs.Digits.{AreDigits};
 ghost use Rattle.iso_message.specs.Fields.{has};
@@ -89,6 +89,7 @@ impl Draft {
             Ok(()) => Ok(handled),
             Err(fault) => match fault {
                 DecodeFault::Memory => Err(AllocError),
+                // Element 15 takes the four digits of a date.
                 _ => unreachable!(),
             },
         }
