@@ -14,7 +14,7 @@ use Rattle.network_law.specs.Refusals.{first_missing, missing, required_entered,
 use Rattle.network_law.specs.Traces.{is_advice_group}
 
 -- each of the elements is there
-present : (m : Fields) (ns : List ℕ) (n : ℕ) → first_missing m ns ≡ None → is_one_of ns n ≡ true → has m n ≡ true
+pub present : (m : Fields) (ns : List ℕ) (n : ℕ) → first_missing m ns ≡ None → is_one_of ns n ≡ true → has m n ≡ true
 present m [] n none one = absurd cc
 present m (k ∷ ns) n none one = elim (cases_Bool (has m k)) [
   | inr absent ↦ absurd (let some : Some k ≡ None = rw absent at none in cc)

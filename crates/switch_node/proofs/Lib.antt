@@ -11,3 +11,4 @@ pub mod Starts
 pub mod Coming
 pub mod Reading
 pub mod Sends
+pub mod Complete

@@ -191,7 +191,7 @@ pub kept_leaves : (m : Fields) → leaves (as_kept m) ≡ leaves m
 unfolding actual_amount get
 kept_leaves m = refl
 
-request_plain : (k : Kind) → is_request k ≡ true → is_04xx k ≡ false
+pub request_plain : (k : Kind) → is_request k ≡ true → is_04xx k ≡ false
 request_plain K0100 e = refl
 request_plain K0101 e = refl
 request_plain K0110 e = cc

@@ -1,5 +1,9 @@
 -- What a message does as it comes.
-use Rattle.std.specs.Prelude.{[], Some}
+use Rattle.std.specs.Prelude.{[], Some, Bool, true, ◌&&◌}
+use Rattle.iso_message.specs.declared.kind.Group.{Group}
+use Rattle.iso_message.specs.declared.kind.Group.TheVariants as groups
+use Rattle.iso_message.specs.Fields.{Fields, has}
+use Rattle.iso_message.specs.Keys.{has_key, has_identity}
 use Rattle.network_law.specs.Traces.{Handled}
 use Rattle.node_machine.specs.Lists.{Lists, open_row}
 use Rattle.node_machine.specs.Steps.{Progress}
@@ -10,3 +14,12 @@ opened_start x h = record {
   lists = record { rows = open_row x.count (Some h) x.rows; marks = x.marks; takes = x.takes; store = x.store; known = x.known; loans = x.loans; borrowed = x.borrowed; links = x.links; asks = x.asks; date = x.date; count = x.count };
   outs = [];
 }
+
+-- whether a message of a group has what it is handled by: a request or an answer its key, an answer its code, and an advice or what acknowledges one its identity
+abbrev pub is_complete : Group → Fields → Bool
+is_complete groups.Request m = has_key m
+is_complete groups.Answer m = has_key m && has m 39
+is_complete groups.StandInAdvice m = has_identity m
+is_complete groups.Reversal m = has_identity m
+is_complete groups.Acknowledgement m = has_identity m
+is_complete groups.Reply m = true

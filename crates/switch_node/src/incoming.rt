@@ -1,9 +1,10 @@
 //! Messages that come to a node.
-ghost use Rattle.std.specs.Prelude.{◌≡◌, ◌&&◌, ◌++◌, ℕ, bytes_eq, [], IfOk, IfSome, OnOk, true, false};
+ghost use Rattle.std.specs.Prelude.{◌≡◌, ◌&&◌, ◌++◌, ℕ, bytes_eq, [], IfOk, OnOk, true, false};
 ghost use Rattle.std.specs.Option.{option_and_then};
 ghost use Rattle.card_digits.specs.Digits.{AreDigits};
+ghost use Rattle.iso_message.specs.Fields.{has};
 ghost use Rattle.iso_message.specs.Groups.{group, is_request};
-ghost use Rattle.iso_message.specs.Keys.{key_of};
+ghost use Rattle.iso_message.specs.Keys.{key_of, identity_of, has_identity, has_key};
 ghost use Rattle.iso_message.specs.Codes.{code_00, code_of};
 ghost use Rattle.iso_message.specs.Made.{without_forwarder};
 ghost use Rattle.net_rows.specs.Network.{Network};
@@ -14,11 +15,11 @@ ghost use Rattle.node_machine.specs.Steps.{on_advice, on_answer, on_group, on_re
 ghost use Rattle.node_books.specs.Effects.{progress};
 ghost use Rattle.node_books.specs.Values.{IsKeyOf, source_of};
 ghost use Rattle.switch_node.specs.Used.{IsQuiet};
-ghost use Rattle.switch_node.specs.Coming.{opened_start};
+ghost use Rattle.switch_node.specs.Coming.{opened_start, is_complete};
 
 use crate::draft::Draft;
 use card_digits::{Key, LinkNo, NodeNo};
-use iso_message::{Code, Group, Message, advice_id, code_of, key_of};
+use iso_message::{AdviceId, Code, DecodeFault, Group, Message, advice_id, code_of, key_of};
 use net_rows::Tables;
 use node_books::{Effect, Row, is_request};
 use std::alloc::AllocError;
@@ -26,11 +27,15 @@ use step_rules::is_approval;
 
 /// The key of a request.
 #[tactic(auto, using(crate::proofs::Messages::request_key))]
-fn request_key(m: &Message) -> Option<Key>
-    requires { is_request m.now.kind ≡ true }
-    ensures { IfSome result (λ k. IsKeyOf k m.now) }
+fn request_key(m: &Message) -> Key
+    requires request { is_request m.now.kind ≡ true }
+    requires key { has_key m.now ≡ true }
+    ensures { IsKeyOf result m.now }
 {
-    key_of(m)
+    match key_of(m) {
+        Some(key) => key,
+        None => unreachable!(),
+    }
 }
 
 /// Writes digits in ASCII.
@@ -55,6 +60,18 @@ fn is_acknowledgement(m: &Message) -> bool
     ack && is_approval(m)
 }
 
+/// What an advice, or what acknowledges one, is known by.
+#[tactic(auto, using(crate::proofs::Messages::known_identity))]
+fn identity(m: &Message) -> AdviceId
+    requires { has_identity m.now ≡ true }
+    ensures { result ≡ identity_of m.now }
+{
+    match advice_id(m) {
+        Some(id) => id,
+        None => unreachable!(),
+    }
+}
+
 impl Draft {
     /// A message as its gate handles it: without the forwarding institution, and a request with the settlement date.
     fn handled(&self, m: Message) -> Result<Message, AllocError>
@@ -70,23 +87,26 @@ impl Draft {
         push_digits(&mut text, date.digits())?;
         match handled.set(15, &text) {
             Ok(()) => Ok(handled),
-            Err(_) => Err(AllocError),
+            Err(fault) => match fault {
+                DecodeFault::Memory => Err(AllocError),
+                // Element 15 takes the four digits of a date.
+                _ => unreachable!(),
+            },
         }
     }
 
     /// A request opens its key, where that has none yet; another message does nothing as it comes.
     #[tactic(auto, using(crate::proofs::Coming::opens, crate::proofs::Coming::opens_none))]
     fn open(&mut self, m: &Message, source: Option<LinkNo>) -> Result<(), AllocError>
-        requires { self.old.effects ≡ [] }
+        requires empty { self.old.effects ≡ [] }
+        requires complete { is_complete (group m.now.kind) m.now ≡ true }
         ensures base { self.new.base ≡ self.old.base }
         ensures ok { OnOk result (progress self.new ≡ opened_start self.old.base (record { message = m.now; source = source_of source })) }
     {
         if !is_request(m.kind()) {
             return Ok(());
         }
-        let Some(key) = request_key(m) else {
-            return Err(AllocError);
-        };
+        let key = request_key(m);
         let request = m.copy()?;
         let row = Row::new(key, request, source, self.books.count());
         self.change(Effect::Opened(row))
@@ -114,14 +134,16 @@ impl Draft {
         m: &Message,
         link: LinkNo,
     ) -> Result<(), AllocError>
+        requires key { has_key m.now ≡ true }
+        requires code { has m.now 39 ≡ true }
         ensures base { self.new.base ≡ self.old.base }
         ensures ok { OnOk result (progress self.new ≡ on_answer tables.now node (view tables.now node self.old.base) m.now (ByLink link) (progress self.old)) }
     {
         let Some(key) = key_of(m) else {
-            return Err(AllocError);
+            unreachable!();
         };
         let Some(code) = code_of(m) else {
-            return Err(AllocError);
+            unreachable!();
         };
         if !self.was_put_on(key, link) {
             return Ok(());
@@ -137,18 +159,16 @@ impl Draft {
         source: Option<LinkNo>,
     ) -> Result<(), AllocError>
         requires request { is_request m.now.kind ≡ true }
+        requires key { has_key m.now ≡ true }
         requires quiet { IsQuiet self.old.base (progress self.old).lists }
         requires left { LeftAsMarked self.old.base.marks self.old.base.takes }
         ensures base { self.new.base ≡ self.old.base }
         ensures ok { OnOk result (progress self.new ≡ on_request tables.now node (view tables.now node self.old.base) m.now (source_of source) ((view tables.now node self.old.base).opening (key_of m.now)) (progress self.old)) }
     {
-        match request_key(m) {
-            Some(key) => self.on_request(tables, node, key, m, source),
-            None => Err(AllocError),
-        }
+        let key = request_key(m);
+        self.on_request(tables, node, key, m, source)
     }
 
-    #[tactic(auto, using(crate::proofs::Messages::known_identity))]
     fn on_identified(
         &mut self,
         tables: &Tables,
@@ -157,14 +177,13 @@ impl Draft {
         source: Option<LinkNo>,
         reverses: bool,
     ) -> Result<(), AllocError>
-        requires { is_advice_group (group m.now.kind) ≡ true }
+        requires advice { is_advice_group (group m.now.kind) ≡ true }
+        requires identity { has_identity m.now ≡ true }
         ensures base { self.new.base ≡ self.old.base }
         ensures reversal { OnOk result (reverses ≡ true → progress self.new ≡ on_reversal tables.now node (view tables.now node self.old.base) m.now (source_of source) (progress self.old)) }
         ensures stand_in { OnOk result (reverses ≡ false → progress self.new ≡ on_advice tables.now node (view tables.now node self.old.base) m.now (source_of source) (progress self.old)) }
     {
-        let Some(id) = advice_id(m) else {
-            return Err(AllocError);
-        };
+        let id = identity(m);
         if reverses {
             self.on_reversal(tables, node, id, m, source)
         } else {
@@ -181,6 +200,7 @@ impl Draft {
         m: &Message,
         source: Option<LinkNo>,
     ) -> Result<(), AllocError>
+        requires complete { is_complete (group m.now.kind) m.now ≡ true }
         requires quiet { IsQuiet self.old.base (progress self.old).lists }
         requires left { LeftAsMarked self.old.base.marks self.old.base.takes }
         ensures base { self.new.base ≡ self.old.base }
@@ -207,6 +227,7 @@ impl Draft {
         m: Message,
     ) -> Result<(), AllocError>
         requires empty { self.old.effects ≡ [] }
+        requires complete { is_complete (group m.kind) m ≡ true }
         requires left { LeftAsMarked self.old.base.marks self.old.base.takes }
         ensures base { self.new.base ≡ self.old.base }
         ensures ok { OnOk result (progress self.new ≡ step tables.now node self.old.base (Enter m)) }
@@ -220,12 +241,11 @@ impl Draft {
     fn acknowledge(&mut self, m: &Message) -> Result<(), AllocError>
         requires empty { self.old.effects ≡ [] }
         requires ack { (is_ack (group m.now.kind) && bytes_eq (code_of m.now) code_00) ≡ true }
+        requires identity { has_identity m.now ≡ true }
         ensures base { self.new.base ≡ self.old.base }
         ensures ok { OnOk result ((t : Network) (n : ℕ) (link : ℕ) (serial : ℕ) → progress self.new ≡ step t n self.old.base (Take link serial m.now)) }
     {
-        let Some(id) = advice_id(m) else {
-            return Err(AllocError);
-        };
+        let id = identity(m);
         self.change(Effect::Acknowledged(id))
     }
 
@@ -238,6 +258,7 @@ impl Draft {
         m: &Message,
     ) -> Result<(), AllocError>
         requires empty { self.old.effects ≡ [] }
+        requires complete { is_complete (group m.now.kind) m.now ≡ true }
         requires left { LeftAsMarked self.old.base.marks self.old.base.takes }
         ensures base { self.new.base ≡ self.old.base }
         ensures ok { OnOk result ((serial : ℕ) → progress self.new ≡ step tables.now node self.old.base (Take link serial m.now)) }

@@ -8,6 +8,7 @@ use Rattle.node_books.proofs.Codes.{found_code}
 use Rattle.switch_node.proofs.Messages.{known_key}
 use Rattle.switch_node.proofs.Parts.{on_ok}
 use Rattle.switch_node.proofs.Coming.{answer_counts}
+use Rattle.switch_node.proofs.Complete.{not_absent}
 use Rattle.switch_node.proofs.draft.Draft.on_answer.Goals as goal
 
 pub returns-clause-ok : goal.returns-clause-ok
@@ -19,3 +20,6 @@ returns-clause-ok c =
     let code = sym (found_code c.args.m.now c.in-Some-code_of.code (sym c.in-Some-code_of.ensures)) in
     let put : is_link c.args.link (option_and_then row_link (of_key c.in-Some.key x.rows)) ≡ true = search rules in
     on_ok c.on_code.result (λ e. e ∙ (ap (λ z. steps.on_code t n (view t n x) c.in-Some.key c.in-Some-code_of.code z ((view t n x).opening c.in-Some.key) (progress c.args.self.now)) c.new.ensures ∙ answer_counts t n x c.args.m.now c.args.link c.in-Some.key c.in-Some-code_of.code (progress c.args.self.now) key code put)) c.on_code.ensures.ok
+
+pub unreachable-requires-in_default-code_of : goal.unreachable-requires-in_default-code_of
+unreachable-requires-in_default-code_of c = not_absent c.args.m.now 39 c.requires.code c.in_default-code_of.ensures

@@ -4,6 +4,7 @@ use Rattle.node_machine.specs.Machine.{refuse}
 use Rattle.node_machine.specs.Lists.{view}
 use Rattle.node_books.specs.Effects.{Drafted}
 use Rattle.switch_node.proofs.Reading.{does_take, faults_take}
+use Rattle.switch_node.proofs.Complete.{taken_complete}
 use Rattle.switch_node.proofs.draft.Draft.take_text.Goals as goal
 
 pub returns-in-Some-clause-fault : goal.returns-in-Some-clause-fault
@@ -18,3 +19,6 @@ returns-in-Ok-take_message-clause-ok c =
     let packet = c.requires.packet in
     let accepted = c.in_default.ensures c.args.serial ∙ ap (λ (d : Drafted). refuse t n (view t n d.base) (Take c.args.link c.args.serial c.in-Ok.m)) c.self.view_is in
     does_take t n c.args.link c.args.serial c.args.bytes.now c.in-Ok.m c.args.self.now c.take_message.new.self packet c.in-Ok.ensures.exact accepted (c.in-Ok-take_message.ensures.ok c.args.serial)
+
+pub take_message-requires-clause-complete : goal.take_message-requires-clause-complete
+take_message-requires-clause-complete c = taken_complete c.args.tables.now c.args.node (view c.args.tables.now c.args.node c.self.inside.books.lists) c.args.link c.args.serial c.in-Ok.m (c.in_default.ensures c.args.serial)
