@@ -45,6 +45,13 @@ impl<'a> Script<'a> {
         }
     }
 
+    /// The number of the next line.
+    pub fn number(&self) -> usize
+        ensures { result ≡ self.now.number }
+    {
+        self.number
+    }
+
     /// What the next line says, or its number where it is malformed. None where no line is left.
     pub fn next_line(&mut self, tables: &Tables) -> Option<Result<ScriptLine<'a>, MalformedLine>>
         ensures line { option_map answer_of result ≡ next_line tables.now self.old }

@@ -1,4 +1,4 @@
-//! Looks the rows of tables up, by tries and by the tables' own maps, and says how long each took.
+//! Looks the rows of tables up, by tries and by the tables' own maps, and says on standard error how long each took.
 #![tactic(auto)]
 
 use card_digits::{NodeNo, Prefix};
@@ -78,6 +78,6 @@ fn main(rt: HostRuntime) -> io::Result<()> {
         tried.duration_since(built).as_micros(),
         mapped.duration_since(tried).as_micros(),
     );
-    println!(rt; "built in {made} us, by tries {by_tries} us, by maps {by_maps} us")?;
+    eprintln!(rt; "built in {made} us, by tries {by_tries} us, by maps {by_maps} us")?;
     Ok(())
 }

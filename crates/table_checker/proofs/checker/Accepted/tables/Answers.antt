@@ -9,3 +9,9 @@ returns-clause-checked c = rw (← c.self.view_is) (AreAccepted.checked c.self.i
 
 pub returns-clause-bounded : goal.returns-clause-bounded
 returns-clause-bounded c = rw (← c.self.view_is) (AreAccepted.bounded c.self.invariant)
+
+pub returns-clause-safe : goal.returns-clause-safe
+returns-clause-safe c = rw (← c.self.view_is) (AreAccepted.safe c.self.invariant)
+
+pub returns-clause-covered : goal.returns-clause-covered
+returns-clause-covered c = rw (← c.self.view_is) (AreAccepted.covered c.self.invariant)

@@ -1,0 +1,6 @@
+use Rattle.std.proofs.Common.{◌≡◌, drop}
+use Rattle.net_replay.specs.Packets.{put_all}
+use Rattle.net_replay.proofs.packets.Packets.put_all.Given as goal
+
+abbrev pub invariant-loop-output : goal.invariant-loop-output
+invariant-loop-output l = put_all l.self (drop l.output-index l.outputs) ≡ put_all l.initial.self l.outputs

@@ -1,0 +1,5 @@
+pub mod Steps
+pub mod Packets
+pub mod Replays
+pub mod Traces
+pub mod Running

@@ -1,0 +1,35 @@
+-- A script that is being run.
+use Rattle.std.specs.Prelude.{ℕ, ◌≡◌, ◌<◌, List, length, Some, slice_get}
+use Rattle.net_rows.specs.Network.{Network}
+use Rattle.network_law.specs.Cards.{Bytes}
+use Rattle.network_law.specs.Checked.{IsChecked}
+use Rattle.network_law.specs.Entries.{Entry}
+use Rattle.switch_node.specs.Node.{NodeView}
+use Rattle.net_replay.specs.Steps.{Step, entries_at, packets}
+use Rattle.net_replay.specs.Traces.{AreNodes, places_of}
+use Rattle.network_law.specs.Runs.{IsLegal}
+use Rattle.replay_script.specs.Lines.{Said, read_line}
+use Rattle.net_replay.specs.declared.running.Running.{Running}
+use Rattle.net_replay.specs.declared.traces.StepPlace.{StepPlace}
+
+-- on each of so many links stands what the trace put there
+abbrev pub ArePackets : ℕ → List Entry → List (List Bytes) → Type 0
+ArePackets count trace links = (length links ≡ count) × ((l : ℕ) → l < count → slice_get links l ≡ Some (packets l trace))
+
+-- and so for each node
+abbrev pub AreSent : Network → List Step → List (List (List Bytes)) → Type 0
+AreSent t steps sent = (length sent ≡ length t.nodes) × ((n : ℕ) → n < length t.nodes → (links : List (List Bytes)) × (slice_get sent n ≡ Some links) × ArePackets (length t.links) (entries_at n steps) links)
+
+pub record IsAt (t : Network) (nodes : List NodeView) (sent : List (List (List Bytes))) (places : List StepPlace) (steps : List Step) : Type 0 where
+  pub nodes_are : AreNodes t steps nodes
+  pub sent_are : AreSent t steps sent
+  pub places_are : places ≡ places_of steps
+  pub legal : (n : ℕ) → n < length t.nodes → IsLegal t n (entries_at n steps)
+
+-- the nodes stand where these steps lead
+abbrev pub IsStanding : Running → List Step → Type 0
+IsStanding r steps = IsChecked r.tables.now × IsAt r.tables.now r.nodes.items r.sent.items r.places.items steps
+
+-- some line says it
+abbrev pub IsSaid : Network → Said → Type 0
+IsSaid t x = (line : Bytes) × (read_line t line ≡ Some x)

@@ -1,0 +1,149 @@
+//! The nodes that a script runs on.
+ghost use Rattle.std.specs.Prelude.{◌≡◌, ◌≢◌, ◌<◌, List, [], ◌∷◌, length, IfOk, IfErr, OnOk, MatchOption, true};
+ghost use Rattle.network_law.specs.Runs.{IsTyped, NamesOwnLink};
+ghost use Rattle.network_law.specs.Tables.{is_link_of};
+ghost use Rattle.net_replay.specs.declared.fault.ReplayFault.TheVariants.{Memory};
+ghost use Rattle.replay_script.specs.Lines.{said, event_of, Take};
+ghost use Rattle.net_replay.specs.Steps.{Step};
+ghost use Rattle.net_replay.specs.Replays.{WasSent, LacksPacket, IsInput, IsSaidStep, IsSaidFault};
+ghost use Rattle.net_replay.specs.Running.{IsStanding, IsSaid};
+ghost use Rattle.net_replay.specs.Traces.{AreTraces};
+ghost use Rattle.net_replay.specs.Replays.{fault_of};
+
+use crate::fault::ReplayFault;
+use crate::packets::Packets;
+use crate::traces::{StepPlace, Traces};
+use card_digits::{LinkNo, NodeNo};
+use net_rows::Tables;
+use network_law::StepFault;
+use replay_script::{Command, ScriptLine};
+use std::alloc::{AllocError, Global};
+use switch_node::{Case, Input, Node, Outputs};
+use table_checker::Accepted;
+
+/// The nodes, what each has put on its links, and where the entries of the lines stand.
+#[derive(Drop)]
+pub(crate) struct Running<'a> {
+    alloc: Global,
+    tables: &'a Tables,
+    nodes: Vec<Node<'a>>,
+    sent: Vec<Packets>,
+    places: Vec<StepPlace>,
+}
+
+fn copied(alloc: Global, bytes: &[u8]) -> Result<Vec<u8>, AllocError>
+    ensures { IfOk result (λ v. v.items ≡ bytes.now) }
+{
+    let mut copy = Vec::new(alloc);
+    copy.extend_from_slice(bytes)?;
+    Ok(copy)
+}
+
+fn step_fault(number: usize, fault: StepFault) -> ReplayFault
+    ensures { result ≡ fault_of number fault }
+{
+    match fault {
+        StepFault::Memory => ReplayFault::Memory,
+        _ => ReplayFault::Step(number, fault),
+    }
+}
+
+impl<'a> Running<'a> {
+    pub(crate) fn new(alloc: Global, accepted: &Accepted<'a>) -> Result<Running<'a>, AllocError>
+        ensures tables { IfOk result (λ r. r.tables.now ≡ accepted.now) }
+        ensures standing { IfOk result (λ r. IsStanding r []) }
+    {
+        let tables = accepted.tables();
+        let mut nodes = Vec::new(alloc);
+        let mut sent = Vec::new(alloc);
+        for node in 0..tables.nodes().len() {
+            nodes.push(Node::new(alloc, accepted, NodeNo::new(node))?)?;
+            sent.push(Packets::new(alloc, tables.links().len())?)?;
+        }
+        Ok(Running {
+            alloc,
+            tables,
+            nodes,
+            sent,
+            places: Vec::new(alloc),
+        })
+    }
+
+    /// The packet with this serial that the other end put on the link.
+    fn packet(&self, node: NodeNo, link: LinkNo, serial: u64) -> Option<&[u8]>
+        requires standing { (steps : List Step) × IsStanding self.now steps }
+        requires own { is_link_of self.now.tables.now node link ≡ true }
+        ensures { (steps : List Step) → IsStanding self.now steps → MatchOption result (LacksPacket self.now.tables.now steps node (Take link serial)) (λ b. WasSent self.now.tables.now steps node link serial b.now) }
+    {
+        let other = self.tables.other_end(node, link);
+        self.sent[other.place()].get(link, serial)
+    }
+
+    /// What comes to the node by a line.
+    fn input(&self, number: usize, line: &ScriptLine) -> Result<Input, ReplayFault>
+        requires standing { (steps : List Step) × IsStanding self.now steps }
+        requires said { IsSaid self.now.tables.now (said line.now) }
+        ensures typed { IfOk result IsTyped }
+        ensures input { IfOk result (λ i. (steps : List Step) → IsStanding self.now steps → IsInput self.now.tables.now steps line.now.node (event_of line.now.command) i) }
+        ensures fault { IfErr result (λ f. f ≢ Memory → (steps : List Step) → IsStanding self.now steps → IsSaidFault self.now.tables.now steps number (said line.now) f) }
+    {
+        let case = match line.command {
+            Command::Enter(message) => Case::Enter(copied(self.alloc, message)?),
+            Command::Take { link, serial } => {
+                let Some(bytes) = self.packet(line.node, link, serial) else {
+                    return Err(ReplayFault::NoSuchPacket(number));
+                };
+                Case::Take(link, serial, copied(self.alloc, bytes)?)
+            }
+            Command::LinkUp(link) => Case::LinkUp(link),
+            Command::LinkDown(link) => Case::LinkDown(link),
+            Command::Tick => Case::Tick,
+            Command::HostAnswer { ask, code } => Case::HostAnswer(ask, code),
+            Command::NewDate(date) => Case::NewDate(date),
+            Command::Lend {
+                borrower,
+                card,
+                date,
+                amount,
+            } => Case::Lend(borrower, card, date, amount),
+        };
+        Ok(Input::new(case))
+    }
+
+    /// Makes the step of a line.
+    pub(crate) fn run_line(
+        &mut self,
+        number: usize,
+        line: &ScriptLine,
+        outputs: &mut Outputs,
+    ) -> Result<(), ReplayFault>
+        requires standing { (steps : List Step) × IsStanding self.old steps }
+        requires said { IsSaid self.old.tables.now (said line.now) }
+        ensures tables { self.new.tables.now ≡ self.old.tables.now }
+        ensures made { OnOk result ((steps : List Step) → IsStanding self.old steps → (s : Step) × IsSaidStep self.old.tables.now steps (said line.now) s × IsStanding self.new (s ∷ steps)) }
+        ensures fault { IfErr result (λ f. f ≢ Memory → (steps : List Step) → IsStanding self.old steps → IsSaidFault self.old.tables.now steps number (said line.now) f) }
+    {
+        let input = self.input(number, line)?;
+        let place = line.node.place();
+        let entry = self.nodes[place].trace().len();
+        let stepped = self.nodes[place].step(input, outputs);
+        if let Err(fault) = stepped {
+            return Err(step_fault(number, fault));
+        }
+        self.sent[place].put_all(outputs.as_slice())?;
+        let stands = StepPlace {
+            node: line.node,
+            entry,
+        };
+        if self.places.push(stands).is_err() {
+            return Err(ReplayFault::Memory);
+        }
+        Ok(())
+    }
+
+    pub(crate) fn traces(self) -> Traces<'a>
+        ensures { (steps : List Step) → IsStanding self.entry steps → AreTraces self.entry.tables.now steps result }
+    {
+        Traces::new(self.nodes, self.places)
+    }
+}

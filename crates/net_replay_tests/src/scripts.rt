@@ -1,0 +1,163 @@
+//! A network of two nodes and a link, and scripts on it. Nothing is promised of these functions, so that a test is proved fast.
+use net_replay::{ReplayFault, Traces, replay};
+use net_tables::read_tables;
+use node_books::Way;
+use rank_cert::read_cert;
+use std::alloc::Global;
+use std::test::Fail;
+use switch_node::Output;
+use table_checker::check;
+
+const TABLES: &[u8] = b"\
+[network]
+currency = \"840\"
+date = \"0314\"
+host_ticks = 100
+advice_ticks = 50
+[[node]]
+name = \"A\"
+id = \"1001\"
+[[node]]
+name = \"H\"
+id = \"1002\"
+[[link]]
+name = \"AH\"
+ends = [\"A\", \"H\"]
+ticks = 3
+[[acquirer]]
+id = \"400001\"
+node = \"A\"
+[[issuer]]
+name = \"I\"
+prefix = \"4\"
+home = \"H\"
+named = []
+ceiling = 0
+[[route]]
+node = \"A\"
+prefix = \"4\"
+links = [\"AH\"]
+";
+
+const RANKS: &[u8] = b"RANKS 1\nA 4 1\nH 4 0\nEND\n";
+
+/// What a script is expected to give, line by line: the node of each step, and its outputs.
+#[derive(Clone, Copy)]
+pub(crate) enum Wanted {
+    Step(usize),
+    Put(u64, &'static str),
+    Answer(&'static str),
+    Ask(u64, &'static str),
+}
+
+/// How a script ended.
+#[derive(Clone, Copy, Debug, PartialEq, Eq)]
+pub(crate) enum End {
+    /// All is as expected.
+    AsWanted,
+    /// This line of what is expected is the first that isn't met.
+    Wrong(usize),
+    Fault(ReplayFault),
+}
+
+fn goes(way: Way, wanted: Wanted) -> bool {
+    match way {
+        Way::Put(link, serial) => match wanted {
+            Wanted::Put(number, _) => link.place() == 0 && serial == number,
+            _ => false,
+        },
+        Way::Answer => match wanted {
+            Wanted::Answer(_) => true,
+            _ => false,
+        },
+        Way::Ask(ask) => match wanted {
+            Wanted::Ask(number, _) => ask == number,
+            _ => false,
+        },
+        Way::Post => false,
+    }
+}
+
+fn text(wanted: Wanted) -> &'static str {
+    match wanted {
+        Wanted::Step(_) => "",
+        Wanted::Put(_, text) => text,
+        Wanted::Answer(text) => text,
+        Wanted::Ask(_, text) => text,
+    }
+}
+
+fn outputs<'r>(traces: &'r Traces, step: usize) -> Option<&'r [Output]> {
+    let stands = traces.places().get(step)?;
+    let node = traces.nodes().get(stands.node.place())?;
+    let entry = node.trace().get(stands.entry)?;
+    Some(entry.outputs().as_slice())
+}
+
+fn is_step(traces: &Traces, step: usize, node: usize) -> bool {
+    match traces.places().get(step) {
+        Some(stands) => stands.node.place() == node,
+        None => false,
+    }
+}
+
+/// How many outputs a step has, none where there is no such step.
+fn count(traces: &Traces, step: usize) -> usize {
+    match outputs(traces, step) {
+        Some(outputs) => outputs.len(),
+        None => 0,
+    }
+}
+
+fn is_output(traces: &Traces, step: usize, place: usize, wanted: Wanted) -> bool {
+    match outputs(traces, step) {
+        Some(outputs) => match outputs.get(place) {
+            Some(output) => goes(output.way(), wanted) && output.bytes() == text(wanted).as_bytes(),
+            None => false,
+        },
+        None => false,
+    }
+}
+
+/// The first line of what is expected that isn't met. All steps and outputs have to be named.
+fn compared(traces: &Traces, all: &[Wanted]) -> End {
+    let mut steps: usize = 0;
+    let mut named: usize = 0;
+    let mut line: usize = 0;
+    for wanted in all {
+        let met = match *wanted {
+            Wanted::Step(node) => {
+                let whole = steps == 0 || count(traces, steps - 1) == named;
+                steps = steps.saturating_add(1);
+                named = 0;
+                whole && is_step(traces, steps - 1, node)
+            }
+            _ => {
+                named = named.saturating_add(1);
+                steps > 0 && is_output(traces, steps - 1, named - 1, *wanted)
+            }
+        };
+        if !met {
+            return End::Wrong(line);
+        }
+        line = line.saturating_add(1);
+    }
+    let whole = steps == 0 || count(traces, steps - 1) == named;
+    if !whole || traces.places().len() != steps {
+        return End::Wrong(line);
+    }
+    End::AsWanted
+}
+
+/// Runs a script on the network, and compares its steps and outputs.
+pub(crate) fn end_of(alloc: Global, script: &[u8], all: &[Wanted]) -> Result<End, Fail> {
+    let tables = read_tables(alloc, TABLES).ok().ok_or("tables")?;
+    let cert = read_cert(alloc, RANKS).ok().ok_or("ranks")?;
+    let Ok(accepted) = check(alloc, &tables, &cert) else {
+        return Err("not accepted".into());
+    };
+    match replay(alloc, &accepted, script) {
+        Ok(traces) => Ok(compared(&traces, all)),
+        Err(fault) => Ok(End::Fault(fault)),
+    }
+}
