@@ -8,8 +8,9 @@ use Rattle.node_machine.specs.Lists as lists
 use Rattle.node_machine.specs.Lists.{Lists, Row, Take, LinkState, is_among, with_up, give_back_to, leaves}
 use Rattle.node_machine.specs.Machine.{packet_borrowed}
 use Rattle.node_machine.specs.Steps.{Progress}
-use Rattle.node_books.specs.Advices.{has_id, packet_acked}
-use Rattle.node_books.specs.Values.{opened, NewAdvice}
+use Rattle.advice_store.specs.Advices.{has_id, packet_acked}
+use Rattle.request_book.specs.Values.{opened}
+use Rattle.node_books.specs.Values.{NewAdvice}
 use Rattle.node_books.specs.declared.effect.Effect.{Effect}
 use Rattle.node_books.specs.declared.effect.Effect.TheVariants as effects
 

@@ -9,3 +9,8 @@ pub record LinksView : Type 0 where
 -- so many puts more are counted
 abbrev pub IsFar : ℕ → List LinkState → Type 0
 IsFar n links = (l : ℕ) → (link_at links l).serial + n ≤ 2 ^ 62
+
+-- on no link was put more often than on all together, and so many puts more are counted
+pub record AreCounted (puts room : ℕ) (links : List LinkState) : Type 0 where
+  pub each : (l : ℕ) → (link_at links l).serial ≤ puts
+  pub few : puts + room ≤ 2 ^ 62

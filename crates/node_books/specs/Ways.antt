@@ -1,37 +1,19 @@
--- Outputs as code keeps them.
-use Rattle.std.specs.Prelude.{ℕ, Bool, false, ◌==◌, List, [], ◌∷◌, ◌++◌, map, Option, Some, None, if◌then◌else◌}
-use Rattle.iso_message.specs.Fields.{Fields}
-use Rattle.iso_message.specs.Groups.{group}
-use Rattle.iso_message.specs.Keys.{identity_of}
+-- What outputs do to the books, as code keeps them.
+use Rattle.std.specs.Prelude.{List, [], ◌∷◌, ◌++◌, map, Option, Some, None}
 use Rattle.iso_message.specs.declared.keys.AdviceId.{AdviceId}
 use Rattle.node_machine.specs.Books.{Stored}
-use Rattle.node_books.specs.Advices.{marked_by}
+use Rattle.advice_store.specs.Advices.{marked_by}
 use Rattle.card_digits.specs.declared.key.Key.{Key}
 use Rattle.node_machine.specs.Lists.{LinkState, Lists, with_put, row_after}
-use Rattle.node_books.specs.Values.{message_of, output_key}
-use Rattle.network_law.specs.Traces.{ReadOutput, Put, Answer, Ask, Post, PutPacket, is_advice_group}
-use Rattle.node_books.specs.declared.output.Way.{Way}
-use Rattle.node_books.specs.declared.output.Way.TheVariants as ways
-
-abbrev pub output_of : Way → Fields → ReadOutput
-output_of (ways.Put l s) m = Put l s m
-output_of ways.Answer m = Answer m
-output_of (ways.Ask a) m = Ask a m
-output_of ways.Post m = Post m
-
--- the identity of an advice
-abbrev pub advice_of : Fields → Option AdviceId
-advice_of m = if is_advice_group (group m.kind) then Some (identity_of m) else None
+use Rattle.request_book.specs.Values.{message_of, output_key}
+use Rattle.network_law.specs.Traces.{ReadOutput, Put}
+use Rattle.request_book.specs.declared.output.Way.{Way}
+use Rattle.request_book.specs.declared.output.Way.TheVariants as ways
+use Rattle.request_book.specs.Ways.{advice_of}
 
 abbrev pub mark_if : Option AdviceId → List Stored → List Stored
 mark_if None store = store
 mark_if (Some id) store = map (marked_by id) store
-
--- it is put on this link
-abbrev pub is_put : ℕ → ReadOutput → Bool
-is_put l (Put k s m) = k == l
-is_put l (PutPacket k s p) = k == l
-is_put l o = false
 
 -- the advice that an output puts
 abbrev pub put_in : ReadOutput → Option AdviceId

@@ -1,33 +1,34 @@
 //! All books of a node.
 ghost use Rattle.std.specs.Prelude.{◌≡◌, ◌+◌, ◌-◌, ◌<◌, ◌≤◌, ◌^◌, suc, [], ◌∷◌, ◌++◌, map, filter, not, OnOk, OnErr, IfOk, length, replicate};
-ghost use Rattle.node_machine.specs.Lists.{row_after, after_output, ask_at, of_key, is_marked, is_among, fresh};
+ghost use Rattle.node_machine.specs.Lists.{row_after, after_output, ask_at, of_key, is_marked, left_marks, is_among, fresh};
 ghost use Rattle.std.specs.Option.{option_copied};
 ghost use Rattle.node_books.specs.Effects.{applied_one, keep_in};
 ghost use Rattle.node_books.specs.Links.{IsFar};
-ghost use Rattle.node_books.specs.Values.{IsUnique};
+ghost use Rattle.request_book.specs.Values.{AreBetween, AreCovered, IsUnique, waits_on};
 ghost use Rattle.net_rows.specs.Network.{Network};
-ghost use Rattle.node_machine.specs.Machine.{load};
+ghost use Rattle.node_machine.specs.Machine.{borrowed_for, is_due, lent_for, load};
+ghost use Rattle.node_machine.specs.Lists as lists;
+ghost use Rattle.network_law.specs.Traces.{added};
 ghost use Rattle.node_machine.specs.Lists.{view};
 ghost use Rattle.std.specs.Prelude.{ℕ, is_some};
 ghost use Rattle.node_books.specs.declared.effect.Effect.TheVariants.{Lent};
 ghost use Rattle.network_law.specs.Traces.{PutPacket};
 ghost use Rattle.std.specs.List.{list_any};
 ghost use Rattle.node_machine.specs.Machine.{was_put};
-ghost use Rattle.node_books.specs.Advices.{has_id};
+ghost use Rattle.advice_store.specs.Advices.{has_id};
 ghost use Rattle.std.specs.Prelude.{vec_len, vec_capacity};
-ghost use Rattle.node_books.specs.Ways.{asks_by, after_way};
+ghost use Rattle.request_book.specs.Ways.{advice_of};
+ghost use Rattle.node_books.specs.Ways.{asks_by, after_way, store_by};
+ghost use Rattle.request_book.specs.Values.{message_of};
 
-use crate::advices::{AdviceStore, KeptAdvice, KeptGrant, StoredItem};
 use crate::effect::{Effect, NewAdvice};
-use crate::lending::{Borrowed, LendingBook, Loan};
 use crate::links::{LinkState, Links};
-use crate::output::{PreparedOutput, Way};
-use crate::pending::{Mark, PendingBook};
-use crate::row::Row;
-use crate::standin::{OwnApproval, StandInBook};
-use card_digits::{DateLabel, Key, LinkNo};
+use advice_store::{AdviceStore, KeptAdvice, KeptGrant, StoredItem};
+use card_digits::{Amount, DateLabel, Key, LinkNo};
 use iso_message::AdviceId;
 use network_law::GrantPacket;
+use request_book::{Mark, PendingBook, PreparedOutput, Row, Span, Way};
+use standin_book::{Borrowed, CardDay, LendingBook, Loan, OwnApproval, StandInBook};
 use std::alloc::{AllocError, Global};
 use std::marker::Model;
 
@@ -67,16 +68,32 @@ fn ask_in(asks: &mut Vec<Key>, way: Way, key: Key)
     }
 }
 
+/// What an output that goes this way does to the store.
+fn mark_in(advices: &mut AdviceStore, way: Way, output: &PreparedOutput)
+    ensures { advices.new ≡ record { store = store_by way (advice_of (message_of output.now)) advices.old.store; known = advices.old.known; room = advices.old.room } }
+{
+    if let Way::Put(_, _) = way {
+        if let Some(id) = output.advice() {
+            advices.mark_put(id);
+        }
+    }
+}
+
 impl Books {
-    /// The books of a new node with so many links.
-    pub fn new(alloc: Global, date: DateLabel, links: usize) -> Result<Books, AllocError>
+    /// The books of a new node with so many links, in a network in which advices are sent again after so many ticks.
+    pub fn new(
+        alloc: Global,
+        date: DateLabel,
+        links: usize,
+        ticks: u16,
+    ) -> Result<Books, AllocError>
         ensures { IfOk result (λ b. b.lists ≡ record { rows = []; marks = []; takes = []; store = []; known = []; loans = []; borrowed = []; links = replicate links fresh; asks = []; date = date; count = 0 }) }
     {
         let links = Links::new(alloc, links)?;
         Ok(Books {
             pending: PendingBook::new(alloc),
             standin: StandInBook::new(alloc),
-            advices: AdviceStore::new(alloc),
+            advices: AdviceStore::new(alloc, ticks)?,
             lending: LendingBook::new(alloc),
             links,
             asks: Vec::new(alloc),
@@ -154,12 +171,27 @@ impl Books {
         self.pending.rows()
     }
 
+    /// The places of the pending requests that were put on a link, in no order.
+    pub fn put_on(&self, link: LinkNo) -> Result<Vec<usize>, AllocError>
+        ensures { IfOk result (λ places. AreCovered (waits_on link) self.now.lists.rows places.items) }
+    {
+        self.pending.put_on(link)
+    }
+
+    /// From where to where the requests stand that were opened at this count.
+    pub fn opened_at(&self, count: u64) -> Span
+        ensures between { AreBetween count self.now.lists.rows result.start result.end }
+        ensures few { result.end ≤ length self.now.lists.rows }
+    {
+        self.pending.opened_at(count)
+    }
+
     /// The places taken: one by each stored advice and grant, two by each pending request.
     pub fn load(&self) -> u128
         ensures { (t : Network) (n : ℕ) → result ≡ load (view t n self.now.lists) }
     {
         let _ = self.pending.rows();
-        self.advices.items().len() as u128 + 2 * self.pending.open_count() as u128
+        self.advices.len() as u128 + 2 * self.pending.open_count() as u128
     }
 
     /// The keys of which a reversal was accepted, the oldest first.
@@ -174,6 +206,13 @@ impl Books {
         ensures { result ≡ is_marked key self.now.lists.marks }
     {
         self.pending.is_marked(key)
+    }
+
+    /// What the accepted reversals leave of an amount that a key took.
+    pub fn left_of(&self, key: Key, amount: Amount) -> Amount
+        ensures { result ≡ left_marks key self.now.lists.marks amount }
+    {
+        self.pending.left_of(key, amount)
     }
 
     /// Whether an advice of this identity was made or accepted.
@@ -197,17 +236,42 @@ impl Books {
         self.advices.was_put(id)
     }
 
-    /// What waits for its acknowledgement, the oldest first.
-    pub fn stored(&self) -> &[StoredItem]
-        ensures { result.now ≡ self.now.lists.store }
+    /// Copies of what is sent again at a count of ticks, the oldest first. It looks at that alone, and at what was acknowledged since
+    /// its last turn.
+    pub fn due(&self, ticks: u16, now: u64) -> Result<Vec<StoredItem>, AllocError>
+        ensures { IfOk result (λ v. v.items ≡ filter (is_due ticks now) self.now.lists.store) }
     {
-        self.advices.items()
+        self.advices.due(ticks, now)
     }
 
     pub fn takes(&self) -> &[OwnApproval]
         ensures { result.now ≡ self.now.lists.takes }
     {
         self.standin.takes()
+    }
+
+    /// What own approvals of a card and a settlement date count for. One look-up.
+    pub fn used(&self, day: &CardDay) -> u128
+        ensures used { result ≡ lists.used self.now.lists.takes day.now.card day.now.date }
+        ensures bound { result < 2 ^ 104 }
+    {
+        self.standin.used(day)
+    }
+
+    /// What was lent of a card and a settlement date. One look-up.
+    pub fn lent_sum(&self, day: &CardDay) -> u128
+        ensures lent { result ≡ added (lent_for day.now.card day.now.date) self.now.lists.loans }
+        ensures bound { result < 2 ^ 104 }
+    {
+        self.lending.lent(day)
+    }
+
+    /// What was borrowed of a card and a settlement date. One look-up.
+    pub fn borrowed_sum(&self, day: &CardDay) -> u128
+        ensures borrowed { result ≡ added (borrowed_for day.now.card day.now.date) self.now.lists.borrowed }
+        ensures bound { result < 2 ^ 104 }
+    {
+        self.lending.borrowed_sum(day)
     }
 
     pub fn loans(&self) -> &[Loan]
@@ -252,14 +316,14 @@ impl Books {
     {
         let key = output.key();
         self.links.after(output.way());
-        self.advices.after(output.way(), &output);
+        mark_in(&mut self.advices, output.way(), &output);
         ask_in(&mut self.asks, output.way(), key);
         self.pending.after(output);
         self.room -= 1;
     }
 
     /// An advice was made or accepted.
-    #[tactic(auto, using(crate::proofs::Codes::id_key))]
+    #[tactic(auto, using(request_book::proofs::Codes::id_key))]
     fn keep(&mut self, advice: NewAdvice)
         requires { 0 < self.old.room }
         ensures { self.new ≡ record { lists = keep_in advice self.old.lists; room = self.old.room - 1 } }
@@ -331,6 +395,7 @@ impl Books {
                 self.room -= 1;
             }
             Effect::LinkIs(link, up) => {
+                self.pending.prune(link);
                 self.links.set_up(link, up);
                 self.room -= 1;
             }
@@ -340,6 +405,7 @@ impl Books {
             }
             Effect::Ticked => {
                 self.count += 1;
+                self.advices.tick(self.count);
                 self.room -= 1;
             }
             Effect::PacketSent(link, serial, packet) => self.send_packet(link, serial, packet),

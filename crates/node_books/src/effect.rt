@@ -4,13 +4,12 @@ ghost use Rattle.iso_message.specs.Keys.{identity_of};
 ghost use Rattle.node_machine.specs.Lists.{leaves};
 ghost use Rattle.node_books.specs.Values.{leaves_of};
 
-use crate::advices::KeptGrant;
-use crate::output::{PreparedOutput, same_key};
-use crate::row::Row;
-use crate::standin::OwnApproval;
+use advice_store::KeptGrant;
 use card_digits::{Amount, DateLabel, Key, LinkNo};
 use iso_message::{AdviceId, Message};
 use network_law::GrantPacket;
+use request_book::{PreparedOutput, Row, same_key};
+use standin_book::OwnApproval;
 use std::marker::Model;
 
 /// An advice that was made here, or accepted.
@@ -108,7 +107,7 @@ impl NewAdvice {
     }
 
     /// The actual amount of a reversal of this key that was accepted.
-    #[tactic(auto, using(crate::proofs::Codes::id_key))]
+    #[tactic(auto, using(request_book::proofs::Codes::id_key))]
     pub fn leaves(&self, key: Key) -> Option<Amount>
         ensures { result ≡ leaves_of key self.now }
     {

@@ -4,8 +4,8 @@ ghost use Rattle.node_machine.specs.Lists.{link_at, with_up, with_put, fresh};
 ghost use Rattle.node_books.specs.Links.{IsFar};
 ghost use Rattle.node_books.specs.Ways.{links_by};
 
-use crate::output::Way;
 use card_digits::LinkNo;
+use request_book::Way;
 use std::alloc::{AllocError, Global};
 use std::marker::Model;
 
@@ -55,17 +55,19 @@ impl LinkState {
 #[derive(Drop)]
 pub struct Links {
     states: Vec<LinkState>,
+    // How often the node put on any of them.
+    puts: u64,
     room: usize,
 }
 
 impl Model for Links {
-    ghost use Rattle.node_books.specs.Links.{LinksView, IsFar};
+    ghost use Rattle.node_books.specs.Links.{LinksView, AreCounted};
 
     ghost Value = { LinksView };
 
     ghost view = { λ b. record { links = b.states.items; room = b.room } };
 
-    ghost invariant = { λ b. IsFar b.room b.states.items };
+    ghost invariant = { λ b. AreCounted b.puts b.room b.states.items };
 }
 
 #[tactic(auto, using(crate::proofs::Fresh::fresh_more))]
@@ -101,28 +103,18 @@ fn put_on(links: &mut [LinkState], l: LinkNo)
     }
 }
 
-fn is_far(links: &[LinkState], n: usize) -> bool
-    ensures { IsTrue result → IsFar n links.now }
-{
-    if n >= 1 << 61 {
-        return false;
-    }
-    for state in links {
-        if state.serial() >= 1 << 61 {
-            return false;
-        }
-    }
-    true
-}
-
 impl Links {
     /// Links that are up, and on which nothing was put.
-    #[tactic(auto, using(crate::proofs::Fresh::far_fresh))]
+    #[tactic(auto, using(crate::proofs::Fresh::counted_fresh))]
     pub fn new(alloc: Global, n: usize) -> Result<Links, AllocError>
         ensures { IfOk result (λ b. b ≡ record { links = replicate n fresh; room = 0 }) }
     {
         let states = fresh_links(alloc, n)?;
-        Ok(Links { states, room: 0 })
+        Ok(Links {
+            states,
+            puts: 0,
+            room: 0,
+        })
     }
 
     /// The next n puts are counted.
@@ -130,24 +122,27 @@ impl Links {
         ensures links { self.new.links ≡ self.old.links }
         ensures ok { OnOk result (self.new.room ≡ n) }
     {
-        if !is_far(self.states.as_slice(), n) {
+        if n >= 1 << 61 || self.puts >= 1 << 61 {
             return Err(AllocError);
         }
         self.room = n;
         Ok(())
     }
 
+    #[tactic(auto, using(crate::proofs::Fresh::counted_up))]
     pub fn set_up(&mut self, l: LinkNo, up: bool)
         ensures { self.new ≡ record { links = with_up l up self.old.links; room = self.old.room } }
     {
         set_up(self.states.as_mut_slice(), l, up);
     }
 
+    #[tactic(auto, using(crate::proofs::Fresh::counted_put, crate::proofs::Fresh::counted_serial))]
     pub fn put(&mut self, l: LinkNo)
         requires { 0 < self.old.room }
         ensures { self.new ≡ record { links = with_put l self.old.links; room = self.old.room - 1 } }
     {
         put_on(self.states.as_mut_slice(), l);
+        self.puts += 1;
         self.room -= 1;
     }
 
@@ -163,6 +158,7 @@ impl Links {
     }
 
     /// The links by their numbers, on none of which more than 2^62 messages were put.
+    #[tactic(auto, using(crate::proofs::Fresh::counted_far))]
     pub fn states(&self) -> &[LinkState]
         ensures states { result.now ≡ self.now.links }
         ensures few { IsFar 0 result.now }

@@ -6,10 +6,9 @@ ghost use Rattle.node_machine.specs.Machine.{allowance, may_not_lend};
 ghost use Rattle.network_law.specs.Traces.{added};
 ghost use Rattle.node_machine.specs.Machine.{lent_for, borrowed_for};
 
-use crate::sums::total;
 use card_digits::{Amount, Card, DateLabel, NodeNo};
 use net_rows::Tables;
-use node_books::Books;
+use node_books::{Books, CardDay};
 use step_rules::{are_linked, day, is_named};
 
 /// What the node's own approvals use for a card and a settlement date.
@@ -17,7 +16,7 @@ pub fn used(books: &Books, card: &Card, date: &DateLabel) -> u128
     ensures used { result ≡ lists.used books.now.lists.takes card.now date.now }
     ensures bound { result < 2 ^ 104 }
 {
-    total(books.takes(), card.digits(), date.digits())
+    books.used(&CardDay::of(card, date))
 }
 
 /// What the node lent of a card and a settlement date.
@@ -25,7 +24,7 @@ pub fn lent(books: &Books, card: &Card, date: &DateLabel) -> u128
     ensures lent { result ≡ added (lent_for card.now date.now) books.now.lists.loans }
     ensures bound { result < 2 ^ 104 }
 {
-    total(books.loans(), card.digits(), date.digits())
+    books.lent_sum(&CardDay::of(card, date))
 }
 
 /// What the node borrowed of a card and a settlement date.
@@ -33,7 +32,7 @@ pub fn borrowed(books: &Books, card: &Card, date: &DateLabel) -> u128
     ensures borrowed { result ≡ added (borrowed_for card.now date.now) books.now.lists.borrowed }
     ensures bound { result < 2 ^ 104 }
 {
-    total(books.borrowed(), card.digits(), date.digits())
+    books.borrowed_sum(&CardDay::of(card, date))
 }
 
 /// The node's allowance of a card and a settlement date: its day limit and what it borrowed, less what it lent.

@@ -5,7 +5,6 @@ mod lending;
 mod places;
 mod readings;
 mod refusals;
-mod sums;
 
 pub use lending::{allowance, borrowed, lent, may_not_lend, used};
 pub use places::PLACES;
@@ -13,4 +12,3 @@ pub use readings::{
     comes_late, is_pending, is_reversing, other_content, own_reversal, same_source,
 };
 pub use refusals::{refuse_entered, refuse_host_answer, refuse_lend, refuse_packet, refuse_taken};
-pub use sums::{Counted, total};

@@ -2,7 +2,7 @@
 ghost use Rattle.std.specs.Prelude.{◌≡◌};
 ghost use Rattle.network_law.specs.Decision.{same_source};
 ghost use Rattle.network_law.specs.Traces.{code_is_not_00};
-ghost use Rattle.node_books.specs.Values.{source_of};
+ghost use Rattle.request_book.specs.Values.{source_of};
 ghost use Rattle.node_machine.specs.Lists.{own_reversal, view};
 ghost use Rattle.node_machine.specs.Machine.{comes_late, other_content};
 ghost use Rattle.step_refusals.specs.Keyed.{is_pending_at, request_at};
@@ -10,7 +10,8 @@ ghost use Rattle.step_refusals.specs.Keyed.{is_pending_at, request_at};
 use card_digits::{Key, LinkNo, NodeNo};
 use iso_message::{AdviceId, AdviceKind, Message, same_content};
 use net_rows::Tables;
-use node_books::{Books, Row};
+use node_books::Books;
+use request_book::Row;
 use step_rules::{is_approval, padded_node_id};
 
 /// Whether two messages came by the same way: both by the gate, or by one link.

@@ -5,7 +5,7 @@ use Rattle.iso_message.specs.declared.kind.Kind.{Kind}
 use Rattle.iso_message.specs.declared.kind.Kind.TheVariants.{K0100, K0101, K0110, K0120, K0121, K0130, K0400, K0401, K0410, K0420, K0421, K0430}
 use Rattle.iso_message.specs.declared.kind.Group.TheVariants as groups
 use Rattle.iso_message.specs.declared.keys.AdviceId.{AdviceId}
-use Rattle.node_books.specs.Advices.{has_id}
+use Rattle.advice_store.specs.Advices.{has_id}
 use Rattle.std.specs.Option.{option_and_then}
 use Rattle.card_digits.specs.declared.key.Key.{Key}
 use Rattle.iso_message.specs.Fields.{Fields}

@@ -4,6 +4,7 @@ pub mod SoFar
 pub mod Messages
 pub mod Quiet
 pub mod Parts
+pub mod FailingPlaces
 pub mod Few
 pub mod Takings
 pub mod Requested

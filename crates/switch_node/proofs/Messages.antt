@@ -25,7 +25,7 @@ use Rattle.network_law.proofs.Provenance.{as_kind_key}
 use Rattle.network_law.proofs.Node.{response_is_of_kind}
 use Rattle.network_law.proofs.Elements.{own_key_response, el_response, made_reversal_key, reversal_kind, made_base}
 use Rattle.network_law.proofs.AdviceMarks.{made_stand_in_key, as_kind_identity, kept_alike, reversal_reverses, stand_in_stands, identity_key}
-use Rattle.node_books.specs.Values.{IsKeyOf}
+use Rattle.request_book.specs.Values.{IsKeyOf}
 
 -- responses
 

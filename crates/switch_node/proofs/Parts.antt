@@ -25,7 +25,8 @@ use Rattle.node_machine.specs.Steps.{Progress}
 use Rattle.node_books.specs.Effects.{Drafted, progress, with_effect}
 use Rattle.node_machine.proofs.Readings.{failing_is}
 use Rattle.node_books.proofs.Loads.{one_row}
-use Rattle.node_books.specs.Values.{NewAdvice, IsUnique}
+use Rattle.request_book.specs.Values.{IsUnique}
+use Rattle.node_books.specs.Values.{NewAdvice}
 use Rattle.node_books.specs.declared.effect.Effect.TheVariants as effects
 use Rattle.switch_node.specs.Failures.{head_key, fail_next}
 use Rattle.switch_node.specs.Used.{IsQuiet}

@@ -17,8 +17,9 @@ use Rattle.node_machine.specs.Lists.{Row, Lists, of_key, row_key, row_link, row_
 use Rattle.node_machine.proofs.Views.{found_after, found_more}
 use Rattle.node_books.specs.declared.effect.Effect.{Effect}
 use Rattle.node_books.specs.declared.effect.Effect.TheVariants as effects
-use Rattle.node_books.specs.Advices.{has_id, packet_acked}
-use Rattle.node_books.specs.Values.{opened, NewAdvice}
+use Rattle.advice_store.specs.Advices.{has_id, packet_acked}
+use Rattle.request_book.specs.Values.{opened}
+use Rattle.node_books.specs.Values.{NewAdvice}
 use Rattle.node_books.specs.Effects.{applied, applied_one, keep_in}
 use Rattle.switch_node.specs.SoFar.{Forwarding, forwarding, forward_step, forward_from, AdviceState, advice_state, advice_step, advice_from, count_step, count_from}
 

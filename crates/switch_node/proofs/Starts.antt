@@ -12,7 +12,7 @@ use Rattle.node_machine.specs.Machine.{refuse}
 use Rattle.node_machine.specs.Lists.{Lists, view, ask_at}
 use Rattle.network_law.specs.declared.grant.Grant.{Grant}
 use Rattle.network_law.specs.declared.grant.GrantPacket.{GrantPacket}
-use Rattle.node_books.specs.Advices.{packet_acked}
+use Rattle.advice_store.specs.Advices.{packet_acked}
 use Rattle.node_machine.specs.Steps as steps
 use Rattle.node_books.specs.Effects.{Drafted, progress, with_effect}
 use Rattle.node_books.specs.declared.effect.Effect.{Effect}

@@ -5,4 +5,3 @@ pub mod SoFar
 pub mod Used
 pub mod Failures
 pub mod Coming
-pub mod Sends

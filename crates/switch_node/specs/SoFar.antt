@@ -13,8 +13,8 @@ use Rattle.node_machine.specs.Machine.{was_put, is_number_of}
 use Rattle.node_machine.specs.Lists.{Row, LinkState, Lists, of_key, row_key, row_link, is_among, forget}
 use Rattle.node_books.specs.declared.effect.Effect.{Effect}
 use Rattle.node_books.specs.declared.effect.Effect.TheVariants as effects
-use Rattle.node_books.specs.Advices.{has_id}
-use Rattle.node_books.specs.Ways.{is_put}
+use Rattle.advice_store.specs.Advices.{has_id}
+use Rattle.request_book.specs.Ways.{is_put}
 
 -- links
 

@@ -6,7 +6,7 @@ ghost use Rattle.iso_message.specs.Keys.{identity_of};
 ghost use Rattle.iso_message.specs.Made.{made_reversal, made_stand_in};
 ghost use Rattle.network_law.specs.Tables.{node_id};
 ghost use Rattle.network_law.specs.Traces.{is_advice_group, as_kept};
-ghost use Rattle.node_books.specs.Values.{IsKeyOf};
+ghost use Rattle.request_book.specs.Values.{IsKeyOf};
 
 use card_digits::{Key, NodeNo};
 use iso_message::{AdviceId, AdviceKind, Kind, Message};

@@ -8,7 +8,7 @@ ghost use Rattle.network_law.specs.Tables.{node_id};
 ghost use Rattle.node_machine.specs.Lists.{view};
 ghost use Rattle.node_machine.specs.Steps.{keep, on_answer, on_code, on_host, store};
 ghost use Rattle.node_books.specs.Effects.{progress};
-ghost use Rattle.node_books.specs.Values.{IsKeyOf, source_of};
+ghost use Rattle.request_book.specs.Values.{IsKeyOf, source_of};
 
 use crate::advice::Advice;
 use crate::draft::Draft;

@@ -11,7 +11,8 @@ use crate::output::Output;
 use card_digits::LinkNo;
 use iso_message::encode;
 use network_law::{GrantPacket, packet_bytes};
-use node_books::{Books, Effect, PreparedOutput, Way};
+use node_books::{Books, Effect};
+use request_book::{PreparedOutput, Way};
 use std::alloc::{AllocError, Global};
 use std::marker::Model;
 use std::mem::replace;
@@ -91,14 +92,14 @@ impl Draft {
         ensures emitted { OnOk result (progress self.new ≡ emit output (progress self.old)) }
         ensures err { OnErr result (self.new ≡ self.old) }
     {
-        let first = spelled(self.alloc, &output)?;
-        let second = spelled(self.alloc, &output)?;
+        let lent = spelled(self.alloc, &output)?;
+        let kept = lent.copy()?;
         self.effects.reserve(1)?;
         self.outs.reserve(1)?;
         self.lent.reserve(1)?;
         self.effects.push_reserved(Effect::Sent(output));
-        self.outs.push_reserved(first);
-        self.lent.push_reserved(second);
+        self.outs.push_reserved(kept);
+        self.lent.push_reserved(lent);
         Ok(())
     }
 
@@ -113,15 +114,15 @@ impl Draft {
         ensures base { self.new.base ≡ self.old.base }
         ensures emitted { OnOk result (progress self.new ≡ emit (PutPacket link serial packet) (progress self.old)) }
     {
-        let first = spelled_packet(self.alloc, link, serial, &packet)?;
-        let second = spelled_packet(self.alloc, link, serial, &packet)?;
+        let lent = spelled_packet(self.alloc, link, serial, &packet)?;
+        let kept = lent.copy()?;
         self.effects.reserve(1)?;
         self.outs.reserve(1)?;
         self.lent.reserve(1)?;
         self.effects
             .push_reserved(Effect::PacketSent(link, serial, packet));
-        self.outs.push_reserved(first);
-        self.lent.push_reserved(second);
+        self.outs.push_reserved(kept);
+        self.lent.push_reserved(lent);
         Ok(())
     }
 
@@ -146,7 +147,9 @@ impl Draft {
         self.books.reserve(self.effects.len())?;
         let effects = replace(&mut self.effects, Vec::new(self.alloc));
         apply_all(&mut self.books, effects);
-        let outs = replace(&mut self.outs, Vec::new(self.alloc));
+        let mut outs = replace(&mut self.outs, Vec::new(self.alloc));
+        // The trace keeps them, and most entries have one output.
+        outs.shrink_to_fit();
         let lent = replace(&mut self.lent, Vec::new(self.alloc));
         Ok((outs, lent))
     }

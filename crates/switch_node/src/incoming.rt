@@ -13,7 +13,7 @@ ghost use Rattle.network_law.specs.Traces.{ByLink, Enter, Take, is_ack, dated, i
 ghost use Rattle.node_machine.specs.Lists.{LeftAsMarked, of_key, row_link, view};
 ghost use Rattle.node_machine.specs.Steps.{on_advice, on_answer, on_group, on_request, on_reversal, step};
 ghost use Rattle.node_books.specs.Effects.{progress};
-ghost use Rattle.node_books.specs.Values.{IsKeyOf, source_of};
+ghost use Rattle.request_book.specs.Values.{IsKeyOf, source_of};
 ghost use Rattle.switch_node.specs.Used.{IsQuiet};
 ghost use Rattle.switch_node.specs.Coming.{opened_start, is_complete};
 
@@ -21,7 +21,8 @@ use crate::draft::Draft;
 use card_digits::{Key, LinkNo, NodeNo};
 use iso_message::{AdviceId, Code, DecodeFault, Group, Message, advice_id, code_of, key_of};
 use net_rows::Tables;
-use node_books::{Effect, Row, is_request};
+use node_books::Effect;
+use request_book::{Row, is_request};
 use std::alloc::AllocError;
 use step_rules::is_approval;
 

@@ -5,6 +5,7 @@ mod advice;
 mod answers;
 mod digits;
 mod draft;
+mod failing;
 mod incoming;
 mod input;
 mod inputs;

@@ -48,7 +48,9 @@ impl<'a> Node<'a> {
         ensures { IfOk result (λ a. (a.t ≡ accepted.now) × (a.n ≡ node) × (a.trace ≡ [])) }
     {
         let tables = accepted.tables();
-        let books = Books::new(alloc, tables.settings().date, tables.links().len())?;
+        let settings = tables.settings();
+        let ticks = settings.advice_ticks;
+        let books = Books::new(alloc, settings.date, tables.links().len(), ticks)?;
         Ok(Node {
             tables,
             node,

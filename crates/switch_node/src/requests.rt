@@ -18,7 +18,7 @@ ghost use Rattle.std.specs.Prelude.{◌&&◌};
 ghost use Rattle.iso_message.specs.Made.{response};
 ghost use Rattle.std.specs.Prelude.{false};
 ghost use Rattle.node_books.specs.Effects.{progress};
-ghost use Rattle.node_books.specs.Values.{IsAnswerOf, IsKeyOf, source_of};
+ghost use Rattle.request_book.specs.Values.{IsAnswerOf, IsKeyOf, source_of};
 ghost use Rattle.switch_node.specs.Used.{IsQuiet};
 ghost use Rattle.node_machine.specs.Lists.{link_at};
 
@@ -26,7 +26,8 @@ use crate::draft::Draft;
 use card_digits::{Key, LinkNo, NodeNo};
 use iso_message::{Code, Kind, Message, same_content};
 use net_rows::Tables;
-use node_books::{Books, PreparedOutput, Row, Way};
+use node_books::Books;
+use request_book::{PreparedOutput, Row, Way};
 use std::alloc::AllocError;
 use step_refusals::{PLACES, same_source};
 use step_rules::{has_good_card, is_home, issuer_of, route_links};

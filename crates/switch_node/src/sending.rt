@@ -8,14 +8,15 @@ ghost use Rattle.network_law.specs.Traces.{is_advice_group, Post};
 ghost use Rattle.node_machine.specs.Lists.{view, leaves};
 ghost use Rattle.node_machine.specs.Steps.{emit, keep, is_sent, put_on, reply, send, store};
 ghost use Rattle.node_books.specs.Effects.{progress};
-ghost use Rattle.node_books.specs.Values.{source_of};
+ghost use Rattle.request_book.specs.Values.{source_of};
 
 use crate::advice::Advice;
 use crate::draft::Draft;
 use card_digits::{Amount, Key, LinkNo, NodeNo};
 use iso_message::{AdviceId, Code, Message};
 use net_rows::Tables;
-use node_books::{Effect, NewAdvice, PreparedOutput, Way};
+use node_books::{Effect, NewAdvice};
+use request_book::{PreparedOutput, Way};
 use std::alloc::AllocError;
 use step_rules::{is_at_home, sent_kind};
 

@@ -13,7 +13,8 @@ use crate::draft::Draft;
 use card_digits::{Key, LinkNo, NodeNo};
 use iso_message::{AdviceId, Kind, Message};
 use net_rows::Tables;
-use node_books::{Effect, same_identity, same_key};
+use node_books::Effect;
+use request_book::{same_identity, same_key};
 use step_rules::{LinkStates, first_up, route_links};
 
 /// Whether a link is up after the changes, and its last serial.

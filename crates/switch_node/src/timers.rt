@@ -1,22 +1,22 @@
 //! What ticks and links that go down do.
-ghost use Rattle.std.specs.Prelude.{◌≡◌, ◌≤◌, ◌<◌, ◌+◌, ◌==◌, ◌^◌, OnOk, length, drop, suc};
+ghost use Rattle.std.specs.Prelude.{◌≡◌, ◌≤◌, ◌<◌, ◌+◌, ◌==◌, ◌^◌, IfOk, OnOk, length, drop, suc};
 ghost use Rattle.network_law.specs.Traces.{LinkDown, Tick};
 ghost use Rattle.node_machine.specs.Lists.{LeftAsMarked, row_fails, view};
-ghost use Rattle.node_machine.specs.Machine.{due, failing, is_due};
-ghost use Rattle.node_machine.specs.Steps.{fail_all, send_all, send_grant};
-ghost use Rattle.switch_node.specs.Sends.{head_due, send_next};
+ghost use Rattle.node_machine.specs.Machine.{due, failing};
+ghost use Rattle.node_machine.specs.Steps.{fail_all, send_all, send_due, send_grant};
 ghost use Rattle.node_books.specs.Effects.{progress};
 ghost use Rattle.switch_node.specs.Used.{IsQuiet};
-ghost use Rattle.switch_node.specs.Failures.{cause_of, fail_next, head_key};
-ghost use Rattle.node_books.specs.Values.{IsUnique};
+ghost use Rattle.switch_node.specs.Failures.{cause_of, fail_next, head_key, key_from, next_from};
+ghost use Rattle.request_book.specs.Values.{IsUnique};
 
 use crate::draft::Draft;
 use card_digits::{Key, LinkNo, NodeNo};
 use net_rows::Tables;
 use network_law::{Grant, GrantPacket};
-use node_books::{Row, StoredCase, StoredItem};
+use node_books::{StoredCase, StoredItem};
+use request_book::Row;
 use std::alloc::AllocError;
-use step_rules::{first_up_between, is_due_again, ticks_by};
+use step_rules::{first_up_between, ticks_by};
 
 /// What makes pending requests fail.
 #[derive(Drop)]
@@ -36,7 +36,7 @@ fn is_over(now: u64, count: u64, ticks: u16) -> bool
 }
 
 /// Whether a request fails.
-fn row_fails(tables: &Tables, count: u64, cause: &Cause, row: &Row) -> bool
+pub(crate) fn row_fails(tables: &Tables, count: u64, cause: &Cause, row: &Row) -> bool
     requires { count ≤ 2 ^ 62 }
     ensures { result ≡ row_fails tables.now count (cause_of cause.now) row.now }
 {
@@ -52,16 +52,6 @@ fn row_fails(tables: &Tables, count: u64, cause: &Cause, row: &Row) -> bool
             Some(ticks) => is_over(count + 1, row.count(), ticks),
             None => false,
         },
-    }
-}
-
-/// Whether an advice or a grant is sent again.
-fn is_due(ticks: u16, now: u64, item: &StoredItem) -> bool
-    ensures { result ≡ is_due ticks now item.now }
-{
-    match item.case() {
-        StoredCase::Advice(advice) => is_due_again(ticks, now, advice.count()),
-        StoredCase::Grant(grant) => is_due_again(ticks, now, grant.count()),
     }
 }
 
@@ -100,6 +90,29 @@ impl Draft {
         }
     }
 
+    /// The request at this place fails, if it does and stands among those that are left; and from where on they are left then.
+    fn fail_from(
+        &mut self,
+        tables: &Tables,
+        node: NodeNo,
+        cause: &Cause,
+        from: usize,
+        place: usize,
+    ) -> Result<usize, AllocError>
+        requires quiet { IsQuiet self.old.base (progress self.old).lists }
+        requires left { LeftAsMarked self.old.base.marks self.old.base.takes }
+        ensures base { self.new.base ≡ self.old.base }
+        ensures next { IfOk result (λ next. next ≡ next_from from place (length self.old.base.rows)) }
+        ensures ok { OnOk result (progress self.new ≡ fail_next tables.now node (view tables.now node self.old.base) (key_from (row_fails tables.now self.old.base.count (cause_of cause.now)) from place self.old.base.rows) (progress self.old)) }
+    {
+        if from <= place && place < self.row_count() {
+            self.fail_at(tables, node, cause, place)?;
+            Ok(place + 1)
+        } else {
+            Ok(from)
+        }
+    }
+
     /// The requests that fail do so one after another, in the order in which they came.
     pub(crate) fn fail_all(
         &mut self,
@@ -112,8 +125,11 @@ impl Draft {
         ensures base { self.new.base ≡ self.old.base }
         ensures ok { OnOk result (progress self.new ≡ fail_all tables.now node (view tables.now node self.old.base) (failing tables.now (view tables.now node self.old.base) (cause_of cause.now)) (progress self.old)) }
     {
-        for place in 0..self.row_count() {
-            self.fail_at(tables, node, cause, place)?;
+        let places = self.failing_places(tables, cause)?;
+        let _ = self.row_count();
+        let mut from = 0;
+        for i in 0..places.len() {
+            from = self.fail_from(tables, node, cause, from, places[i])?;
         }
         Ok(())
     }
@@ -146,22 +162,20 @@ impl Draft {
         }
     }
 
-    /// What is stored at this place is sent again, if it is due.
-    #[tactic(auto, using(crate::proofs::Sends::item_not_due, crate::proofs::Sends::item_due))]
-    fn send_at(&mut self, tables: &Tables, node: NodeNo, place: usize) -> Result<(), AllocError>
-        requires { place < length self.old.base.store }
+    /// What was stored is sent again.
+    fn send_item(
+        &mut self,
+        tables: &Tables,
+        node: NodeNo,
+        item: StoredItem,
+    ) -> Result<(), AllocError>
         ensures base { self.new.base ≡ self.old.base }
-        ensures ok { OnOk result (progress self.new ≡ send_next tables.now node (head_due (is_due tables.now.settings.advice_ticks (suc self.old.base.count)) (drop place self.old.base.store)) (progress self.old)) }
+        ensures ok { OnOk result (progress self.new ≡ send_due tables.now node item (progress self.old)) }
     {
-        let now = self.books.count() + 1;
-        let item = &self.books.stored()[place];
-        if !is_due(tables.settings().advice_ticks, now, item) {
-            return Ok(());
-        }
-        match item.case() {
+        match item.into_case() {
             StoredCase::Advice(advice) => {
                 let id = advice.id();
-                let message = advice.message().copy()?;
+                let message = advice.into_message();
                 self.send_message(tables, node, id, message)
             }
             StoredCase::Grant(grant) => {
@@ -172,12 +186,6 @@ impl Draft {
         }
     }
 
-    fn stored_count(&self) -> usize
-        ensures { result ≡ length self.now.base.store }
-    {
-        self.books.stored().len()
-    }
-
     /// What is stored and due is sent again, in the order in which it was stored.
     pub(crate) fn send_all(&mut self, tables: &Tables, node: NodeNo) -> Result<(), AllocError>
         requires { IsQuiet self.old.base (progress self.old).lists }
@@ -185,8 +193,10 @@ impl Draft {
         ensures quiet { OnOk result (IsQuiet self.old.base (progress self.new).lists) }
         ensures ok { OnOk result (progress self.new ≡ send_all tables.now node (due tables.now (view tables.now node self.old.base)) (progress self.old)) }
     {
-        for place in 0..self.stored_count() {
-            self.send_at(tables, node, place)?;
+        let now = self.books.count() + 1;
+        let items = self.books.due(tables.settings().advice_ticks, now)?;
+        for item in items {
+            self.send_item(tables, node, item)?;
         }
         Ok(())
     }

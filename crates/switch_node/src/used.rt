@@ -4,7 +4,7 @@ ghost use Rattle.net_rows.specs.Network.{Network};
 ghost use Rattle.network_law.specs.Cards.{card_of, label_of};
 ghost use Rattle.network_law.specs.Traces.{added};
 ghost use Rattle.node_machine.specs.Books.{Taken};
-ghost use Rattle.node_machine.specs.Lists.{LeftAsMarked, forget, left_marks, view};
+ghost use Rattle.node_machine.specs.Lists.{LeftAsMarked, forget, view};
 ghost use Rattle.node_machine.specs.Machine.{limit, standin_code, used};
 ghost use Rattle.node_books.specs.Effects.{progress};
 ghost use Rattle.switch_node.specs.SoFar.{approved_in};
@@ -12,60 +12,61 @@ ghost use Rattle.switch_node.specs.Used.{IsQuiet, counted_by};
 
 use crate::digits::{card_number, date_label};
 use crate::draft::Draft;
-use card_digits::{Amount, Key, NodeNo};
+use card_digits::{Amount, NodeNo};
 use iso_message::{Code, Message};
 use net_rows::Tables;
-use node_books::{Effect, Mark, OwnApproval, same_key};
-use step_refusals::total;
+use node_books::{Books, CardDay, Effect, OwnApproval};
 use step_rules::{Limits, single, stand_in_of};
 
-/// What is left of an amount that a key took.
-fn left_by(marks: &[Mark], key: Key, amount: Amount) -> Amount
-    ensures { result ≡ left_marks key marks.now amount }
-{
-    let mut left = amount;
-    for mark in marks {
-        if same_key(mark.key(), key) && mark.actual().value() < left.value() {
-            left = mark.actual();
-        }
-    }
-    left
-}
-
 /// What an own approval counts for.
-fn counted_by(marks: &[Mark], card: &[u8], date: &[u8], approval: &OwnApproval) -> Amount
-    ensures { result ≡ counted_by marks.now card.now date.now (forget approval.now) }
+fn counted_by(books: &Books, card: &[u8], date: &[u8], approval: &OwnApproval) -> Amount
+    ensures { result ≡ counted_by books.now.lists.marks card.now date.now (forget approval.now) }
 {
     if approval.card() == card && approval.date() == date {
-        left_by(marks, approval.key(), approval.amount())
+        books.left_of(approval.key(), approval.amount())
     } else {
         Amount::new(0)
     }
 }
 
 /// What the own approvals among the changes count for.
-fn approved_total(effects: &[Effect], marks: &[Mark], card: &[u8], date: &[u8]) -> u128
-    ensures sum { result ≡ added (counted_by marks.now card.now date.now) (approved_in effects.now) }
+fn approved_total(effects: &[Effect], books: &Books, card: &[u8], date: &[u8]) -> u128
+    ensures sum { result ≡ added (counted_by books.now.lists.marks card.now date.now) (approved_in effects.now) }
     ensures bound { result < 2 ^ 104 }
 {
     let mut sum = 0u128;
     for effect in effects {
         if let Effect::Approved(approval) = effect {
-            sum += counted_by(marks, card, date, approval).value() as u128;
+            sum += counted_by(books, card, date, approval).value() as u128;
         }
     }
     sum
 }
 
+/// The card number and the settlement date of a message.
+fn card_day(message: &Message) -> CardDay
+    ensures { result ≡ record { card = card_of message.now; date = label_of message.now } }
+{
+    CardDay {
+        card: card_number(message),
+        date: date_label(message),
+    }
+}
+
 impl Draft {
     /// What the node's own approvals use of a card and a settlement date.
-    pub(crate) fn used_now(&self, card: &[u8], date: &[u8]) -> u128
+    pub(crate) fn used_now(&self, day: &CardDay) -> u128
         requires quiet { IsQuiet self.now.base (progress self.now).lists }
         requires left { LeftAsMarked self.now.base.marks self.now.base.takes }
-        ensures used { (t : Network) (n : ℕ) → result ≡ used (view t n (progress self.now).lists) card.now date.now }
+        ensures used { (t : Network) (n : ℕ) → result ≡ used (view t n (progress self.now).lists) day.now.card day.now.date }
     {
-        total(self.books.takes(), card, date)
-            + approved_total(self.effects.as_slice(), self.books.marks(), card, date)
+        let changed = approved_total(
+            self.effects.as_slice(),
+            &self.books,
+            day.card.as_slice(),
+            day.date.as_slice(),
+        );
+        self.books.used(day) + changed
     }
 
     /// What the node may approve by itself of a message's card and settlement date: 0 without a stand-in row.
@@ -76,11 +77,9 @@ impl Draft {
         let Some(row) = stand_in_of(tables, node, message) else {
             return 0;
         };
-        let card = card_number(message);
-        let date = date_label(message);
-        let borrowed = total(self.books.borrowed(), card.as_slice(), date.as_slice());
-        let lent = total(self.books.loans(), card.as_slice(), date.as_slice());
-        (row.day.value() as u128 + borrowed).saturating_sub(lent)
+        let day = card_day(message);
+        let most = row.day.value() as u128 + self.books.borrowed_sum(&day);
+        most.saturating_sub(self.books.lent_sum(&day))
     }
 
     /// The code with which the node answers a request by itself.
@@ -89,12 +88,11 @@ impl Draft {
         requires left { LeftAsMarked self.now.base.marks self.now.base.takes }
         ensures { result ≡ standin_code tables.now node (view tables.now node (progress self.now).lists) message.now }
     {
-        let card = card_number(message);
-        let date = date_label(message);
+        let day = card_day(message);
         let limits = Limits {
             allowance: self.limit_now(tables, node, message),
             single: single(tables, node, message),
-            used: self.used_now(card.as_slice(), date.as_slice()),
+            used: self.used_now(&day),
         };
         limits.code(tables, message)
     }

@@ -7,6 +7,6 @@ use Rattle.switch_node.proofs.used.approved_total.Given as goal
 -- the sum so far and that of the rest make all, and each amount is below 10^12
 abbrev pub invariant-loop-effect : goal.invariant-loop-effect
 invariant-loop-effect l = record {
-  whole : l.sum + added (counted_by l.marks l.card l.date) (approved_in (drop l.effect-index l.effects)) ≡ added (counted_by l.marks l.card l.date) (approved_in l.effects);
+  whole : l.sum + added (counted_by l.books.lists.marks l.card l.date) (approved_in (drop l.effect-index l.effects)) ≡ added (counted_by l.books.lists.marks l.card l.date) (approved_in l.effects);
   small : l.sum ≤ 1000000000000 * l.effect-index;
 }

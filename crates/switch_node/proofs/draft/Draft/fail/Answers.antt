@@ -1,7 +1,7 @@
 use Rattle.std.proofs.Common.{ap, ◌∙◌}
 use Rattle.node_machine.specs.Lists.{of_key}
 use Rattle.node_books.specs.Effects.{Drafted, progress}
-use Rattle.node_books.specs.Values.{source_of}
+use Rattle.request_book.specs.Values.{source_of}
 use Rattle.switch_node.proofs.Parts.{fail_with}
 use Rattle.switch_node.proofs.draft.Draft.fail.Goals as goal
 

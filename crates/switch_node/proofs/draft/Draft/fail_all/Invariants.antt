@@ -4,11 +4,13 @@ use Rattle.node_machine.specs.Steps as steps
 use Rattle.node_books.specs.Effects.{progress}
 use Rattle.switch_node.specs.Failures.{cause_of}
 use Rattle.switch_node.specs.Used.{IsQuiet}
+use Rattle.switch_node.proofs.FailingPlaces.{AreLeft}
 use Rattle.switch_node.proofs.draft.Draft.fail_all.Given as goal
 
-abbrev pub invariant-loop-place : goal.invariant-loop-place
-invariant-loop-place l = record {
+abbrev pub invariant-loop-i : goal.invariant-loop-i
+invariant-loop-i l = record {
   base : l.self.base ≡ l.initial.self.base;
   quiet : IsQuiet l.initial.self.base (progress l.self).lists;
-  rest : steps.fail_all l.tables l.node (view l.tables l.node l.initial.self.base) (map row_key (filter (row_fails l.tables l.initial.self.base.count (cause_of l.cause)) (drop l.place l.initial.self.base.rows))) (progress l.self) ≡ steps.fail_all l.tables l.node (view l.tables l.node l.initial.self.base) (map row_key (filter (row_fails l.tables l.initial.self.base.count (cause_of l.cause)) l.initial.self.base.rows)) (progress l.initial.self);
+  left : AreLeft (row_fails l.tables l.initial.self.base.count (cause_of l.cause)) l.initial.self.base.rows l.places.items l.i l.from;
+  rest : steps.fail_all l.tables l.node (view l.tables l.node l.initial.self.base) (map row_key (filter (row_fails l.tables l.initial.self.base.count (cause_of l.cause)) (drop l.from l.initial.self.base.rows))) (progress l.self) ≡ steps.fail_all l.tables l.node (view l.tables l.node l.initial.self.base) (map row_key (filter (row_fails l.tables l.initial.self.base.count (cause_of l.cause)) l.initial.self.base.rows)) (progress l.initial.self);
 }

@@ -5,7 +5,7 @@ use Rattle.network_law.specs.Tables.{node_id}
 use Rattle.node_machine.specs.Lists.{Lists, view}
 use Rattle.node_machine.specs.Steps as steps
 use Rattle.node_books.specs.Effects.{progress}
-use Rattle.node_books.specs.Values.{source_of}
+use Rattle.request_book.specs.Values.{source_of}
 use Rattle.switch_node.proofs.Parts.{on_ok, fail_steps}
 use Rattle.switch_node.proofs.draft.Draft.fail_request.Goals as goal
 

@@ -1,7 +1,7 @@
 use Rattle.std.proofs.Common.{◌∙◌}
 use Rattle.node_machine.specs.Lists.{view}
 use Rattle.node_books.specs.Effects.{progress}
-use Rattle.node_books.specs.Values.{source_of}
+use Rattle.request_book.specs.Values.{source_of}
 use Rattle.switch_node.proofs.Parts.{on_ok}
 use Rattle.switch_node.proofs.Requested.{forward_some, forward_none}
 use Rattle.switch_node.proofs.draft.Draft.forward.Goals as goal

@@ -4,7 +4,7 @@ use Rattle.network_law.specs.Traces.{is_link}
 use Rattle.node_machine.specs.Lists.{view, of_key, row_link}
 use Rattle.node_machine.specs.Steps as steps
 use Rattle.node_books.specs.Effects.{progress}
-use Rattle.node_books.proofs.Codes.{found_code}
+use Rattle.request_book.proofs.Codes.{found_code}
 use Rattle.switch_node.proofs.Messages.{known_key}
 use Rattle.switch_node.proofs.Parts.{on_ok}
 use Rattle.switch_node.proofs.Coming.{answer_counts}

@@ -7,7 +7,7 @@ use Rattle.network_law.specs.Cards.{is_good_card, card_of}
 use Rattle.node_machine.specs.Machine as machine
 use Rattle.node_machine.specs.Lists.{view, is_among}
 use Rattle.node_books.specs.Effects.{Drafted, progress}
-use Rattle.node_books.specs.Values.{source_of}
+use Rattle.request_book.specs.Values.{source_of}
 use Rattle.step_refusals.specs.Keyed.{request_at}
 use Rattle.switch_node.proofs.Messages.{advice_key}
 use Rattle.switch_node.proofs.Parts.{on_ok}

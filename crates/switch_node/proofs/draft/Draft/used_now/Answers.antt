@@ -5,6 +5,7 @@ pub returns : goal.returns
 returns c =
     let quiet = rw (← c.self.view_is) at c.requires.quiet in
     let left = rw (← c.self.view_is) at c.requires.left in
+    let day = c.args.day.now in
     record {
-      used = λ t n. rw (c.total.ensures.sum, c.approved_total.ensures.sum, c.takes.ensures, c.marks.ensures, c.as_slice.ensures.value, ← c.self.view_is) (used_after t n c.self.inside.effects.items c.self.inside.books.lists c.args.card.now c.args.date.now quiet left);
+      used = λ t n. rw (c.used.ensures.used, c.approved_total-changed.ensures.sum, c.as_slice.ensures.value, c.as_slice-2.ensures, c.as_slice-3.ensures, ← c.self.view_is) (used_after t n c.self.inside.effects.items c.self.inside.books.lists day.card day.date quiet left);
     }

@@ -1,0 +1,6 @@
+mod Mapped
+mod Ids
+mod Slotted
+mod Sorted
+mod Stores
+mod Derived

@@ -1,0 +1,6 @@
+use Rattle.std.proofs.Common.{sym, ap, ◌∙◌, refl}
+use Rattle.advice_store.proofs.Derived.{any_is, derived_id_is}
+use Rattle.advice_store.proofs.known.KnownIds.contains.Goals as goal
+
+pub returns : goal.returns
+returns c = c.contains.ensures ∙ any_is c.args.id c.args.self.now.ids.keys

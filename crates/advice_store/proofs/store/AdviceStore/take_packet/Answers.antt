@@ -1,0 +1,13 @@
+use Rattle.std.proofs.Common.{◌≡◌, ap, sym, refl, ◌∙◌, subst, List, filter, not}
+use Rattle.network_law.specs.declared.grant.GrantPacket.{GrantPacket}
+use Rattle.node_machine.specs.Books.{Stored}
+use Rattle.advice_store.specs.Advices.{Store, packet_acked}
+use Rattle.advice_store.proofs.Stores.{grant_acks_none}
+use Rattle.advice_store.proofs.store.AdviceStore.take_packet.Goals as goal
+
+pub returns-in-Grant : goal.returns-in-Grant
+returns-in-Grant c =
+    let v = c.args.self.now in
+    let P : GrantPacket → Type 0 = λ p. v ≡ record { store = filter (λ a. not (packet_acked p a)) v.store; known = v.known; room = v.room } in
+    let F : List Stored → Store = λ st. record { store = st; known = v.known; room = v.room } in
+    subst P (sym c.in-Grant.is) (ap F (grant_acks_none c.in-Grant.field-0 v.store))

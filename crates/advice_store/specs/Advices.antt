@@ -1,0 +1,33 @@
+-- The store as code keeps it.
+use Rattle.std.specs.Prelude.{ℕ, List, Bool, false, ◌||◌}
+use Rattle.iso_message.specs.declared.keys.AdviceId.{AdviceId}
+use Rattle.iso_message.specs.Keys.{identity_of, identity_eq}
+use Rattle.network_law.specs.declared.grant.GrantPacket.{GrantPacket}
+use Rattle.node_machine.specs.Machine.{packet_acks}
+use Rattle.node_machine.specs.Books.{Stored, Advised, Granted}
+use Rattle.advice_store.specs.declared.item.StoredCase.{StoredCase}
+use Rattle.advice_store.specs.declared.item.StoredCase.TheVariants as cases
+
+pub record Store : Type 0 where
+  pub store : List Stored
+  pub known : List AdviceId
+  pub room : ℕ
+
+abbrev pub stored_of : StoredCase → Stored
+stored_of (cases.Advice a) = Advised a
+stored_of (cases.Grant g) = Granted g
+
+-- the advice of this identity
+abbrev pub has_id : AdviceId → Stored → Bool
+has_id id (Advised a) = identity_eq (identity_of a.message) id
+has_id id (Granted g) = false
+
+-- the advice of this identity was put
+abbrev pub marked_by : AdviceId → Stored → Stored
+marked_by id (Advised a) = Advised (record { message = a.message; count = a.count; put = a.put || identity_eq id (identity_of a.message) })
+marked_by id (Granted g) = Granted g
+
+-- the packet acknowledges this grant
+abbrev pub packet_acked : GrantPacket → Stored → Bool
+packet_acked p (Advised a) = false
+packet_acked p (Granted g) = packet_acks p g

@@ -1,0 +1,2 @@
+pub mod Advices
+pub mod Kept

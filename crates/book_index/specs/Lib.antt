@@ -1,0 +1,3 @@
+pub mod Found
+pub mod Sums
+pub mod Keys

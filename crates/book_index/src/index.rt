@@ -1,0 +1,73 @@
+//! The places of keys.
+ghost use Rattle.std.specs.Prelude.{◌≡◌, ◌≤◌, ◌+◌, OnOk, cond};
+ghost use Rattle.std.specs.HashMap.{spare};
+ghost use Rattle.book_index.specs.Found.{found, joined};
+
+use std::alloc::{AllocError, Global};
+use std::collections::HashMap;
+use std::hash::Hash;
+
+/// Where the items of a key stand in a list.
+#[derive(Clone, Copy, Debug, PartialEq, Eq)]
+pub enum Place {
+    Nowhere,
+    At(usize),
+    /// At more places than one, so that whoever looks for them walks the list.
+    Several,
+}
+
+/// The places of keys in a list.
+#[derive(Drop)]
+pub struct PlaceIndex<K: Eq + Hash> {
+    pub places: HashMap<K, Place>,
+}
+
+impl<K: Eq + Hash + Copy + Drop> PlaceIndex<K> {
+    /// No key has a place.
+    pub fn new(alloc: Global) -> PlaceIndex<K>
+        ensures { (k : K) → found (K.eq k) result.places.entries ≡ Place.Nowhere }
+    {
+        PlaceIndex {
+            places: HashMap::new(alloc),
+        }
+    }
+
+    /// The next n keys need no memory.
+    pub fn reserve(&mut self, n: usize) -> Result<(), AllocError>
+        ensures found { (k : K) → found (K.eq k) self.new.places.entries ≡ found (K.eq k) self.old.places.entries }
+        ensures room { OnOk result (n ≤ spare self.new.places) }
+    {
+        self.places.reserve(n)
+    }
+
+    /// What is known of a key.
+    pub fn find(&self, key: &K) -> Place
+        ensures { result ≡ found (K.eq key.now) self.now.places.entries }
+    {
+        match self.places.get(key) {
+            Some(place) => *place,
+            None => Place::Nowhere,
+        }
+    }
+
+    /// The key has this place too.
+    pub fn add(&mut self, key: K, place: usize)
+        requires { 1 ≤ spare self.old.places }
+        ensures found { (k : K) → found (K.eq k) self.new.places.entries ≡ cond (K.eq key k) (joined (found (K.eq key) self.old.places.entries) place) (found (K.eq k) self.old.places.entries) }
+        ensures room { spare self.old.places ≤ spare self.new.places + 1 }
+    {
+        let joined = match self.find(&key) {
+            Place::Nowhere => Place::At(place),
+            _ => Place::Several,
+        };
+        let _ = self.places.insert(key, joined);
+    }
+
+    /// The key has no place.
+    pub fn remove(&mut self, key: &K)
+        ensures found { (k : K) → found (K.eq k) self.new.places.entries ≡ cond (K.eq key.now k) Place.Nowhere (found (K.eq k) self.old.places.entries) }
+        ensures room { spare self.old.places ≤ spare self.new.places }
+    {
+        let _ = self.places.remove(key);
+    }
+}

@@ -1,0 +1,7 @@
+pub mod Found
+pub mod At
+pub mod Codes
+pub mod Unique
+pub mod Forwarding
+pub mod Places
+pub mod Least

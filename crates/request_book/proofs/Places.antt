@@ -1,0 +1,254 @@
+-- The place of a key, and the request there.
+use Rattle.std.proofs.Common.{◌≡◌, ℕ, suc, zero, ◌+◌, ◌<◌, Bool, true, false, cond, List, [], ◌∷◌, ◌++◌, length, map, get_or, set, Option, Some, None, arith, refl, sym, ap, ◌∙◌, subst, inl, inr, count_by, not, ◌^◌, ◌≤◌, slice_get, nat_eq, Result, Ok, Err, OnOk, IsOk}
+use Rattle.std.specs.Prelude.{is_some, is_none}
+use Rattle.std.specs.Map.{lookup}
+use Rattle.std.specs.Option.{option_map, option_or}
+use Rattle.std.proofs.lemmas.Bool.{cases_Bool}
+use Rattle.std.proofs.lemmas.List.Sums.{sum_by-append, count_by-le-length}
+use Rattle.card_digits.specs.declared.key.Key.{Key}
+use Rattle.iso_message.specs.Keys.{key_eq}
+use Rattle.network_law.proofs.Emits.{key_eq_is}
+use Rattle.iso_message.specs.Fields.{Fields}
+use Rattle.network_law.specs.Traces.{ReadOutput, answers, sent, forwards}
+use Rattle.node_machine.specs.Lists.{Row, of_key, row_key, row_has, row_after, row_pending}
+use Rattle.request_book.specs.Values.{IsUnique, output_key, opened}
+use Rattle.request_book.specs.Kept.{AreKept, IsOver, place_of, bit, found_key, head_of, head_after, noted, newly, widened}
+use Rattle.request_book.specs.declared.forwards.Forward.{Forward}
+use Rattle.request_book.specs.declared.spans.Span.{Span}
+use Rattle.request_book.proofs.At.{last_at, at_mapped, at_got}
+use Rattle.request_book.proofs.Forwarding.{no_spans, no_forwards, spans_opened, spans_after, spans_same, forwards_after, forwards_opened, forwards_noted, forwards_pruned, forwards_same}
+use Rattle.request_book.proofs.Found.{found_is}
+use Rattle.request_book.proofs.Unique.{key_flip, quiet_all, unique_after, unique_more, quiet}
+
+pub no_rows : AreKept [] [] 0 [] [] []
+no_rows = record { unique = tt; keyed = λ k. refl; counted = refl; spanned = no_spans; forwarded = no_forwards }
+
+some_not_none : {A : Type 0} (x : A) → Some x ≡ None → ⊥
+some_not_none x e = cc
+
+-- past the first
+place_tail : (m : Option ℕ) (i : ℕ) → option_map (λ i. suc i) m ≡ Some i → (j : ℕ) × (m ≡ Some j) × (i ≡ suc j)
+place_tail None i e = absurd (cc)
+place_tail (Some j) i e = let is : i ≡ suc j = cc in (j, refl, is)
+
+none_tail : (m : Option ℕ) → option_map (λ i. suc i) m ≡ None → m ≡ None
+none_tail None e = refl
+none_tail (Some i) e = absurd (cc)
+
+pub found_none : (k : Key) (rows : List Row) → place_of k rows ≡ None → of_key k rows ≡ None
+found_none k [] e = refl
+found_none k (r ∷ rs) e = elim (cases_Bool (row_has k r)) [
+  | inl t ↦ (let f : Some 0 ≡ None = rw t at e in absurd (some_not_none 0 f))
+  | inr f ↦ (let g : option_map (λ i. suc i) (place_of k rs) ≡ None = rw f at e in rw f (found_none k rs (none_tail (place_of k rs) g)))
+]
+
+pub place_within : (k : Key) (rows : List Row) (i : ℕ) → place_of k rows ≡ Some i → i < length rows
+place_within k [] i e = absurd (cc)
+place_within k (r ∷ rs) i e = elim (cases_Bool (row_has k r)) [
+  | inl t ↦ (let f : Some 0 ≡ Some i = rw t at e in let z : i ≡ 0 = cc in omega arith)
+  | inr f ↦
+      let g : option_map (λ i. suc i) (place_of k rs) ≡ Some i = rw f at e in
+      let w = place_tail (place_of k rs) i g in
+      let lt = place_within k rs w.0 w.1 in
+      let is = w.2 in
+      omega arith
+]
+
+pub found_some : (k : Key) (rows : List Row) (i : ℕ) (d : Row) → place_of k rows ≡ Some i → of_key k rows ≡ Some (get_or rows i d)
+found_some k [] i d e = absurd (cc)
+found_some k (r ∷ rs) i d e = elim (cases_Bool (row_has k r)) [
+  | inl t ↦
+      let f : Some 0 ≡ Some i = rw t at e in
+      let z : i ≡ 0 = cc in
+      rw (t, z) refl
+  | inr f ↦
+      let g : option_map (λ i. suc i) (place_of k rs) ≡ Some i = rw f at e in
+      let w = place_tail (place_of k rs) i g in
+      let is = w.2 in
+      rw (f, is) (found_some k rs w.0 d w.1)
+]
+
+-- an output changes the row at the place of its key alone
+pub changed_at : (o : ReadOutput) (rows : List Row) (i : ℕ) (d : Row) → IsUnique rows → place_of (output_key o) rows ≡ Some i → set rows i (row_after o (get_or rows i d)) ≡ map (row_after o) rows
+changed_at o [] i d u e = refl
+changed_at o (r ∷ rs) i d u e = elim (cases_Bool (row_has (output_key o) r)) [
+  | inl t ↦
+      let f : Some 0 ≡ Some i = rw t at e in
+      let z : i ≡ 0 = cc in
+      rw z (ap (λ ys. row_after o r ∷ ys) (sym (quiet_all o rs (subst (λ k. of_key k rs ≡ None) (key_eq_is (row_key r) (output_key o) t) u.0))))
+  | inr f ↦
+      let g : option_map (λ i. suc i) (place_of (output_key o) rs) ≡ Some i = rw f at e in
+      let w = place_tail (place_of (output_key o) rs) i g in
+      let is = w.2 in
+      let same = quiet o r (key_flip (row_key r) (output_key o) f) in
+      rw (is, same) (ap (λ ys. r ∷ ys) (changed_at o rs w.0 d u.1 w.1))
+]
+
+pub has_key_at : (k : Key) (rows : List Row) (i : ℕ) (d : Row) → place_of k rows ≡ Some i → row_has k (get_or rows i d) ≡ true
+has_key_at k [] i d e = absurd (cc)
+has_key_at k (r ∷ rs) i d e = elim (cases_Bool (row_has k r)) [
+  | inl t ↦
+      let f : Some 0 ≡ Some i = rw t at e in
+      let z : i ≡ 0 = cc in
+      rw z t
+  | inr f ↦
+      let g : option_map (λ i. suc i) (place_of k rs) ≡ Some i = rw f at e in
+      let w = place_tail (place_of k rs) i g in
+      let is = w.2 in
+      rw is (has_key_at k rs w.0 d w.1)
+]
+
+-- places stay where an output is sent
+pub places_after : (k : Key) (o : ReadOutput) (rows : List Row) → place_of k (map (row_after o) rows) ≡ place_of k rows
+places_after k o [] = refl
+places_after k o (r ∷ rs) = ap (λ m. cond (row_has k r) (Some 0) (option_map (λ i. suc i) m)) (places_after k o rs)
+
+-- a row more
+
+pub place_same : (k : Key) (rows : List Row) (r : Row) → row_has k r ≡ false → place_of k (rows ++ r ∷ []) ≡ place_of k rows
+place_same k [] r f = rw f refl
+place_same k (x ∷ xs) r f = ap (λ m. cond (row_has k x) (Some 0) (option_map (λ i. suc i) m)) (place_same k xs r f)
+
+pub place_last : (k : Key) (rows : List Row) (r : Row) → place_of k rows ≡ None → row_has k r ≡ true → place_of k (rows ++ r ∷ []) ≡ Some (length rows)
+place_last k [] r n t = rw t refl
+place_last k (x ∷ xs) r n t = elim (cases_Bool (row_has k x)) [
+  | inl h ↦ (let f : Some 0 ≡ None = rw h at n in absurd (some_not_none 0 f))
+  | inr f ↦
+      let g : option_map (λ i. suc i) (place_of k xs) ≡ None = rw f at n in
+      rw f (ap (option_map (λ i. suc i)) (place_last k xs r (none_tail (place_of k xs) g) t))
+]
+
+-- counts
+
+pub count_more : (rows : List Row) (r : Row) → count_by row_pending (rows ++ r ∷ []) ≡ count_by row_pending rows + bit (row_pending r)
+count_more rows r = sum_by-append (λ x. cond (row_pending x) 1 0) rows (r ∷ []) ∙ ap (λ n. count_by row_pending rows + n) (go (row_pending r))
+  where
+    go : (b : Bool) → 0 + cond b 1 0 ≡ bit b
+    go true = refl
+    go false = refl
+
+count_cons : (r : Row) (rs : List Row) → count_by row_pending (r ∷ rs) ≡ bit (row_pending r) + count_by row_pending rs
+count_cons r rs = sum_by-append (λ x. cond (row_pending x) 1 0) (r ∷ []) rs ∙ ap (λ n. n + count_by row_pending rs) (go (row_pending r))
+  where
+    go : (b : Bool) → 0 + cond b 1 0 ≡ bit b
+    go true = refl
+    go false = refl
+
+pub count_set : (rows : List Row) (i : ℕ) (d r : Row) → i < length rows → count_by row_pending (set rows i r) + bit (row_pending (get_or rows i d)) ≡ count_by row_pending rows + bit (row_pending r)
+count_set [] i d r lt = absurd (omega arith)
+count_set (x ∷ xs) zero d r lt = (let a = count_cons r xs in let b = count_cons x xs in omega (arith, a, b))
+count_set (x ∷ xs) (suc i) d r lt = (let a = count_cons x (set xs i r) in let b = count_cons x xs in let h = count_set xs i d r (omega arith) in omega (arith, a, b, h))
+
+-- the book's facts
+
+pub kept_same : (rows : List Row) (es es' : List (Key × ℕ)) (n : ℕ) (spans spans' : List (ℕ × Span)) (list : List Forward) (heads heads' : List (ℕ × ℕ)) → ((k : Key) → lookup (found_key k) es' ≡ lookup (found_key k) es) → ((c : ℕ) → lookup (nat_eq c) spans' ≡ lookup (nat_eq c) spans) → ((l : ℕ) → head_of l heads' ≡ head_of l heads) → AreKept rows es n spans list heads → AreKept rows es' n spans' list heads'
+kept_same rows es es' n spans spans' list heads heads' keys counts links a = record {
+  unique = a.unique;
+  keyed = λ k. keys k ∙ a.keyed k;
+  counted = a.counted;
+  spanned = spans_same rows spans spans' counts a.spanned;
+  forwarded = forwards_same rows list heads heads' links a.forwarded;
+}
+
+pub kept_opened : (rows : List Row) (r : Row) (es es' : List (Key × ℕ)) (n : ℕ) (spans spans' : List (ℕ × Span)) (list : List Forward) (heads heads' : List (ℕ × ℕ)) → AreKept rows es n spans list heads → place_of (row_key r) rows ≡ None
+    → ((k : Key) → lookup (found_key k) es' ≡ cond (found_key (row_key r) k) (Some (length rows)) (lookup (found_key k) es))
+    → ((c : ℕ) → lookup (nat_eq c) spans' ≡ cond (nat_eq r.count c) (Some (widened (lookup (nat_eq r.count) spans) (length rows))) (lookup (nat_eq c) spans))
+    → ((l : ℕ) → head_of l heads' ≡ head_after r.link (length list) l (head_of l heads))
+    → AreKept (rows ++ r ∷ []) es' (n + bit (row_pending r)) spans' (noted (length rows) r.link heads list) heads'
+kept_opened rows r es es' n spans spans' list heads heads' a none put counts links = record {
+  unique = unique_more r rows (found_none (row_key r) rows none) a.unique;
+  keyed = λ k. elim (cases_Bool (key_eq (row_key r) k)) [
+    | inl t ↦ (let s = found_is (row_key r) k ∙ t in put k ∙ rw s (sym (place_last k rows r (subst (λ q. place_of q rows ≡ None) (key_eq_is (row_key r) k t) none) t)))
+    | inr f ↦ (let s = found_is (row_key r) k ∙ f in put k ∙ rw s (a.keyed k ∙ sym (place_same k rows r f)))
+  ];
+  counted = ap (λ m. m + bit (row_pending r)) a.counted ∙ sym (count_more rows r);
+  spanned = spans_opened rows r spans spans' a.spanned counts;
+  forwarded = forwards_noted (length rows) r.link (rows ++ r ∷ []) list heads heads' (forwards_opened rows r list heads a.forwarded) links (λ l e. (r, last_at rows r, e));
+}
+
+-- what is newly on a link is there afterwards
+on_link_after : (o : ReadOutput) (rows : List Row) (place : ℕ) (d : Row) (l : ℕ) → place < length rows → newly o (get_or rows place d) ≡ Some l → (r : Row) × (slice_get (map (row_after o) rows) place ≡ Some r) × (r.link ≡ Some l)
+on_link_after o rows place d l lt e =
+    (row_after o (get_or rows place d), at_mapped (row_after o) rows place (get_or rows place d) (at_got rows place d lt), go (get_or rows place d).link e)
+  where
+    go : (m : Option ℕ) → cond (is_none m) (forwards (row_key (get_or rows place d)) o) None ≡ Some l → option_or m (forwards (row_key (get_or rows place d)) o) ≡ Some l
+    go None e = e
+    go (Some k) e = absurd (cc)
+
+pub kept_after : (o : ReadOutput) (rows : List Row) (es : List (Key × ℕ)) (n m : ℕ) (b : Bool) (spans : List (ℕ × Span)) (list : List Forward) (heads heads' : List (ℕ × ℕ)) (place : ℕ) (d : Row) → AreKept rows es n spans list heads → place_of (output_key o) rows ≡ Some place
+    → count_by row_pending (map (row_after o) rows) + bit b ≡ count_by row_pending rows → m + bit b ≡ n
+    → ((l : ℕ) → head_of l heads' ≡ head_after (newly o (get_or rows place d)) (length list) l (head_of l heads))
+    → AreKept (map (row_after o) rows) es m spans (noted place (newly o (get_or rows place d)) heads list) heads'
+kept_after o rows es n m b spans list heads heads' place d a at closed is links = record {
+  unique = unique_after o rows a.unique;
+  keyed = λ k. a.keyed k ∙ sym (places_after k o rows);
+  counted = (let c = a.counted in omega (arith, closed, is, c));
+  spanned = spans_after o rows spans a.spanned;
+  forwarded = forwards_noted place (newly o (get_or rows place d)) (map (row_after o) rows) list heads heads' (forwards_after o rows list heads place d a.unique at a.forwarded) links (λ l e. on_link_after o rows place d l (place_within (output_key o) rows place at) e);
+}
+
+pub kept_pruned : (link head : ℕ) (rows : List Row) (es : List (Key × ℕ)) (n : ℕ) (spans : List (ℕ × Span)) (list : List Forward) (heads heads' : List (ℕ × ℕ)) → AreKept rows es n spans list heads → ((l : ℕ) → head_of l heads' ≡ cond (nat_eq link l) head (head_of l heads)) → ((i : ℕ) (p : Forward) → slice_get list i ≡ Some p → p.link ≡ link → head ≤ i → IsOver rows p.place) → AreKept rows es n spans list heads'
+kept_pruned link head rows es n spans list heads heads' a same over = record {
+  unique = a.unique;
+  keyed = a.keyed;
+  counted = a.counted;
+  spanned = a.spanned;
+  forwarded = forwards_pruned link head rows list heads heads' a.forwarded same over;
+}
+
+pub opened_new : (r : Row) (rows : List Row) → place_of (row_key r) rows ≡ None → opened r rows ≡ rows ++ r ∷ []
+opened_new r rows none = let e = found_none (row_key r) rows none in rw e refl
+
+pub opened_again : (r : Row) (rows : List Row) (i : ℕ) → place_of (row_key r) rows ≡ Some i → opened r rows ≡ rows
+opened_again r rows i at = let e = found_some (row_key r) rows i r at in rw e refl
+
+-- a request that is pending, and one that is not, as an output changes them
+
+set_at : (rows : List Row) (i : ℕ) (r d : Row) → i < length rows → get_or (set rows i r) i d ≡ r
+set_at [] i r d lt = absurd (omega arith)
+set_at (x ∷ xs) zero r d lt = refl
+set_at (x ∷ xs) (suc i) r d lt = set_at xs i r d (omega arith)
+
+pub closed_open : (rows : List Row) (i : ℕ) (d e r : Row) (b : Bool) → i < length rows → row_pending (get_or rows i d) ≡ true → b ≡ row_pending (get_or (set rows i r) i e) → count_by row_pending (set rows i r) + bit (not b) ≡ count_by row_pending rows
+closed_open rows i d e r b lt was is = go b (is ∙ ap row_pending (set_at rows i r e lt))
+  where
+    go : (b : Bool) → b ≡ row_pending r → count_by row_pending (set rows i r) + bit (not b) ≡ count_by row_pending rows
+    go true f = (let h = count_set rows i d r lt in let w = ap bit was in let n = ap bit f in omega (arith, h, w, n))
+    go false f = (let h = count_set rows i d r lt in let w = ap bit was in let n = ap bit f in omega (arith, h, w, n))
+
+closed_stays : (o : ReadOutput) (r : Row) → row_pending r ≡ false → row_pending (row_after o r) ≡ false
+closed_stays o r f = go r.answer f
+  where
+    go : (m : Option Fields) → is_none m ≡ false → is_none (option_or m (answers (row_key r) (sent o))) ≡ false
+    go None f = absurd (cc)
+    go (Some a) f = refl
+
+pub closed_before : (o : ReadOutput) (rows : List Row) (i : ℕ) (d r : Row) → i < length rows → row_pending (get_or rows i d) ≡ false → r ≡ row_after o (get_or rows i d) → count_by row_pending (set rows i r) + 0 ≡ count_by row_pending rows
+closed_before o rows i d r lt was is = (let h = count_set rows i d r lt in let w = ap bit was in let n = ap bit (ap row_pending is ∙ closed_stays o (get_or rows i d) was) in omega (arith, h, w, n))
+
+-- the row there, whatever stands for none
+pub row_at : (rows : List Row) (i : ℕ) (d e : Row) → i < length rows → get_or rows i d ≡ get_or rows i e
+row_at [] i d e lt = absurd (omega arith)
+row_at (x ∷ xs) zero d e lt = refl
+row_at (x ∷ xs) (suc i) d e lt = row_at xs i d e (omega arith)
+
+pub pending_few : (rows : List Row) (n : ℕ) → n ≡ count_by row_pending rows → length rows < 2 ^ 63 → n < 2 ^ 63
+pending_few rows n e lt = omega (arith, e, lt, count_by-le-length row_pending rows)
+
+pub on_ok : {A E P : Type 0} (r : Result A E) → IsOk r → OnOk r P → P
+on_ok (Ok x) e h = h
+on_ok (Err x) e h = absurd (cc)
+
+pub opened_there : (r : Row) (rows : List Row) → is_some (place_of (row_key r) rows) ≡ true → opened r rows ≡ rows
+opened_there r rows e = go (place_of (row_key r) rows) refl e
+  where
+    go : (m : Option ℕ) → place_of (row_key r) rows ≡ m → is_some m ≡ true → opened r rows ≡ rows
+    go None f e = absurd (cc)
+    go (Some i) f e = opened_again r rows i f
+
+pub not_there : (k : Key) (rows : List Row) → is_some (place_of k rows) ≡ false → place_of k rows ≡ None
+not_there k rows e = go (place_of k rows) e
+  where
+    go : (m : Option ℕ) → is_some m ≡ false → m ≡ None
+    go None e = refl
+    go (Some i) e = absurd (cc)

@@ -1,0 +1,64 @@
+-- What contracts see of requests and outputs.
+use Rattle.std.specs.Prelude.{◌≡◌, ◌<◌, ◌≤◌, ℕ, List, [], ◌∷◌, ◌++◌, Bool, true, ◌&&◌, if◌then◌else◌, slice_get, Option, Some, None, is_none, ⊤}
+use Rattle.card_digits.specs.declared.key.Key.{Key}
+use Rattle.iso_message.specs.declared.kind.Kind.TheVariants.{K0100}
+use Rattle.iso_message.specs.Fields.{Fields}
+use Rattle.iso_message.specs.Groups.{is_request, is_answer}
+use Rattle.iso_message.specs.Keys.{key_of, has_own_key}
+use Rattle.network_law.specs.Traces.{Source, Gate, ByLink, ReadOutput, Put, Answer, Ask, Post, PutPacket, is_link}
+use Rattle.node_machine.specs.Lists.{Row, Mark, of_key, row_key, row_pending}
+use Rattle.std.specs.List.{Contains}
+
+-- a source is the gate, or a link
+abbrev pub source_of : Option ℕ → Source
+source_of None = Gate
+source_of (Some l) = ByLink l
+
+-- the message of an output; a packet has none
+abbrev pub message_of : ReadOutput → Fields
+message_of (Put l s m) = m
+message_of (Answer m) = m
+message_of (Ask a m) = m
+message_of (Post m) = m
+message_of (PutPacket l s p) = record { kind = K0100; elements = [] }
+
+abbrev pub output_key : ReadOutput → Key
+output_key o = key_of (message_of o)
+
+-- the key of a request that is kept beside it
+pub record IsKeyOf (key : Key) (m : Fields) : Type 0 where
+  pub key_is : key ≡ key_of m
+  pub own : has_own_key m ≡ true
+  pub request : is_request m.kind ≡ true
+
+-- an answer of this key
+abbrev pub IsAnswerOf : Key → Option Fields → Type 0
+IsAnswerOf key None = ⊤
+IsAnswerOf key (Some a) = (key ≡ key_of a) × (is_answer a.kind ≡ true)
+
+-- each key has one row
+abbrev pub IsUnique : List Row → Type 0
+IsUnique [] = ⊤
+IsUnique (r ∷ rs) = (of_key (row_key r) rs ≡ None) × IsUnique rs
+
+-- a row of a key that has none yet
+abbrev pub opened : Row → List Row → List Row
+opened r rows = if is_none (of_key (row_key r) rows) then rows ++ r ∷ [] else rows
+
+-- requests and marks, and how many more need no memory
+pub record Pending : Type 0 where
+  pub rows : List Row
+  pub marks : List Mark
+  pub room : ℕ
+
+-- pending, and put on this link
+abbrev pub waits_on : ℕ → Row → Bool
+waits_on l r = row_pending r && is_link l r.link
+
+-- each request that passes a test stands at one of these places
+abbrev pub AreCovered : (Row → Bool) → List Row → List ℕ → Type 0
+AreCovered p rows places = (k : ℕ) (r : Row) → slice_get rows k ≡ Some r → p r ≡ true → Contains places k
+
+-- each request that was opened at this count stands from one place up to another
+abbrev pub AreBetween : ℕ → List Row → ℕ → ℕ → Type 0
+AreBetween count rows start end = (k : ℕ) (r : Row) → slice_get rows k ≡ Some r → r.count ≡ count → (start ≤ k) × (k < end)

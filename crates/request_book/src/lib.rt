@@ -1,0 +1,16 @@
+//! The requests of a node, open and answered, and the keys of which a reversal was accepted. A book is seen as the lists of `node_machine`.
+//! Memory for a growth is reserved before, and where it is refused nothing has changed.
+#![tactic(auto)]
+
+mod forwards;
+mod marks;
+mod output;
+mod pending;
+mod row;
+mod spans;
+
+pub use marks::Mark;
+pub use output::{PreparedOutput, Way, has_code, is_advice, is_request, same_identity, same_key};
+pub use pending::PendingBook;
+pub use row::Row;
+pub use spans::Span;

@@ -1,0 +1,215 @@
+//! An output, its message not yet encoded.
+ghost use Rattle.std.specs.Prelude.{◌≡◌, bytes_eq, true, false, Some};
+ghost use Rattle.iso_message.specs.Codes.{code_of};
+ghost use Rattle.iso_message.specs.Groups.{is_request, is_answer, group};
+ghost use Rattle.iso_message.specs.Keys.{key_of, key_eq, identity_of, identity_eq, same_kind};
+ghost use Rattle.network_law.specs.Traces.{Put, Answer, Ask, Post, is_advice_group, is_put_of, forwards};
+ghost use Rattle.request_book.specs.Values.{output_key};
+ghost use Rattle.request_book.specs.Values.{message_of};
+
+use card_digits::{Key, LinkNo};
+use iso_message::{AdviceId, AdviceKind, Group, Kind, Message};
+use std::marker::Model;
+
+/// Where an output goes.
+#[derive(Clone, Copy, Debug)]
+pub enum Way {
+    /// On a link, with a serial.
+    Put(LinkNo, u64),
+    /// To the acquirer.
+    Answer,
+    /// To the host, with the number of the ask.
+    Ask(u64),
+    /// To the host's books.
+    Post,
+}
+
+/// An output with its message, and the message's key.
+#[derive(Drop)]
+pub struct PreparedOutput {
+    pub(crate) way: Way,
+    pub(crate) key: Key,
+    pub(crate) advice: Option<AdviceId>,
+    pub(crate) message: Message,
+}
+
+impl Model for PreparedOutput {
+    ghost use Rattle.std.specs.Prelude.{◌≡◌};
+    ghost use Rattle.iso_message.specs.Keys.{key_of};
+    ghost use Rattle.network_law.specs.Traces.{ReadOutput};
+    ghost use Rattle.request_book.specs.Ways.{output_of, advice_of};
+
+    ghost Value = { ReadOutput };
+
+    ghost view = { λ s. output_of s.way s.message };
+
+    ghost invariant = { λ s. (s.key ≡ key_of s.message) × (s.advice ≡ advice_of s.message) };
+}
+
+impl PreparedOutput {
+    ghost use Rattle.request_book.specs.Ways.{output_of, advice_of, is_put};
+
+    /// An output of a message that is no advice.
+    #[tactic(auto, using(crate::proofs::Codes::no_advice))]
+    pub fn of_message(way: Way, key: Key, message: Message) -> PreparedOutput
+        requires key { key ≡ key_of message }
+        requires plain { is_advice_group (group message.kind) ≡ false }
+        ensures { result ≡ output_of way message }
+    {
+        PreparedOutput {
+            way,
+            key,
+            advice: None,
+            message,
+        }
+    }
+
+    /// An output of an advice.
+    #[tactic(auto, using(crate::proofs::Codes::advice_is, crate::proofs::Codes::id_key))]
+    pub fn of_advice(way: Way, id: AdviceId, message: Message) -> PreparedOutput
+        requires id { id ≡ identity_of message }
+        requires advice { is_advice_group (group message.kind) ≡ true }
+        ensures { result ≡ output_of way message }
+    {
+        PreparedOutput {
+            way,
+            key: id.key,
+            advice: Some(id),
+            message,
+        }
+    }
+
+    pub fn way(&self) -> Way
+        ensures { output_of result (message_of self.now) ≡ self.now }
+    {
+        self.way
+    }
+
+    /// Whether it is put on this link.
+    pub fn is_put_on(&self, l: LinkNo) -> bool
+        ensures { result ≡ is_put l self.now }
+    {
+        match self.way {
+            Way::Put(k, _) => k == l,
+            _ => false,
+        }
+    }
+
+    /// Its identity, if it is an advice.
+    pub fn advice(&self) -> Option<AdviceId>
+        ensures { result ≡ advice_of (message_of self.now) }
+    {
+        self.advice
+    }
+
+    pub fn key(&self) -> Key
+        ensures { result ≡ output_key self.now }
+    {
+        self.key
+    }
+
+    pub fn message(&self) -> &Message
+        ensures { result.now ≡ message_of self.now }
+    {
+        &self.message
+    }
+
+    /// The link on which it puts a request of this key.
+    pub fn forwards(&self, key: Key) -> Option<LinkNo>
+        ensures { result ≡ forwards key self.now }
+    {
+        match self.way {
+            Way::Put(link, _) => {
+                if is_request(self.message.kind()) && same_key(self.key, key) {
+                    Some(link)
+                } else {
+                    None
+                }
+            }
+            _ => None,
+        }
+    }
+
+    /// Whether it puts the advice of this identity.
+    #[tactic(auto, using(crate::proofs::Codes::puts_it, crate::proofs::Codes::puts_none))]
+    pub fn puts_advice(&self, id: AdviceId) -> bool
+        ensures { result ≡ is_put_of id self.now }
+    {
+        match self.way {
+            Way::Put(_, _) => match self.advice {
+                Some(own) => same_identity(own, id),
+                None => false,
+            },
+            _ => false,
+        }
+    }
+}
+
+/// Whether messages of the group are advices.
+pub fn is_advice(group: Group) -> bool
+    ensures { result ≡ is_advice_group group }
+{
+    match group {
+        Group::StandInAdvice | Group::Reversal => true,
+        _ => false,
+    }
+}
+
+/// Whether a message asks for an answer.
+pub fn is_request(kind: Kind) -> bool
+    ensures { result ≡ is_request kind }
+{
+    match kind {
+        Kind::K0100 | Kind::K0101 => true,
+        _ => false,
+    }
+}
+
+pub fn is_answer(kind: Kind) -> bool
+    ensures { result ≡ is_answer kind }
+{
+    match kind {
+        Kind::K0110 => true,
+        _ => false,
+    }
+}
+
+/// Whether two keys are one.
+pub fn same_key(a: Key, b: Key) -> bool
+    ensures { result ≡ key_eq a b }
+{
+    a.acquirer == b.acquirer && a.trace == b.trace && a.time == b.time
+}
+
+fn same_kind(a: AdviceKind, b: AdviceKind) -> bool
+    ensures { result ≡ same_kind a b }
+{
+    match a {
+        AdviceKind::StandIn => match b {
+            AdviceKind::StandIn => true,
+            AdviceKind::Reversal => false,
+        },
+        AdviceKind::Reversal => match b {
+            AdviceKind::StandIn => false,
+            AdviceKind::Reversal => true,
+        },
+    }
+}
+
+/// Whether two identities are one.
+pub fn same_identity(a: AdviceId, b: AdviceId) -> bool
+    ensures { result ≡ identity_eq a b }
+{
+    same_kind(a.kind, b.kind) && same_key(a.key, b.key) && a.forwarder == b.forwarder
+}
+
+/// Whether a message's code is this one.
+#[tactic(auto, using(crate::proofs::Codes::found_code, crate::proofs::Codes::no_code))]
+pub fn has_code(message: &Message, code: &[u8]) -> bool
+    ensures { result ≡ bytes_eq (code_of message.now) code.now }
+{
+    match message.get(39) {
+        Some(bytes) => bytes == code,
+        None => code.is_empty(),
+    }
+}

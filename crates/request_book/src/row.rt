@@ -1,0 +1,144 @@
+//! A request, open or answered.
+ghost use Rattle.std.specs.Prelude.{◌≡◌, true, None, IfSome, is_none};
+ghost use Rattle.std.specs.Option.{option_copied};
+ghost use Rattle.iso_message.specs.Keys.{key_of, key_eq, has_own_key};
+ghost use Rattle.iso_message.specs.Groups.{is_request, is_answer};
+ghost use Rattle.node_machine.specs.Lists.{row_after};
+ghost use Rattle.request_book.specs.Values.{source_of, output_key, IsKeyOf, IsAnswerOf};
+ghost use Rattle.std.specs.Prelude.{false};
+
+use crate::output::{PreparedOutput, Way, has_code, is_answer, is_request};
+use card_digits::{Key, LinkNo};
+use iso_message::Message;
+use std::marker::Model;
+
+/// A request with its key. A source is the link that it came by, or none of the gate.
+#[derive(Drop)]
+pub struct Row {
+    key: Key,
+    message: Message,
+    source: Option<LinkNo>,
+    count: u64,
+    link: Option<LinkNo>,
+    asked: bool,
+    answer: Option<Message>,
+}
+
+impl Model for Row {
+    ghost use Rattle.node_machine.specs.Lists.{Row};
+    ghost use Rattle.request_book.specs.Values.{source_of, IsKeyOf, IsAnswerOf};
+
+    ghost Value = { Row };
+
+    ghost view = { λ r. record { message = r.message; source = source_of r.source; count = r.count; link = r.link; asked = r.asked; answer = r.answer } };
+
+    ghost invariant = { λ r. (IsKeyOf r.key r.message) × IsAnswerOf r.key r.answer };
+}
+
+impl Row {
+    ghost use Rattle.node_machine.specs.Lists.{row_key};
+
+    /// A request that was just opened.
+    pub fn new(key: Key, message: Message, source: Option<LinkNo>, count: u64) -> Row
+        requires { IsKeyOf key message }
+        ensures { result ≡ record { message = message; source = source_of source; count = count; link = None; asked = false; answer = None } }
+    {
+        Row {
+            key,
+            message,
+            source,
+            count,
+            link: None,
+            asked: false,
+            answer: None,
+        }
+    }
+
+    pub fn key(&self) -> Key
+        ensures key { result ≡ row_key self.now }
+        ensures own { IsKeyOf result self.now.message }
+    {
+        self.key
+    }
+
+    pub fn message(&self) -> &Message
+        ensures { result.now ≡ self.now.message }
+    {
+        &self.message
+    }
+
+    pub fn source(&self) -> Option<LinkNo>
+        ensures { source_of result ≡ self.now.source }
+    {
+        self.source
+    }
+
+    pub fn count(&self) -> u64
+        ensures { result ≡ self.now.count }
+    {
+        self.count
+    }
+
+    pub fn link(&self) -> Option<LinkNo>
+        ensures { result ≡ self.now.link }
+    {
+        self.link
+    }
+
+    pub fn asked(&self) -> bool
+        ensures { result ≡ self.now.asked }
+    {
+        self.asked
+    }
+
+    /// What the request was answered with, an answer of the same key.
+    pub fn answer(&self) -> Option<&Message>
+        ensures answer { option_copied result ≡ self.now.answer }
+        ensures own { IsAnswerOf (row_key self.now) self.now.answer }
+    {
+        self.answer.as_ref()
+    }
+
+    pub fn is_open(&self) -> bool
+        ensures { result ≡ is_none self.now.answer }
+    {
+        self.answer.is_none()
+    }
+
+    /// What an output of the row's own key does to it.
+    pub fn after(&mut self, output: PreparedOutput)
+        requires { key_eq (output_key output) (row_key self.old) ≡ true }
+        ensures { self.new ≡ row_after output self.old }
+    {
+        let PreparedOutput {
+            way,
+            key: _,
+            advice: _,
+            message,
+        } = output;
+        match way {
+            Way::Put(link, _) => {
+                if is_request(message.kind()) {
+                    if self.link.is_none() {
+                        self.link = Some(link);
+                    }
+                } else if self.answer.is_none()
+                    && is_answer(message.kind())
+                    && !has_code(&message, b"94")
+                {
+                    self.answer = Some(message);
+                }
+            }
+            Way::Answer => {
+                if self.answer.is_none()
+                    && is_answer(message.kind())
+                    && !has_code(&message, b"94")
+                {
+                    self.answer = Some(message);
+                }
+            }
+            Way::Ask(_) => self.asked = true,
+            Way::Post => {}
+        }
+    }
+}

@@ -1,0 +1,4 @@
+pub mod Sums
+mod Mapped
+mod Lessened
+mod Taken
