@@ -1,4 +1,4 @@
-//! A request that is read, written, cut, changed and set.
+//! A request that is read, written and set, and first faults.
 
 use crate::fixtures::{M, fault_of, has, is_spelled, read};
 use iso_message::{DecodeFault, Kind, Message, encode};
@@ -15,16 +15,6 @@ fn request(rt: HostRuntime) -> Result<(), Fail> {
     assert!(rt; message.get(5).is_none());
     assert!(rt; is_spelled(&rt, &message, M)?);
     Ok(())
-}
-
-#[test]
-fn fronts(rt: HostRuntime) {
-    for end in 0..M.len() {
-        assert!(rt;
-            fault_of(&rt, &M[..end]) == Some(DecodeFault::Short),
-            "{end} bytes"
-        );
-    }
 }
 
 /// Each line is the number of a fault, 0 for none, and the bytes.
@@ -67,29 +57,6 @@ fn first_faults(rt: HostRuntime) {
         let found = number_of(fault_of(&rt, text.as_bytes()));
         assert!(rt; found == number, "{line}");
     }
-}
-
-/// Whether the changed bytes are refused, or written back up to letter case.
-fn is_exact(rt: &HostRuntime, place: usize, byte: u8) -> Result<bool, Fail> {
-    let mut changed = Vec::from_slice(rt.alloc(), M)?;
-    if let Some(b) = changed.get_mut(place) {
-        *b = byte;
-    }
-    if fault_of(rt, &changed).is_some() {
-        return Ok(true);
-    }
-    let again = encode(rt.alloc(), &read(rt, &changed)?)?;
-    Ok(again.eq_ignore_ascii_case(&changed))
-}
-
-#[test]
-fn each_change_of_a_byte(rt: HostRuntime) -> Result<(), Fail> {
-    for place in 0..M.len() {
-        for byte in 0..=255u8 {
-            assert!(rt; is_exact(&rt, place, byte)?, "{byte} at {place}");
-        }
-    }
-    Ok(())
 }
 
 #[test]
