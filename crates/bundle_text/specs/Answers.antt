@@ -30,6 +30,9 @@ fault line = record { text = line; status = Fault }
 abbrev pub parts_fault : Said
 parts_fault = fault (codes "fault bundle 1 parts\n")
 
+abbrev pub check_memory : Said
+check_memory = fault (codes "fault check 9 memory\n")
+
 -- the verdict on tables
 abbrev pub verdict : Network → Option Refusal → Said
 verdict t None = record { text = codes "accepted\n"; status = Done }
@@ -56,7 +59,7 @@ status_code Fault = 2
 
 -- a line that names memory
 abbrev pub NamesMemory : Said → Type 0
-NamesMemory said = (said ≡ fault (codes "fault tables 8 memory\n")) ⊎ ((said ≡ fault (codes "fault ranks 6 memory\n")) ⊎ (said ≡ fault (codes "fault check 9 memory\n")))
+NamesMemory said = (said ≡ fault (codes "fault tables 8 memory\n")) ⊎ ((said ≡ fault (codes "fault ranks 6 memory\n")) ⊎ (said ≡ check_memory))
 
 -- the answer of a job, unless memory was refused
 abbrev pub Answers : Said → Said → Type 0

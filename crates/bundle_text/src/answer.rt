@@ -1,6 +1,9 @@
 //! What the program answers.
-ghost use Rattle.std.specs.Prelude.{◌≡◌};
+ghost use Rattle.std.specs.Prelude.{◌≡◌, ◌<◌, Err, IfOk};
+ghost use Rattle.bundle_text.specs.Answers.{Wrote, WroteFront};
 
+use card_digits::{Sink, write_all};
+use message_text::PrintFault;
 use std::marker::Model;
 
 /// The exit status: 0 where the job is done, 1 where the tables are refused, 2 for any fault.
@@ -59,5 +62,18 @@ impl Answer {
         ensures { result ≡ self.now.status }
     {
         self.status
+    }
+}
+
+/// Writes an answer that was made.
+pub fn write_answer<W: Sink>(writer: &mut W, answer: &Answer) -> Result<Status, PrintFault>
+    ensures ok { IfOk result (Wrote (λ said. said ≡ answer.now) (W.written writer.old) (W.written writer.new)) }
+    ensures write { result ≡ Err PrintFault.Write → WroteFront (λ said. said ≡ answer.now) (W.written writer.old) (W.written writer.new) }
+    ensures failed { result ≡ Err PrintFault.Write → 0 < W.failures writer.new }
+    ensures memory { result ≡ Err PrintFault.Memory → W.written writer.new ≡ W.written writer.old }
+{
+    match write_all(writer, answer.text()) {
+        Ok(()) => Ok(answer.status()),
+        Err(_) => Err(PrintFault::Write),
     }
 }

@@ -1,6 +1,6 @@
 //! The answer of `check`.
-ghost use Rattle.std.specs.Prelude.{◌≡◌, IfOk, map};
-ghost use Rattle.bundle_text.specs.Answers.{Said, Answers, check_parts, check_read, check_said, fault, verdict};
+ghost use Rattle.std.specs.Prelude.{◌≡◌, IfOk, map, Some};
+ghost use Rattle.bundle_text.specs.Answers.{Said, Answers, check_parts, check_memory, check_read, check_said, fault, verdict};
 ghost use Rattle.net_tables.specs.Reading.{tables_in};
 ghost use Rattle.rank_cert.specs.Reading.{cert_in};
 
@@ -15,13 +15,33 @@ use std::alloc::{AllocError, Global};
 use table_checker::check;
 
 /// The answer of a fault's line.
-pub(crate) fn fault(line: String) -> Answer
+pub fn fault_answer(line: String) -> Answer
     ensures { result ≡ fault (string_bytes line) }
 {
     Answer::new(line.into_bytes(), Status::Fault)
 }
 
 ghost use Rattle.std.specs.Prelude.{string_bytes};
+
+/// The answer where memory was refused while tables were checked.
+pub fn check_memory_answer(alloc: Global) -> Result<Answer, AllocError>
+    ensures { IfOk result (λ a. a ≡ check_memory) }
+{
+    let line = String::from_str(alloc, "fault check 9 memory\n")?;
+    Ok(fault_answer(line))
+}
+
+/// The answer of a refusal of these tables.
+pub fn refused_answer(
+    alloc: Global,
+    tables: &Tables,
+    refusal: &Refusal,
+) -> Result<Answer, AllocError>
+    ensures { IfOk result (λ a. a ≡ verdict tables.now (Some refusal.now)) }
+{
+    let line = refusal_line(alloc, tables, refusal)?;
+    Ok(Answer::new(line, Status::Refused))
+}
 
 /// The verdict on tables.
 fn verdict(alloc: Global, tables: &Tables, cert: &Cert) -> Result<Answer, AllocError>
@@ -32,14 +52,8 @@ fn verdict(alloc: Global, tables: &Tables, cert: &Cert) -> Result<Answer, AllocE
             let line = String::from_str(alloc, "accepted\n")?;
             Ok(Answer::new(line.into_bytes(), Status::Done))
         }
-        Err(Refusal::Memory) => {
-            let line = String::from_str(alloc, "fault check 9 memory\n")?;
-            Ok(fault(line))
-        }
-        Err(refusal) => {
-            let line = refusal_line(alloc, tables, &refusal)?;
-            Ok(Answer::new(line, Status::Refused))
-        }
+        Err(Refusal::Memory) => check_memory_answer(alloc),
+        Err(refusal) => refused_answer(alloc, tables, &refusal),
     }
 }
 
@@ -48,11 +62,11 @@ ghost use Rattle.table_checker.specs.Rules.{first_refusal};
 use table_checker::Refusal;
 
 /// Another number of parts than the job takes.
-pub(crate) fn parts_fault(alloc: Global) -> Result<Answer, AllocError>
+pub fn parts_fault(alloc: Global) -> Result<Answer, AllocError>
     ensures { IfOk result (λ a. a ≡ parts_fault) }
 {
     let line = String::from_str(alloc, "fault bundle 1 parts\n")?;
-    Ok(fault(line))
+    Ok(fault_answer(line))
 }
 
 ghost use Rattle.bundle_text.specs.Answers.{parts_fault};
@@ -63,11 +77,11 @@ fn check_both(alloc: Global, tables: &[u8], ranks: &[u8]) -> Result<Answer, Allo
 {
     let tables = match read_tables(alloc, tables) {
         Ok(tables) => tables,
-        Err(e) => return Ok(fault(table_fault_line(alloc, e)?)),
+        Err(e) => return Ok(fault_answer(table_fault_line(alloc, e)?)),
     };
     let cert = match read_cert(alloc, ranks) {
         Ok(cert) => cert,
-        Err(e) => return Ok(fault(cert_fault_line(alloc, e)?)),
+        Err(e) => return Ok(fault_answer(cert_fault_line(alloc, e)?)),
     };
     verdict(alloc, &tables, &cert)
 }

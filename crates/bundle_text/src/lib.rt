@@ -9,11 +9,13 @@ mod input_parts;
 mod make_text;
 mod refusals;
 
-pub use answer::{Answer, Status};
-pub use check_text::check_answer;
+pub use answer::{Answer, Status, write_answer};
+pub use check_text::{
+    check_answer, check_memory_answer, fault_answer, parts_fault, refused_answer,
+};
 pub use decode_text::write_decoded;
 pub use faults::{cert_fault_line, table_fault_line};
 pub use input_parts::parts;
 pub use make_text::make_answer;
-pub use message_text::PrintFault;
-pub use refusals::refusal_line;
+pub use message_text::{MOST_WAITING, PrintFault, add_text, send};
+pub use refusals::{link_name, node_name, refusal_line};

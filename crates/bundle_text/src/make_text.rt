@@ -7,7 +7,7 @@ ghost use Rattle.bundle_text.specs.Lines.{node_name, circle_line};
 ghost use Rattle.bundle_text.specs.Answers.{IsMade, IsMadeOf, IsMadeOfParts, MakeAnswers, NamesMemory};
 
 use crate::answer::{Answer, Status};
-use crate::check_text::{fault, parts_fault};
+use crate::check_text::{fault_answer, parts_fault};
 use crate::faults::table_fault_line;
 use crate::input_parts::parts;
 use crate::refusals::{digits_text, joined, node_name};
@@ -88,7 +88,7 @@ fn make_one(alloc: Global, text: &[u8]) -> Result<Answer, AllocError>
 {
     let tables = match read_tables(alloc, text) {
         Ok(tables) => tables,
-        Err(e) => return Ok(fault(table_fault_line(alloc, e)?)),
+        Err(e) => return Ok(fault_answer(table_fault_line(alloc, e)?)),
     };
     made(alloc, &tables)
 }

@@ -30,7 +30,8 @@ pub(crate) fn digits_text(alloc: Global, prefix: &Prefix) -> Result<Vec<u8>, All
     Ok(text)
 }
 
-pub(crate) fn node_name(tables: &Tables, node: NodeNo) -> &[u8]
+/// The name of a node of the tables; empty where there is no such node.
+pub fn node_name(tables: &Tables, node: NodeNo) -> &[u8]
     ensures { result.now ≡ node_name tables.now node }
 {
     match tables.nodes().get(node.place()) {
@@ -39,7 +40,8 @@ pub(crate) fn node_name(tables: &Tables, node: NodeNo) -> &[u8]
     }
 }
 
-fn link_name(tables: &Tables, link: LinkNo) -> &[u8]
+/// The name of a link of the tables; empty where there is no such link.
+pub fn link_name(tables: &Tables, link: LinkNo) -> &[u8]
     ensures { result.now ≡ link_name tables.now link }
 {
     match tables.links().get(link.place()) {

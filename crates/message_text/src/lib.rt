@@ -9,6 +9,7 @@ mod sending;
 
 pub use answer::{decode_frames, decode_lines};
 pub use fault::PrintFault;
+pub use sending::{MOST_WAITING, add_text, send};
 
 #[cfg(test)]
 mod tests;

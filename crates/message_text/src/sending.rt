@@ -1,4 +1,4 @@
-//! Blocks on their way to a writer.
+//! Text on its way to a writer.
 ghost use Rattle.std.specs.Prelude.{◌≡◌, ◌<◌, ◌++◌, [], OnOk, OnErr, IfOk, Err};
 ghost use Rattle.std.specs.Option.{option_copied};
 ghost use Rattle.std.specs.Io.KnownBytes.{Appends};
@@ -13,7 +13,7 @@ use itoa::Buffer;
 use std::alloc::{AllocError, Global};
 
 /// From so many bytes on, what waits is written.
-const MOST_WAITING: usize = 65_536;
+pub const MOST_WAITING: usize = 65_536;
 
 /// What waits to be written, and the memory in which a message is read and printed.
 #[derive(Drop)]
@@ -61,7 +61,7 @@ impl Buffers {
 }
 
 /// Writes what waits.
-pub(crate) fn send<W: Sink>(writer: &mut W, waiting: &mut Vec<u8>) -> Result<(), WriteFault>
+pub fn send<W: Sink>(writer: &mut W, waiting: &mut Vec<u8>) -> Result<(), WriteFault>
     ensures sent { OnOk result (Appends (W.written writer.old) (W.written writer.new) waiting.old.items) }
     ensures none { OnOk result (waiting.new.items ≡ []) }
     ensures err { OnErr result (AppendsFront (W.written writer.old) (W.written writer.new) waiting.old.items) }
@@ -84,7 +84,11 @@ fn send_with<W: Sink>(writer: &mut W, waiting: &mut Vec<u8>, text: &[u8]) -> Res
 }
 
 /// Adds a text to what waits, which is written where it is long, or where there is no memory for more.
-fn add_text<W: Sink>(writer: &mut W, waiting: &mut Vec<u8>, text: &[u8]) -> Result<(), WriteFault>
+pub fn add_text<W: Sink>(
+    writer: &mut W,
+    waiting: &mut Vec<u8>,
+    text: &[u8],
+) -> Result<(), WriteFault>
     ensures ok { OnOk result (Sends (W.written writer.old) (W.written writer.new) waiting.old.items text.now waiting.new.items) }
     ensures err { OnErr result (AppendsFront (W.written writer.old) (W.written writer.new) (waiting.old.items ++ text.now)) }
     ensures failed { OnErr result (0 < W.failures writer.new) }

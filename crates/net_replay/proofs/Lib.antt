@@ -4,4 +4,5 @@ pub mod Sent
 pub mod Reading
 pub mod Standing
 pub mod Runs
+pub mod Outcomes
 pub mod Unread

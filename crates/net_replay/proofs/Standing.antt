@@ -81,6 +81,7 @@ one_more t nodes sent places steps at n less e step links there = record {
   nodes_are = (length-set nodes n now ∙ at.nodes_are.0, λ m lm. node m (eqb n m) refl lm);
   sent_are = (length-set sent n (put_all links e.outputs) ∙ at.sent_are.0, λ m lm. put m (eqb n m) refl lm);
   places_are = ap (λ z. z ++ (record { node = n; entry = length (entries_at n steps) }) ∷ []) at.places_are;
+  there = (less, at.there);
   legal = λ m lm. right m (eqb n m) refl lm;
 }
   where

@@ -1,5 +1,6 @@
 pub mod Steps
 pub mod Packets
 pub mod Replays
+pub mod Outcome
 pub mod Traces
 pub mod Running

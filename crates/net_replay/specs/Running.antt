@@ -6,7 +6,7 @@ use Rattle.network_law.specs.Checked.{IsChecked}
 use Rattle.network_law.specs.Entries.{Entry}
 use Rattle.switch_node.specs.Node.{NodeView}
 use Rattle.net_replay.specs.Steps.{Step, entries_at, packets}
-use Rattle.net_replay.specs.Traces.{AreNodes, places_of}
+use Rattle.net_replay.specs.Traces.{AreNodes, AreThere, places_of}
 use Rattle.network_law.specs.Runs.{IsLegal}
 use Rattle.replay_script.specs.Lines.{Said, read_line}
 use Rattle.net_replay.specs.declared.running.Running.{Running}
@@ -24,6 +24,7 @@ pub record IsAt (t : Network) (nodes : List NodeView) (sent : List (List (List B
   pub nodes_are : AreNodes t steps nodes
   pub sent_are : AreSent t steps sent
   pub places_are : places ≡ places_of steps
+  pub there : AreThere t steps
   pub legal : (n : ℕ) → n < length t.nodes → IsLegal t n (entries_at n steps)
 
 -- the nodes stand where these steps lead

@@ -1,5 +1,5 @@
 -- Traces as contracts see them.
-use Rattle.std.specs.Prelude.{ℕ, ◌≡◌, ◌<◌, List, [], ◌∷◌, ◌++◌, length, Option, Some, None, slice_get}
+use Rattle.std.specs.Prelude.{ℕ, ◌≡◌, ◌<◌, List, [], ◌∷◌, ◌++◌, length, Option, Some, None, slice_get, reverse, option_and_then, ⊤}
 use Rattle.network_law.specs.Entries.{Entry}
 use Rattle.net_rows.specs.Network.{Network}
 use Rattle.switch_node.specs.Node.{NodeView}
@@ -18,6 +18,10 @@ trace_or_none (Some a) = a.trace
 abbrev pub trace_of : TracesView → ℕ → List Entry
 trace_of v n = trace_or_none (slice_get v.nodes n)
 
+-- the entry at a place; of the trace of a node the oldest entry has place 0
+abbrev pub entry_at : TracesView → StepPlace → Option Entry
+entry_at v p = option_and_then (λ (a : NodeView). slice_get (reverse a.trace) p.entry) (slice_get v.nodes p.node)
+
 -- there is a node of the tables for each number, and its trace is that of the steps
 abbrev pub AreNodes : Network → List Step → List NodeView → Type 0
 AreNodes t steps nodes = (length nodes ≡ length t.nodes) × ((n : ℕ) → n < length t.nodes → slice_get nodes n ≡ Some (record { t = t; n = n; trace = entries_at n steps }))
@@ -27,6 +31,12 @@ abbrev pub places_of : List Step → List StepPlace
 places_of [] = []
 places_of (s ∷ steps) = places_of steps ++ (record { node = s.node; entry = length (entries_at s.node steps) }) ∷ []
 
+-- each step is that of a node of the tables
+abbrev pub AreThere : Network → List Step → Type 0
+AreThere t [] = ⊤
+AreThere t (s ∷ steps) = (s.node < length t.nodes) × AreThere t steps
+
 pub record AreTraces (t : Network) (steps : List Step) (v : TracesView) : Type 0 where
   pub nodes : AreNodes t steps v.nodes
   pub places : v.places ≡ places_of steps
+  pub there : AreThere t steps

@@ -4,7 +4,7 @@ ghost use Rattle.std.specs.Option.{option_copied};
 ghost use Rattle.net_replay.specs.Packets.{packet_of, put_at, put_all};
 
 use card_digits::LinkNo;
-use node_books::Way;
+use request_book::Way;
 use std::alloc::{AllocError, Global};
 use std::marker::Model;
 use switch_node::Output;

@@ -1,5 +1,5 @@
 //! Running a script.
-ghost use Rattle.std.specs.Prelude.{◌≡◌, ◌≢◌, [], List, IfOk, IfErr};
+ghost use Rattle.std.specs.Prelude.{◌≡◌, ◌≢◌, [], List, Ok, Err, IfOk, IfErr};
 ghost use Rattle.card_digits.specs.Lines.{lines};
 ghost use Rattle.network_law.specs.Claims.{Safe, Covered};
 ghost use Rattle.network_law.specs.Entries.{history};
@@ -8,6 +8,7 @@ ghost use Rattle.net_replay.specs.declared.fault.ReplayFault.TheVariants.{Memory
 ghost use Rattle.net_replay.specs.Steps.{Step};
 ghost use Rattle.net_replay.specs.Running.{IsStanding};
 ghost use Rattle.net_replay.specs.Replays.{Leads, Fails};
+ghost use Rattle.net_replay.specs.Outcome.{outcome};
 ghost use Rattle.net_replay.specs.Traces.{AreTraces, trace_of};
 
 use crate::fault::ReplayFault;
@@ -59,11 +60,14 @@ pub fn replay<'a>(
 ) -> Result<Traces<'a>, ReplayFault>
     // The lines lead to steps, and the traces are those of the steps: each node's inputs are what the lines say of it, in order.
     ensures steps { IfOk result (λ r. (steps : List Step) × Leads accepted.now [] (lines script.now) steps × AreTraces accepted.now steps r) }
+    // They are what the lines' outcome says.
+    ensures outcome { IfOk result (λ r. (steps : List Step) × (outcome accepted.now (lines script.now) ≡ Ok steps) × AreTraces accepted.now steps r) }
     // So they are a run: all that holds of every run of the tables holds of them.
     ensures run { IfOk result (λ r. IsRun accepted.now (trace_of r)) }
     ensures safe { IfOk result (λ r. Safe accepted.now (λ n. history (trace_of r n))) }
     ensures covered { IfOk result (λ r. Covered accepted.now (λ n. history (trace_of r n))) }
     ensures fault { IfErr result (λ f. f ≢ Memory → Fails accepted.now [] 1 (lines script.now) f) }
+    ensures first_fault { IfErr result (λ f. f ≢ Memory → outcome accepted.now (lines script.now) ≡ Err f) }
 {
     let tables = accepted.tables();
     let nodes = Running::new(alloc, accepted)?;

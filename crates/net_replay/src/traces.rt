@@ -1,9 +1,11 @@
 //! What comes of a script.
 ghost use Rattle.std.specs.Prelude.{◌≡◌};
+ghost use Rattle.std.specs.Option.{option_copied};
+ghost use Rattle.net_replay.specs.Traces.{entry_at};
 
 use card_digits::NodeNo;
 use std::marker::Model;
-use switch_node::Node;
+use switch_node::{Entry, Node};
 
 /// Where the entry of a line stands.
 #[derive(Clone, Copy, Debug, PartialEq, Eq)]
@@ -35,6 +37,7 @@ impl<'a> Traces<'a> {
         Traces { nodes, places }
     }
 
+    /// The nodes, in the order of the tables.
     pub fn nodes(&self) -> &[Node<'a>]
         ensures { result.now ≡ self.now.nodes }
     {
@@ -46,5 +49,13 @@ impl<'a> Traces<'a> {
         ensures { result.now ≡ self.now.places }
     {
         self.places.as_slice()
+    }
+
+    /// The entry at a place, or none where nothing stands.
+    pub fn entry(&self, place: StepPlace) -> Option<&Entry>
+        ensures { option_copied result ≡ entry_at self.now place }
+    {
+        let node = self.nodes.get(place.node.place())?;
+        node.trace().get(place.entry)
     }
 }

@@ -1,8 +1,8 @@
 //! A network of two nodes and a link, and scripts on it. Nothing is promised of these functions, so that a test is proved fast.
 use net_replay::{ReplayFault, Traces, replay};
 use net_tables::read_tables;
-use node_books::Way;
 use rank_cert::read_cert;
+use request_book::Way;
 use std::alloc::Global;
 use std::test::Fail;
 use switch_node::Output;

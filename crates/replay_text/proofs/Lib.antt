@@ -1,0 +1,4 @@
+pub mod Parts
+pub mod SentTexts
+pub mod StepPieces
+pub mod Texts

@@ -1,0 +1,11 @@
+use Rattle.std.proofs.Common.{◌≡◌, ◌++◌, List, ℕ, map, drop, Bor}
+use Rattle.std.specs.List.{concat}
+use Rattle.message_text.specs.Printed.{Sends}
+use Rattle.replay_text.proofs.sending.add_pieces.Given as goal
+
+abbrev pub invariant-loop-piece : goal.invariant-loop-piece
+invariant-loop-piece g l = record {
+  done : List ℕ;
+  sends : Sends (g.W.Sink.written l.fn.writer) (g.W.Sink.written l.writer) l.initial.waiting.items done l.waiting.items;
+  whole : done ++ concat (map (λ (p : Bor (List ℕ)). p.now) (drop l.piece-index l.pieces)) ≡ concat (map (λ (p : Bor (List ℕ)). p.now) l.pieces);
+}

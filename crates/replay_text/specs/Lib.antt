@@ -1,0 +1,4 @@
+pub mod Lines
+pub mod Placed
+pub mod Fronts
+pub mod Answers

@@ -1,0 +1,174 @@
+//! The answer of `replay`.
+ghost use Rattle.std.specs.Prelude.{◌≡◌, ◌<◌, map, Err, IfOk};
+ghost use Rattle.net_tables.specs.Reading.{tables_in};
+ghost use Rattle.rank_cert.specs.Reading.{cert_in};
+ghost use Rattle.card_digits.specs.Lines.{lines};
+ghost use Rattle.table_checker.specs.Rules.{first_refusal};
+ghost use Rattle.net_replay.specs.Outcome.{outcome};
+ghost use Rattle.bundle_text.specs.Answers.{Wrote, WroteFront, fault};
+ghost use Rattle.bundle_text.specs.Lines.{table_fault_line, cert_fault_line};
+ghost use Rattle.replay_text.specs.Lines.{script_fault_line};
+ghost use Rattle.bundle_text.specs.Parts.{parts_of};
+ghost use Rattle.replay_text.specs.Answers.{WroteMade, WroteMadeFront, ReplayAnswers, outcome_said, checked_said, read_said, replay_parts, replay_said};
+
+use crate::faults::script_fault_line;
+use crate::steps::write_traces;
+use bundle_text::{
+    Answer, PrintFault, Status, cert_fault_line, check_memory_answer, fault_answer, parts,
+    parts_fault, refused_answer, table_fault_line, write_answer,
+};
+use card_digits::Sink;
+use net_replay::{ReplayFault, replay};
+use net_rows::Tables;
+use net_tables::{TableFault, read_tables};
+use rank_cert::{Cert, CertFault, read_cert};
+use std::alloc::{AllocError, Global};
+use table_checker::{Accepted, Refusal, check};
+
+/// The answer of a script's fault.
+fn script_fault_answer(alloc: Global, e: ReplayFault) -> Result<Answer, AllocError>
+    ensures { IfOk result (λ a. a ≡ fault (script_fault_line e)) }
+{
+    let line = script_fault_line(alloc, e)?;
+    Ok(fault_answer(line))
+}
+
+fn table_fault_answer(alloc: Global, e: TableFault) -> Result<Answer, AllocError>
+    ensures { IfOk result (λ a. a ≡ fault (table_fault_line e)) }
+{
+    let line = table_fault_line(alloc, e)?;
+    Ok(fault_answer(line))
+}
+
+fn cert_fault_answer(alloc: Global, e: CertFault) -> Result<Answer, AllocError>
+    ensures { IfOk result (λ a. a ≡ fault (cert_fault_line e)) }
+{
+    let line = cert_fault_line(alloc, e)?;
+    Ok(fault_answer(line))
+}
+
+/// Writes an answer, where there was memory to make it.
+fn write_made<W: Sink>(
+    writer: &mut W,
+    made: Result<Answer, AllocError>,
+) -> Result<Status, PrintFault>
+    ensures ok { IfOk result (WroteMade made (W.written writer.old) (W.written writer.new)) }
+    ensures write { result ≡ Err PrintFault.Write → WroteMadeFront made (W.written writer.old) (W.written writer.new) }
+    ensures failed { result ≡ Err PrintFault.Write → 0 < W.failures writer.new }
+    ensures memory { result ≡ Err PrintFault.Memory → W.written writer.new ≡ W.written writer.old }
+{
+    match made {
+        Ok(answer) => write_answer(writer, &answer),
+        Err(_) => Err(PrintFault::Memory),
+    }
+}
+
+/// Writes the answer to a script on accepted tables.
+fn write_script<W: Sink>(
+    alloc: Global,
+    tables: &Tables,
+    accepted: &Accepted<'_>,
+    script: &[u8],
+    writer: &mut W,
+) -> Result<Status, PrintFault>
+    requires { accepted.now ≡ tables.now }
+    ensures ok { IfOk result (Wrote (λ said. ReplayAnswers said (outcome_said tables.now (outcome tables.now (lines script.now)))) (W.written writer.old) (W.written writer.new)) }
+    ensures write { result ≡ Err PrintFault.Write → WroteFront (λ said. ReplayAnswers said (outcome_said tables.now (outcome tables.now (lines script.now)))) (W.written writer.old) (W.written writer.new) }
+    ensures failed { result ≡ Err PrintFault.Write → 0 < W.failures writer.new }
+    ensures memory { result ≡ Err PrintFault.Memory → W.written writer.new ≡ W.written writer.old }
+{
+    match replay(alloc, accepted, script) {
+        Ok(traces) => match write_traces(alloc, tables, &traces, writer) {
+            Ok(()) => Ok(Status::Done),
+            Err(fault) => Err(fault),
+        },
+        Err(fault) => write_made(writer, script_fault_answer(alloc, fault)),
+    }
+}
+
+/// Writes the answer to a script on tables with their ranks.
+fn write_checked<W: Sink>(
+    alloc: Global,
+    tables: &Tables,
+    cert: &Cert,
+    script: &[u8],
+    writer: &mut W,
+) -> Result<Status, PrintFault>
+    ensures ok { IfOk result (Wrote (λ said. ReplayAnswers said (checked_said tables.now (first_refusal tables.now cert.now) script.now)) (W.written writer.old) (W.written writer.new)) }
+    ensures write { result ≡ Err PrintFault.Write → WroteFront (λ said. ReplayAnswers said (checked_said tables.now (first_refusal tables.now cert.now) script.now)) (W.written writer.old) (W.written writer.new) }
+    ensures failed { result ≡ Err PrintFault.Write → 0 < W.failures writer.new }
+    ensures memory { result ≡ Err PrintFault.Memory → W.written writer.new ≡ W.written writer.old }
+{
+    match check(alloc, tables, cert) {
+        Ok(accepted) => write_script(alloc, tables, &accepted, script, writer),
+        Err(Refusal::Memory) => write_made(writer, check_memory_answer(alloc)),
+        Err(refusal) => write_made(writer, refused_answer(alloc, tables, &refusal)),
+    }
+}
+
+/// Writes the first fault of tables and ranks, or the answer to the script.
+fn write_read<W: Sink>(
+    alloc: Global,
+    tables: &[u8],
+    ranks: &[u8],
+    script: &[u8],
+    writer: &mut W,
+) -> Result<Status, PrintFault>
+    ensures ok { IfOk result (Wrote (λ said. ReplayAnswers said (read_said (tables_in tables.now) (cert_in ranks.now) script.now)) (W.written writer.old) (W.written writer.new)) }
+    ensures write { result ≡ Err PrintFault.Write → WroteFront (λ said. ReplayAnswers said (read_said (tables_in tables.now) (cert_in ranks.now) script.now)) (W.written writer.old) (W.written writer.new) }
+    ensures failed { result ≡ Err PrintFault.Write → 0 < W.failures writer.new }
+    ensures memory { result ≡ Err PrintFault.Memory → W.written writer.new ≡ W.written writer.old }
+{
+    let tables = match read_tables(alloc, tables) {
+        Ok(tables) => tables,
+        Err(e) => return write_made(writer, table_fault_answer(alloc, e)),
+    };
+    let cert = match read_cert(alloc, ranks) {
+        Ok(cert) => cert,
+        Err(e) => return write_made(writer, cert_fault_answer(alloc, e)),
+    };
+    write_checked(alloc, &tables, &cert, script, writer)
+}
+
+#[tactic(auto, using(crate::proofs::Parts::not_three, crate::proofs::Parts::three))]
+fn write_parts<W: Sink>(
+    alloc: Global,
+    parts: &[Vec<u8>],
+    writer: &mut W,
+) -> Result<Status, PrintFault>
+    ensures ok { IfOk result (Wrote (λ said. ReplayAnswers said (replay_parts (map (λ p. p.items) parts.now))) (W.written writer.old) (W.written writer.new)) }
+    ensures write { result ≡ Err PrintFault.Write → WroteFront (λ said. ReplayAnswers said (replay_parts (map (λ p. p.items) parts.now))) (W.written writer.old) (W.written writer.new) }
+    ensures failed { result ≡ Err PrintFault.Write → 0 < W.failures writer.new }
+    ensures memory { result ≡ Err PrintFault.Memory → W.written writer.new ≡ W.written writer.old }
+{
+    if parts.len() != 3 {
+        return write_made(writer, parts_fault(alloc));
+    }
+    write_read(alloc, &parts[0], &parts[1], &parts[2], writer)
+}
+
+/// The parts of an input, whose own memory is given back.
+fn own_parts(alloc: Global, input: Vec<u8>) -> Result<Vec<Vec<u8>>, AllocError>
+    ensures { IfOk result (λ v. map (λ p. p.items) v.items ≡ parts_of input.items) }
+{
+    parts(alloc, &input)
+}
+
+/// Writes the answer of `replay` to an input of three parts, tables, ranks and a script: what the nodes put out for each line, the first
+/// fault, or the refusal of the tables. A fault anywhere in the script is written alone, so nothing is written before its last line.
+/// The fault is `Write` where the writer failed, behind a beginning of the answer, and `Memory` where nothing was written.
+pub fn write_replayed<W: Sink>(
+    alloc: Global,
+    input: Vec<u8>,
+    writer: &mut W,
+) -> Result<Status, PrintFault>
+    ensures ok { IfOk result (Wrote (λ said. ReplayAnswers said (replay_said input.items)) (W.written writer.old) (W.written writer.new)) }
+    ensures write { result ≡ Err PrintFault.Write → WroteFront (λ said. ReplayAnswers said (replay_said input.items)) (W.written writer.old) (W.written writer.new) }
+    ensures failed { result ≡ Err PrintFault.Write → 0 < W.failures writer.new }
+    ensures memory { result ≡ Err PrintFault.Memory → W.written writer.new ≡ W.written writer.old }
+{
+    let Ok(parts) = own_parts(alloc, input) else {
+        return Err(PrintFault::Memory);
+    };
+    write_parts(alloc, &parts, writer)
+}
