@@ -1,0 +1,33 @@
+-- Packets that are held back, by incoming rings, in the order in which they were taken.
+use Rattle.std.specs.Prelude.{ℕ, ◌+◌, min, ◌^◌, ◌-◌, List, [], ◌∷◌, ◌++◌, Option, Some, None, option_and_then, if◌then◌else◌, nat_le, slice_get, slice_set, slice_index_or}
+use Rattle.link_rings.specs.Rings.{PacketView}
+
+pub record WaitingView : Type 0 where
+  pub due : ℕ
+  pub packet : PacketView
+
+pub record HeldView : Type 0 where
+  pub turn : ℕ
+  pub rings : List (List WaitingView)
+
+-- the first packet of a ring, where its turn has come
+abbrev pub first_due : ℕ → List WaitingView → Option PacketView
+first_due turn [] = None
+first_due turn (w ∷ ws) = if nat_le w.due turn then Some w.packet else None
+
+abbrev pub behind_due : ℕ → List WaitingView → List WaitingView
+behind_due turn [] = []
+behind_due turn (w ∷ ws) = if nat_le w.due turn then ws else w ∷ ws
+
+abbrev pub due_packet : ℕ → HeldView → Option PacketView
+due_packet k h = option_and_then (first_due h.turn) (slice_get h.rings k)
+
+abbrev pub without_due : ℕ → HeldView → HeldView
+without_due k h = record { turn = h.turn; rings = slice_set h.rings k (behind_due h.turn (slice_index_or h.rings k [])) }
+
+-- as later as a number of eight bytes can say
+abbrev later : ℕ → ℕ → ℕ
+later turn turns = min (turn + turns) (2 ^ 64 - 1)
+
+abbrev pub with_held : ℕ → ℕ → PacketView → HeldView → HeldView
+with_held k turns p h = record { turn = h.turn; rings = slice_set h.rings k (slice_index_or h.rings k [] ++ record { due = later h.turn turns; packet = p } ∷ []) }

@@ -1,0 +1,125 @@
+//! Packets that bad links hold back.
+ghost use Rattle.std.specs.Prelude.{◌≡◌, ◌⊎◌, [], replicate, IfOk};
+ghost use Rattle.link_rings.specs.Held.{HeldView, first_due, behind_due, due_packet, without_due, with_held};
+
+use crate::ROOM;
+use crate::packet::Packet;
+use std::alloc::{AllocError, Global};
+use std::marker::Model;
+
+/// A packet that waits for a turn of the pump that took it.
+#[derive(Drop)]
+struct HeldPacket {
+    due: u64,
+    packet: Packet,
+}
+
+impl Model for HeldPacket {
+    ghost use Rattle.link_rings.specs.Held.{WaitingView};
+
+    ghost Value = { WaitingView };
+
+    ghost view = { λ p. record { due = p.due; packet = p.packet } };
+}
+
+/// The packets of one ring, in the order in which they were taken.
+#[derive(Drop)]
+struct HeldRing {
+    packets: Vec<HeldPacket>,
+}
+
+impl Model for HeldRing {
+    ghost use Rattle.std.specs.Prelude.{List};
+    ghost use Rattle.link_rings.specs.Held.{WaitingView};
+
+    ghost Value = { List WaitingView };
+
+    ghost view = { λ r. r.packets.items };
+}
+
+/// The packets that are held back at a node, for each incoming ring, and the number of turns that its pump made.
+#[derive(Drop)]
+pub struct Held {
+    turn: u64,
+    rings: Vec<HeldRing>,
+}
+
+impl Model for Held {
+    ghost use Rattle.link_rings.specs.Held.{HeldView};
+
+    ghost Value = { HeldView };
+
+    ghost view = { λ h. record { turn = h.turn; rings = h.rings.items } };
+}
+
+impl HeldRing {
+    // The first packet, where its turn has come.
+    fn due(&mut self, turn: u64) -> Option<Packet>
+        ensures packet { result ≡ first_due turn self.old }
+        ensures rest { self.new ≡ behind_due turn self.old }
+    {
+        match self.packets.first() {
+            Some(first) if first.due <= turn => {
+                let HeldPacket { due: _, packet } = self.packets.remove(0);
+                Some(packet)
+            }
+            _ => None,
+        }
+    }
+}
+
+impl Held {
+    /// Nothing is held, and there is no place to hold anything. Takes no memory.
+    pub fn none(alloc: Global) -> Held
+        ensures { result ≡ record { turn = 0; rings = [] } }
+    {
+        Held {
+            turn: 0,
+            rings: Vec::new(alloc),
+        }
+    }
+
+    /// Nothing is held for so many rings.
+    pub fn new(alloc: Global, count: usize) -> Result<Held, AllocError>
+        ensures { IfOk result (λ h. h ≡ record { turn = 0; rings = replicate count [] }) }
+    {
+        let mut rings = Vec::new(alloc);
+        for _ in 0..count {
+            rings.push(HeldRing {
+                packets: Vec::new(alloc),
+            })?;
+        }
+        Ok(Held { turn: 0, rings })
+    }
+
+    /// The next turn of the pump.
+    pub fn next_turn(&mut self)
+        ensures rings { self.new.rings ≡ self.old.rings }
+    {
+        self.turn = self.turn.saturating_add(1);
+    }
+
+    /// The packet of a ring whose turn has come.
+    pub fn due(&mut self, k: usize) -> Option<Packet>
+        ensures packet { result ≡ due_packet k self.old }
+        ensures rest { self.new ≡ without_due k self.old }
+    {
+        let turn = self.turn;
+        match self.rings.get_mut(k) {
+            Some(ring) => ring.due(turn),
+            None => None,
+        }
+    }
+
+    /// Holds a packet of a ring back for so many turns. One that is too many, or meets no memory, is lost.
+    pub fn hold(&mut self, k: usize, turns: u16, packet: Packet)
+        ensures { (self.new ≡ self.old) ⊎ (self.new ≡ with_held k turns packet self.old) }
+    {
+        let due = self.turn.saturating_add(turns as u64);
+        if let Some(ring) = self.rings.get_mut(k) {
+            if ring.packets.len() < ROOM {
+                let _ = ring.packets.push(HeldPacket { due, packet });
+            }
+        }
+    }
+}

@@ -1,0 +1,111 @@
+//! What sessions ended with, held against the plan.
+ghost use Rattle.std.specs.Prelude.{IsTrue, IfOk, IfSome, ◌≡◌, ◌<◌, length, slice_index_or, Some};
+ghost use Rattle.std.specs.List.{AllZip};
+ghost use Rattle.net_operate.specs.Sessions.{key_in, IsAnswerTo, LineFits, SessionFits};
+
+use card_digits::Key;
+use iso_message::{decode, key_of};
+use net_threads::{LineEnd, SessionEnd};
+use run_plan::Session;
+use std::alloc::{AllocError, Global};
+
+/// The key of the message that the bytes spell. None also where memory is wanting.
+fn key_in(alloc: Global, bytes: &[u8]) -> Option<Key>
+    ensures { IfSome result (λ k. key_in bytes.now ≡ Some k) }
+{
+    match decode(alloc, bytes) {
+        Ok(message) => key_of(&message),
+        Err(_) => None,
+    }
+}
+
+/// Whether an answer has the key of a line: for a reversal, that of its original.
+pub(crate) fn is_answer_to(alloc: Global, line: &[u8], answer: &[u8]) -> bool
+    ensures { IsTrue result → IsAnswerTo line.now answer.now }
+{
+    let Some(key) = key_in(alloc, line) else {
+        return false;
+    };
+    match key_in(alloc, answer) {
+        Some(other) => key == other,
+        None => false,
+    }
+}
+
+fn fitted_line(alloc: Global, line: &[u8], end: LineEnd) -> LineEnd
+    ensures { LineFits line.now result }
+{
+    match end {
+        LineEnd::Answer(bytes) => {
+            if is_answer_to(alloc, line, bytes.as_slice()) {
+                LineEnd::Answer(bytes)
+            } else {
+                LineEnd::Nothing
+            }
+        }
+        LineEnd::Nothing => LineEnd::Nothing,
+        LineEnd::Refused(fault) => LineEnd::Refused(fault),
+    }
+}
+
+fn line_at<'p>(lines: &[&'p [u8]], k: usize) -> &'p [u8]
+    requires { k < length lines.now }
+    ensures { (d : _) → result.now ≡ (slice_index_or lines.now k d).now }
+{
+    lines[k]
+}
+
+fn fitted_lines(
+    alloc: Global,
+    lines: &[&[u8]],
+    ends: Vec<LineEnd>,
+) -> Result<Vec<LineEnd>, AllocError>
+    ensures { IfOk result (λ v. AllZip (λ l. LineFits l.now) lines.now v.items) }
+{
+    let mut rest = ends.into_iter();
+    let mut all = Vec::new(alloc);
+    for k in 0..lines.len() {
+        let line = line_at(lines, k);
+        let end = match rest.next() {
+            Some(end) => end,
+            None => LineEnd::Nothing,
+        };
+        all.push(fitted_line(alloc, line, end))?;
+    }
+    Ok(all)
+}
+
+fn fitted_session(
+    alloc: Global,
+    session: &Session<'_>,
+    ends: Vec<LineEnd>,
+) -> Result<SessionEnd, AllocError>
+    ensures { IfOk result (λ e. SessionFits session.now e) }
+{
+    let lines = fitted_lines(alloc, session.lines.as_slice(), ends)?;
+    Ok(SessionEnd {
+        node: session.node,
+        lines,
+    })
+}
+
+/// The ends of all sessions, each with an end for each of its lines. An end that is wanting is `Nothing`, and so is an answer that has
+/// another key than its line: a thread tells nothing that is taken on trust.
+pub(crate) fn fitted(
+    alloc: Global,
+    sessions: &[Session<'_>],
+    ends: Vec<Vec<LineEnd>>,
+) -> Result<Vec<SessionEnd>, AllocError>
+    ensures { IfOk result (λ v. AllZip SessionFits sessions.now v.items) }
+{
+    let mut rest = ends.into_iter();
+    let mut all = Vec::new(alloc);
+    for session in sessions {
+        let lines = match rest.next() {
+            Some(lines) => lines,
+            None => Vec::new(alloc),
+        };
+        all.push(fitted_session(alloc, session, lines)?)?;
+    }
+    Ok(all)
+}

@@ -1,0 +1,9 @@
+//! Nodes, hosts and sessions as threads.
+#![tactic(auto)]
+
+mod fitting;
+mod running;
+mod threads;
+mod waiting;
+
+pub use running::{Host, OperateFault, operate};

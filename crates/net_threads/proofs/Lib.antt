@@ -1,0 +1,4 @@
+pub mod Sends
+pub mod Pumps
+pub mod Sofar
+pub mod Standing

@@ -1,0 +1,4 @@
+pub mod Station
+pub mod Pumping
+pub mod Found
+pub mod Verdicts

@@ -1,0 +1,82 @@
+-- What the verdicts say of stations.
+use Rattle.std.specs.Prelude.{◌≡◌, ℕ, suc, List, [], Option, Some, None, slice_get, All, ⊤}
+use Rattle.net_rows.specs.Network.{Network, other_end}
+use Rattle.network_law.specs.Cards.{Bytes}
+use Rattle.network_law.specs.Traces.{IsIn}
+use Rattle.network_law.specs.Entries.{Entry, Input, Take, Put, Answer}
+use Rattle.network_law.specs.Runs.{IsRun}
+use Rattle.net_threads.specs.Station.{StationView, given}
+use Rattle.net_threads.specs.declared.ended.Ended.{Ended}
+use Rattle.net_threads.specs.declared.ended.SessionEnd.{SessionEnd}
+use Rattle.net_threads.specs.declared.ended.LineEnd.{LineEnd}
+use Rattle.net_threads.specs.declared.ended.LineEnd.TheVariants as ends
+use Rattle.net_threads.specs.declared.ended.Verdict.{Verdict}
+use Rattle.net_threads.specs.declared.ended.Verdict.TheVariants.{Linked, LinkStrange, AnswerStrange, StationStrange}
+
+abbrev pub trace_or_none : Option StationView → List Entry
+trace_or_none None = []
+trace_or_none (Some s) = s.trace
+
+-- the trace of each node
+abbrev pub trace_of : List StationView → ℕ → List Entry
+trace_of stations n = trace_or_none (slice_get stations n)
+
+-- the trace put these bytes on the link with this serial
+abbrev pub WasPut : List Entry → ℕ → ℕ → Bytes → Type 0
+WasPut trace l s bytes = (f : Entry) × IsIn f trace × IsIn (Put l s bytes) f.outputs
+
+-- the trace gave this answer
+abbrev pub WasAnswered : List Entry → Bytes → Type 0
+WasAnswered trace bytes = (f : Entry) × IsIn f trace × IsIn (Answer bytes) f.outputs
+
+-- the station holds this node of these tables
+abbrev pub IsOf : Network → ℕ → StationView → Type 0
+IsOf t n s = (s.t ≡ t) × (s.n ≡ n)
+
+abbrev pub AreOf : Network → List StationView → Type 0
+AreOf t stations = (n : ℕ) (s : StationView) → slice_get stations n ≡ Some s → IsOf t n s
+
+-- what was taken was put at the link's other end
+abbrev pub IsLinked : Network → List StationView → ℕ → Input → Type 0
+IsLinked t stations n (Take l s bytes) = WasPut (trace_of stations (other_end t n l)) l s bytes
+IsLinked t stations n _ = ⊤
+
+abbrev pub AreLinked : Network → List StationView → Type 0
+AreLinked t stations = (n : ℕ) (v : StationView) → slice_get stations n ≡ Some v → (i : Input) → IsIn i (given v.trace) → IsLinked t stations n i
+
+-- a packet with this serial was taken there from the link, and wasn't put at its other end
+pub record IsStrange (t : Network) (stations : List StationView) (n l s : ℕ) (i : Input) : Type 0 where
+  pub bytes : Bytes
+  pub takes : i ≡ Take l s bytes
+  pub not_put : ¬ WasPut (trace_of stations (other_end t n l)) l s bytes
+
+pub record HasStrange (t : Network) (stations : List StationView) (l s : ℕ) : Type 0 where
+  pub n : ℕ
+  pub station : StationView
+  pub there : slice_get stations n ≡ Some station
+  pub input : Input
+  pub given : IsIn input (given station.trace)
+  pub strange : IsStrange t stations n l s input
+
+-- an answer stands in the trace of the session's node
+abbrev pub IsGiven : List StationView → ℕ → LineEnd → Type 0
+IsGiven stations n (ends.Answer bytes) = WasAnswered (trace_of stations n) bytes.items
+IsGiven stations n ends.Nothing = ⊤
+IsGiven stations n (ends.Refused fault) = ⊤
+
+abbrev pub AreGiven : List StationView → Ended → Type 0
+AreGiven stations ended = (k : ℕ) (s : SessionEnd) → slice_get ended.sessions.items k ≡ Some s → All (IsGiven stations s.node) s.lines.items
+
+pub record HasUngiven (stations : List StationView) (ended : Ended) (session line : ℕ) : Type 0 where
+  pub end : SessionEnd
+  pub is_end : slice_get ended.sessions.items session ≡ Some end
+  pub line_end : LineEnd
+  pub is_line : slice_get end.lines.items line ≡ Some line_end
+  pub not_given : ¬ IsGiven stations end.node line_end
+
+-- sessions and lines count from 1
+abbrev pub Holds : Network → List StationView → Ended → Verdict → Type 0
+Holds t stations ended Linked = IsRun t (trace_of stations) × AreGiven stations ended
+Holds t stations ended (LinkStrange l s) = HasStrange t stations l s
+Holds t stations ended (AnswerStrange session line) = (i : ℕ) × (j : ℕ) × (session ≡ suc i) × (line ≡ suc j) × HasUngiven stations ended i j
+Holds t stations ended (StationStrange n) = (s : StationView) × (slice_get stations n ≡ Some s) × ¬ IsOf t n s

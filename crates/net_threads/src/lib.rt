@@ -1,0 +1,17 @@
+//! The nodes of accepted tables as stations that threads share, and whether what they did is a run.
+#![tactic(auto)]
+
+mod ended;
+mod fault;
+mod given;
+mod judge;
+mod network;
+mod pumping;
+mod puts;
+mod sending;
+mod station;
+
+pub use ended::{Ended, Finished, LineEnd, SessionEnd, Verdict};
+pub use fault::StationFault;
+pub use network::Network;
+pub use station::Station;

@@ -1,0 +1,37 @@
+//! What a plan says.
+
+use crate::faults::Faults;
+use card_digits::{Amount, Card, DateLabel, NodeNo};
+
+/// A node is to lend another a part of its limit for a card and date, before anything else happens.
+#[derive(Clone, Copy, Debug, PartialEq, Eq)]
+pub struct Loan {
+    pub lender: NodeNo,
+    pub borrower: NodeNo,
+    pub card: Card,
+    pub date: DateLabel,
+    pub amount: Amount,
+}
+
+/// What an acquirer enters at its node, one message after the answer to the last or after its turns.
+#[derive(Drop)]
+pub struct Session<'a> {
+    pub node: NodeNo,
+    /// At most 10,000.
+    pub lines: Vec<&'a [u8]>,
+}
+
+/// What threads are to run.
+#[derive(Drop)]
+pub struct Plan<'a> {
+    /// How many turns a pump, a host, and a session for each of its lines make at most: 1 to 4,000,000,000.
+    pub turns: u64,
+    /// A node has a tick after so many turns of its pump, and none where this is 0. At most 4,000,000,000.
+    pub tick_every: u64,
+    /// Up to what amount each node's host approves, in the order of the tables.
+    pub limits: Vec<Amount>,
+    pub faults: Faults,
+    pub loans: Vec<Loan>,
+    /// At most 256.
+    pub sessions: Vec<Session<'a>>,
+}

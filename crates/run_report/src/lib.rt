@@ -1,0 +1,11 @@
+//! Running the text of a plan, and the report in JSON of what came of it.
+#![tactic(auto)]
+
+mod approvals;
+mod limit_host;
+mod reporting;
+mod text_run;
+
+pub use limit_host::LimitHost;
+pub use reporting::report;
+pub use text_run::{RunFault, run_plan_text};
