@@ -1,5 +1,5 @@
 //! Whole inputs and what is printed for them.
-use crate::bundle::run_bundle;
+use crate::bundle::run_text;
 use crate::job::{Job, job_of};
 use card_digits::Counted;
 use std::alloc::{AllocError, Global};
@@ -9,14 +9,25 @@ mod base;
 mod faults;
 mod limits;
 mod made;
+mod networks;
+mod planned;
+mod replayed;
 mod worked;
 
-/// What is printed for an input, and the status.
+/// What is printed for an input of a job that needs no threads, and the status.
 pub(crate) fn answer(alloc: Global, job: Job, input: &[u8]) -> Option<(Vec<u8>, u8)> {
     let mut text: Vec<u8> = Vec::new(alloc);
     let mut reader = Counted::reader(input);
     let mut writer = Counted::writer(&mut text);
-    let ended = run_bundle(alloc, job, &mut reader, &mut writer);
+    let ended = match job {
+        Job::Check => run_text(alloc, Job::Check, &mut reader, &mut writer),
+        Job::Make => run_text(alloc, Job::Make, &mut reader, &mut writer),
+        Job::Replay => run_text(alloc, Job::Replay, &mut reader, &mut writer),
+        Job::Decode { frames } => {
+            run_text(alloc, Job::Decode { frames }, &mut reader, &mut writer)
+        }
+        Job::Run => return None,
+    };
     match ended {
         Ok(status) => Some((text, status)),
         Err(_) => None,
@@ -75,7 +86,9 @@ fn jobs_of_words(rt: HostRuntime) -> Result<(), Fail> {
         Some(Job::Decode { frames: true })
     );
     assert_eq!(rt; job_of(alloc, &["check", "--"])?, None);
-    assert_eq!(rt; job_of(alloc, &["replay"])?, None);
+    assert_eq!(rt; job_of(alloc, &["replay"])?, Some(Job::Replay));
+    assert_eq!(rt; job_of(alloc, &["run"])?, Some(Job::Run));
+    assert_eq!(rt; job_of(alloc, &["replay", "replay"])?, None);
     assert_eq!(rt; job_of(alloc, &[])?, None);
     Ok(())
 }

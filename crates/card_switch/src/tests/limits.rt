@@ -1,5 +1,5 @@
 //! Too many rows, other shapes of whole inputs, and readers and writers that fail.
-use crate::bundle::{BundleFault, run_bundle};
+use crate::bundle::{BundleFault, run_text};
 use crate::job::Job;
 use crate::tests::says;
 use card_digits::{Counted, ReadFault, Sink, Source, WriteFault};
@@ -221,7 +221,7 @@ fn a_reader_that_fails(rt: HostRuntime) -> Result<(), Fail> {
     let mut text: Vec<u8> = Vec::new(alloc);
     let mut reader = Unreadable { calls: 0 };
     let mut writer = Counted::writer(&mut text);
-    let ended = run_bundle(alloc, Job::Check, &mut reader, &mut writer);
+    let ended = run_text(alloc, Job::Check, &mut reader, &mut writer);
     assert_eq!(rt; ended, Ok(2));
     assert!(rt; text.as_slice() == b"fault bundle 3 read\n".as_slice());
     Ok(())
@@ -232,7 +232,7 @@ fn a_writer_that_fails(rt: HostRuntime) -> Result<(), Fail> {
     let alloc = rt.alloc();
     let mut reader = Counted::reader(b"%%\n".as_slice());
     let mut writer = Unwritable { calls: 0 };
-    let ended = run_bundle(alloc, Job::Check, &mut reader, &mut writer);
+    let ended = run_text(alloc, Job::Check, &mut reader, &mut writer);
     assert_eq!(rt; ended, Err(BundleFault::Write));
     Ok(())
 }

@@ -1,0 +1,88 @@
+//! Plans, and what is printed for them.
+use crate::bundle::run_bundle;
+use crate::job::Job;
+use crate::tests::networks::{IN_A_LINE, Sample, TWO_NODES};
+use card_digits::Counted;
+use std::alloc::{AllocError, Global};
+use std::sync::Wait;
+use std::test::Fail;
+use std::thread::Threads;
+
+/// A plan on a network, and what is printed for it, with the status.
+#[derive(Drop)]
+struct Plan {
+    name: &'static str,
+    network: Sample,
+    lines: &'static str,
+    want: &'static str,
+    status: u8,
+}
+
+/// Whether this is printed for the plan.
+fn gives<T: Threads + Wait + Sync>(rt: &T, alloc: Global, plan: &Plan) -> Result<bool, AllocError> {
+    let tables = plan.network.tables;
+    let ranks = plan.network.ranks;
+    let lines = plan.lines;
+    let input = format!(in alloc; "{tables}%%\n{ranks}%%\n{lines}")?;
+    let mut text: Vec<u8> = Vec::new(alloc);
+    let mut reader = Counted::reader(input.as_bytes());
+    let mut writer = Counted::writer(&mut text);
+    let ended = run_bundle(rt, alloc, Job::Run, &mut reader, &mut writer);
+    match ended {
+        Ok(status) => Ok(text.as_slice() == plan.want.as_bytes() && status == plan.status),
+        Err(_) => Ok(false),
+    }
+}
+
+#[test]
+fn plans_and_their_faults(rt: HostRuntime) -> Result<(), Fail> {
+    let plans = [
+        Plan {
+            name: "acquirer",
+            network: IN_A_LINE,
+            lines: "PLAN 1\nturns 4000000000\ntick_every 0\nhost H 1000\nsession 400002\nsend 01007220000100008000164111111111111111000000000000001000031409153000000106400001840\nEND\n",
+            want: "fault plan 2 acquirer 5\n",
+            status: 2,
+        },
+        Plan {
+            name: "no_end",
+            network: IN_A_LINE,
+            lines: "PLAN 1\nturns 4000000000\ntick_every 0\nhost H 1000\nsession 400001\nsend 01007220000100008000164111111111111111000000000000001000031409153000000106400001840\n",
+            want: "fault plan 3 no end\n",
+            status: 2,
+        },
+        Plan {
+            name: "plan_2",
+            network: IN_A_LINE,
+            lines: "PLAN 2\nturns 4000000000\ntick_every 0\nhost H 1000\nsession 400001\nsend 01007220000100008000164111111111111111000000000000001000031409153000000106400001840\nEND\n",
+            want: "fault plan 1 line 1\n",
+            status: 2,
+        },
+        Plan {
+            name: "send_x",
+            network: IN_A_LINE,
+            lines: "PLAN 1\nturns 4000000000\ntick_every 0\nhost H 1000\nsession 400001\nsend X\nEND\n",
+            want: "{\"answers\":[[\"refused 1\"]],\"linked\":\"yes\",\"own\":0,\"posts\":0}\n",
+            status: 0,
+        },
+        Plan {
+            name: "lose",
+            network: TWO_NODES,
+            lines: "PLAN 1\nturns 4000000000\ntick_every 100\nhost H 1000\nlose AH 1\nsession 400001\nsend 01007220000100008000164111111111111111000000000000001000031409153000000106400001840\nEND\n",
+            want: "{\"answers\":[[\"91\"]],\"linked\":\"yes\",\"own\":0,\"posts\":0}\n",
+            status: 0,
+        },
+        Plan {
+            name: "no_host",
+            network: TWO_NODES,
+            lines: "PLAN 1\nturns 4000000000\ntick_every 0\nsession 400001\nsend 01007220000100008000164111111111111111000000000000001000031409153000000106400001840\nEND\n",
+            want: "{\"answers\":[[\"05\"]],\"linked\":\"yes\",\"own\":0,\"posts\":0}\n",
+            status: 0,
+        },
+    ];
+    for plan in plans.iter() {
+        let name = plan.name;
+        assert!(rt; gives(&rt, rt.alloc(), plan)?, "{name}");
+    }
+    Ok(())
+}
