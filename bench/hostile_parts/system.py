@@ -1,0 +1,234 @@
+"""What the system does to a run: readers and writers that fail, command lines, memory that is short."""
+
+import errno
+import os
+import resource
+import shutil
+import subprocess
+import sys
+import tempfile
+from pathlib import Path
+
+import answers
+import changes
+from running import WORDS
+
+SECONDS = 60
+USAGE = b"usage: card_switch check|make|replay|run|decode [--frames]\n"
+HERE = Path(__file__).resolve().parent
+
+
+def first_inputs():
+    """An input of each job that has status 0."""
+    bundle = changes.tables_and_ranks(changes.FIRST)
+    plan = changes.short_plan(1).replace(b"repeat AB 1\nrepeat BH 1\n", b"")
+    return [
+        ("check", bundle),
+        ("make", changes.text_of(changes.FIRST / "tables.toml")),
+        ("replay", bundle + changes.LINE + changes.text_of(changes.FIRST / "script.txt")),
+        ("run", bundle + changes.LINE + plan),
+        ("decode", changes.REQUEST + b"\n"),
+        ("frames", changes.FRAME),
+    ]
+
+
+def started(program, words, **rest):
+    rest.setdefault("stdout", subprocess.PIPE)
+    rest.setdefault("stderr", subprocess.PIPE)
+    return subprocess.run([program, *words], timeout=SECONDS, env={}, **rest)
+
+
+def command_lines():
+    """Words that are no command, and some of them no text."""
+    jobs = [words for words in WORDS.values()]
+    yield from ([], [b""], [b"Check"], [b"check "], [b" check"], [b"help"], [b"--help"], [b"-h"], [b"--version"], [b"--"], [b"-"])
+    yield from ([b"--frames"], [b"--frames", b"decode"], [b"decode", b"--frame"], [b"decode", b"-frames"], [b"decode", b"--frames="])
+    yield from ([b"decode", b"--frames", b"--frames"], [b"decode", b"--", b"--frames"], [b"decode", b"--frames=true"])
+    yield from ([b"\xff"], [b"check\xff"], [b"decode", b"\xff"], [b"\xc3\x28"], [b"check\n"], ["überprüfen".encode()])
+    yield from ([b"x" * 100000], [b"check"] * 1000, [b""] * 1000, [b"--frames"] * 1000)
+    for words in jobs:
+        for more in (b"", b"check", b"--", b"-", b"--frames", b"@file", b"--help"):
+            line = [*(word.encode() for word in words), more]
+            if line != [b"decode", b"--frames"]:
+                yield line
+
+
+def try_command_lines(program):
+    for words in command_lines():
+        run = started(program, words, stdin=subprocess.DEVNULL)
+        good = run.returncode == 2 and run.stdout == b"" and run.stderr == USAGE
+        yield (b" ".join(words)[:60], None if good else f"status {run.returncode}: {run.stdout[:60]} {run.stderr[:60]}")
+    with open("/dev/full", "wb") as full:
+        run = started(program, [], stdin=subprocess.DEVNULL, stderr=full)
+        yield ("usage to a full device", None if run.returncode == 2 else f"status {run.returncode}")
+
+
+def readers():
+    """Inputs that fail, and one without an end."""
+    yield "a folder", os.open("/", os.O_RDONLY)
+    yield "open for writing alone", os.open("/dev/null", os.O_WRONLY)
+    yield "without an end", os.open("/dev/zero", os.O_RDONLY)
+    yield "empty", os.open("/dev/null", os.O_RDONLY)
+
+
+def try_readers(program):
+    wanted = {"a folder": b"fault bundle 3 read\n", "open for writing alone": b"fault bundle 3 read\n"}
+    wanted["without an end"] = b"fault bundle 2 too long\n"
+    for job, words in WORDS.items():
+        for name, file in readers():
+            run = started(program, words, stdin=file)
+            os.close(file)
+            want = wanted.get(name)
+            if want is None:
+                problem = answers.problem_of(job, run.returncode, b"", run.stdout, run.stderr)
+            else:
+                problem = None if (run.returncode, run.stdout, run.stderr) == (2, want, b"") else f"{run}"
+            yield (f"{job}: a reader that is {name}", problem)
+        yield (f"{job}: a reader that is closed", closed_reader(program, words, job))
+
+
+def closed_reader(program, words, job):
+    """A closed input is a failed read, or empty."""
+    run = started(program, words, preexec_fn=lambda: os.close(0))
+    if run.stdout == b"fault bundle 3 read\n":
+        return None if run.returncode == 2 else f"status {run.returncode}"
+    return answers.problem_of(job, run.returncode, b"", run.stdout, run.stderr)
+
+
+def try_pieces(program):
+    """Input byte by byte gives the same output."""
+    for job, data in first_inputs():
+        whole = started(program, WORDS[job], input=data)
+        child = subprocess.Popen([program, *WORDS[job]], stdin=subprocess.PIPE, stdout=subprocess.PIPE, env={})
+        for place in range(len(data)):
+            os.write(child.stdin.fileno(), data[place : place + 1])
+        out, _ = child.communicate(timeout=SECONDS)
+        same = (child.returncode, out) == (whole.returncode, whole.stdout) and whole.returncode == 0
+        yield (f"{job}: byte by byte", None if same else f"status {child.returncode}, {len(out)} bytes")
+
+
+def writers():
+    """Outputs that fail: each a file, or nothing for a closed one."""
+    yield "full", os.open("/dev/full", os.O_WRONLY)
+    yield "open for reading alone", os.open("/dev/null", os.O_RDONLY)
+    reader, writer = os.pipe()
+    os.close(reader)
+    yield "a pipe without a reader", writer
+
+
+def try_writers(program):
+    """A write that fails ends with status 2, and says nothing more."""
+    for job, data in first_inputs():
+        for name, file in writers():
+            run = started(program, WORDS[job], input=data, stdout=file)
+            os.close(file)
+            good = run.returncode == 2 and run.stderr == b""
+            yield (f"{job}: a writer that is {name}", None if good else f"status {run.returncode}, {run.stderr[:60]}")
+        run = started(program, WORDS[job], input=data, stdout=None, preexec_fn=lambda: os.close(1))
+        good = run.returncode == 2 and run.stderr == b""
+        yield (f"{job}: a writer that is closed", None if good else f"status {run.returncode}, {run.stderr[:60]}")
+
+
+def try_early_ends(program):
+    """A reader of the output that goes away after some bytes."""
+    data = (changes.REQUEST + b"\n") * 20000
+    for taken in (0, 1, 4096, 65536, 65537, 1000000):
+        child = subprocess.Popen([program, "decode"], stdin=subprocess.PIPE, stdout=subprocess.PIPE, stderr=subprocess.PIPE, env={})
+        child.stdin.write(data)
+        child.stdin.close()
+        got = 0
+        while got < taken:
+            got += len(os.read(child.stdout.fileno(), taken - got))
+        child.stdout.close()
+        status = child.wait(timeout=SECONDS)
+        said = child.stderr.read()
+        child.stderr.close()
+        good = status == 2 and said == b""
+        yield (f"decode: the output's reader ends after {taken} bytes", None if good else f"status {status}, {said[:60]}")
+
+
+def whole_or_memory(job, data, run, whole):
+    """A run with too little memory prints the whole output, or a line that names memory. `make` may give up instead. `run` may name
+    threads; and a node without memory refuses what comes to it, so that a report may tell of fewer answers."""
+    if (run.returncode, run.stdout) == whole:
+        return None
+    if run.returncode == 2 and (answers.names_memory(run.stdout) or run.stdout == b"fault run 1 threads\n"):
+        return None
+    if job == "make" and (run.returncode, run.stdout) == (1, b"gave up\n"):
+        return None
+    if job == "run" and run.returncode == 0 and answers.problem_of_report(data, run.stdout) is None:
+        return None
+    return f"status {run.returncode}: {run.stdout[-80:]} {run.stderr[-80:]}"
+
+
+def limited(mib_quarters):
+    size = mib_quarters << 18
+    return lambda: resource.setrlimit(resource.RLIMIT_AS, (size, size))
+
+
+def try_little_memory(program):
+    """Address spaces of 1 to 24 MiB by quarters. Where the program can't be started, nothing is asked of it."""
+    inputs = [(job, data) for job, data in first_inputs() if job != "run"]
+    inputs += [("decode", (changes.REQUEST + b"\n") * 20000), ("check", long_bundle(1 << 20))]
+    for job, data in inputs:
+        whole = started(program, WORDS[job], input=data)
+        for quarters in range(4, 96):
+            if started(program, [], preexec_fn=limited(quarters)).stderr != USAGE:
+                continue
+            run = started(program, WORDS[job], input=data, preexec_fn=limited(quarters))
+            problem = whole_or_memory(job, data, run, (whole.returncode, whole.stdout))
+            yield (f"{job}: {len(data)} bytes in {quarters / 4} MiB", problem)
+
+
+def long_bundle(size):
+    """The first example, with a comment in its tables that makes it so long."""
+    bundle = changes.tables_and_ranks(changes.FIRST)
+    return b"#" * (size - len(bundle) - 1) + b"\n" + bundle
+
+
+def library(folder):
+    """The library that refuses memory, built by the system's C compiler, or nothing where there is none."""
+    compiler = shutil.which("cc")
+    if compiler is None:
+        return None
+    made = Path(folder) / "refuse_memory.so"
+    subprocess.run([compiler, "-O1", "-shared", "-fPIC", "-o", made, HERE / "refuse_memory.c"], check=True)
+    return made
+
+
+def refused_run(program, job, data, made, number, later):
+    """A run with a refusal, and how many requests were refused."""
+    marks = os.memfd_create("marks")
+    # 'env' is not refused anything: the library is loaded into the program alone.
+    words = [f"LD_PRELOAD={made}", f"REFUSE={number}", *(["REFUSE_LATER=1"] if later else [])]
+    command = ["/usr/bin/env", "-i", *words, program, *WORDS[job]]
+    run = subprocess.run(
+        command,
+        input=data,
+        stdout=subprocess.PIPE,
+        stderr=subprocess.PIPE,
+        timeout=SECONDS,
+        close_fds=False,
+        preexec_fn=lambda: os.dup2(marks, 9),
+    )
+    count = os.fstat(marks).st_size
+    os.close(marks)
+    return run, count
+
+
+def try_refused_memory(program):
+    """Each request for memory refused in turn, alone and with all later ones, up to a run that meets no refusal."""
+    with tempfile.TemporaryDirectory() as folder:
+        made = library(folder)
+        if made is None:
+            print("refused memory: no C compiler, left out", file=sys.stderr)
+            return
+        for job, data in first_inputs():
+            whole = started(program, WORDS[job], input=data)
+            for later in (False, True):
+                number, met = 1, 1
+                while met and number < 5000:
+                    run, met = refused_run(program, job, data, made, number, later)
+                    problem = whole_or_memory(job, data, run, (whole.returncode, whole.stdout))
+                    yield (f"{job}: request {number} refused{' and later ones' if later else ''}", problem)
+                    number += 1
