@@ -16,6 +16,7 @@ from running import WORDS
 SECONDS = 60
 USAGE = b"usage: card_switch check|make|replay|run|decode [--frames]\n"
 HERE = Path(__file__).resolve().parent
+TOP = HERE.parents[1]
 
 
 def first_inputs():
@@ -196,12 +197,12 @@ def library(folder):
     return made
 
 
-def refused_run(program, job, data, made, number, later):
+def refused_run(program, words, data, made, number, later):
     """A run with a refusal, and how many requests were refused."""
     marks = os.memfd_create("marks")
     # 'env' is not refused anything: the library is loaded into the program alone.
-    words = [f"LD_PRELOAD={made}", f"REFUSE={number}", *(["REFUSE_LATER=1"] if later else [])]
-    command = ["/usr/bin/env", "-i", *words, program, *WORDS[job]]
+    settings = [f"LD_PRELOAD={made}", f"REFUSE={number}", *(["REFUSE_LATER=1"] if later else [])]
+    command = ["/usr/bin/env", "-i", *settings, program, *words]
     run = subprocess.run(
         command,
         input=data,
@@ -216,19 +217,41 @@ def refused_run(program, job, data, made, number, later):
     return run, count
 
 
-def try_refused_memory(program):
-    """Each request for memory refused in turn, alone and with all later ones, up to a run that meets no refusal."""
+def refused_runs(program, words, data, later):
+    """Runs in which each request for memory is refused in turn, up to one that meets no refusal."""
     with tempfile.TemporaryDirectory() as folder:
         made = library(folder)
         if made is None:
             print("refused memory: no C compiler, left out", file=sys.stderr)
             return
-        for job, data in first_inputs():
-            whole = started(program, WORDS[job], input=data)
-            for later in (False, True):
-                number, met = 1, 1
-                while met and number < 5000:
-                    run, met = refused_run(program, job, data, made, number, later)
-                    problem = whole_or_memory(job, data, run, (whole.returncode, whole.stdout))
-                    yield (f"{job}: request {number} refused{' and later ones' if later else ''}", problem)
-                    number += 1
+        number, met = 1, 1
+        while met and number < 5000:
+            run, met = refused_run(program, words, data, made, number, later)
+            yield f"request {number} refused{' and later ones' if later else ''}", run
+            number += 1
+
+
+def try_refused_memory(program):
+    """Each request for memory refused in turn, alone and with all later ones."""
+    for job, data in first_inputs():
+        whole = started(program, WORDS[job], input=data)
+        for later in (False, True):
+            for what, run in refused_runs(program, WORDS[job], data, later):
+                problem = whole_or_memory(job, data, run, (whole.returncode, whole.stdout))
+                yield (f"{job}: {what}", problem)
+
+
+def try_refused_steps(_program):
+    """A node's steps, each tried again where it was refused memory: they put out what they put out otherwise."""
+    steps = TOP / "crates" / "step_retry" / "out" / "step_retry"
+    if not steps.exists():
+        print("steps tried again: crates/step_retry is not built (rt ci builds it), left out", file=sys.stderr)
+        return
+    whole = (TOP / "crates" / "step_retry" / "stdout").read_bytes()
+    for later in (False, True):
+        for what, run in refused_runs(steps, [], b"", later):
+            good = (run.returncode, run.stdout) == (0, whole)
+            # The tables and the node itself may want memory; and where all later requests are refused, no try helps.
+            lines = run.stdout.removesuffix(b"memory\n")
+            short = run.returncode == 2 and lines != run.stdout and (whole.startswith(lines) if later else lines == b"")
+            yield (f"steps: {what}", None if good or short else f"status {run.returncode}: {run.stdout[-80:]}")

@@ -1,0 +1,210 @@
+//! Steps a node through a request whose link fails, and prints what it puts out. A step that is refused memory is tried again: it
+//! must have changed nothing, and then does what it would have done. `bench/hostile` runs this with each request for memory refused.
+#![tactic(auto)]
+
+use card_digits::{LinkNo, NodeNo};
+use net_tables::{Tables, read_tables};
+use network_law::StepFault;
+use rank_cert::{Cert, read_cert};
+use std::alloc::{AllocError, Global};
+use std::io;
+use std::io::Write;
+use std::process::ExitCode;
+use switch_node::{Case, Input, Node, Outputs};
+use table_checker::check;
+
+const TABLES: &[u8] = b"\
+[network]
+currency = \"840\"
+date = \"0314\"
+host_ticks = 100
+advice_ticks = 50
+[[node]]
+name = \"A\"
+id = \"1001\"
+[[node]]
+name = \"P\"
+id = \"1003\"
+[[node]]
+name = \"Q\"
+id = \"1004\"
+[[node]]
+name = \"H\"
+id = \"1002\"
+[[link]]
+name = \"AP\"
+ends = [\"A\", \"P\"]
+ticks = 3
+[[link]]
+name = \"AQ\"
+ends = [\"A\", \"Q\"]
+ticks = 3
+[[link]]
+name = \"PH\"
+ends = [\"P\", \"H\"]
+ticks = 3
+[[link]]
+name = \"QH\"
+ends = [\"Q\", \"H\"]
+ticks = 3
+[[acquirer]]
+id = \"400001\"
+node = \"A\"
+[[issuer]]
+name = \"I\"
+prefix = \"4\"
+home = \"H\"
+named = [\"A\"]
+ceiling = 1000
+[[route]]
+node = \"A\"
+prefix = \"4\"
+links = [\"AP\", \"AQ\"]
+[[route]]
+node = \"P\"
+prefix = \"4\"
+links = [\"PH\"]
+[[route]]
+node = \"Q\"
+prefix = \"4\"
+links = [\"QH\"]
+[[stand_in]]
+node = \"A\"
+prefix = \"4\"
+day = 1000
+single = 1000
+";
+
+const RANKS: &[u8] = b"RANKS 1\nA 4 2\nP 4 1\nQ 4 1\nH 4 0\nEND\n";
+
+const REQUEST: &[u8] =
+    b"01007220000100008000164111111111111111000000000000001000031409153000000106400001840";
+
+/// How often a step is tried.
+const TRIES: u32 = 4;
+
+/// What happens at the node.
+#[derive(Clone, Copy)]
+enum Event {
+    Request,
+    /// The first link fails.
+    LinkDown,
+    Tick,
+}
+
+fn tables_of(alloc: Global, text: &[u8]) -> Option<Tables> {
+    read_tables(alloc, text).ok()
+}
+
+fn ranks_of(alloc: Global, text: &[u8]) -> Option<Cert> {
+    read_cert(alloc, text).ok()
+}
+
+/// The tables. Here and below, a function between a text and its reader keeps the text out of proofs.
+fn tables(alloc: Global) -> Option<Tables> {
+    tables_of(alloc, TABLES)
+}
+
+fn ranks(alloc: Global) -> Option<Cert> {
+    ranks_of(alloc, RANKS)
+}
+
+/// The first node, where the tables are accepted and there is memory for it.
+fn first_node<'t>(alloc: Global, tables: &'t Tables, cert: &Cert) -> Option<Node<'t>> {
+    if tables.nodes().is_empty() {
+        return None;
+    }
+    let accepted = check(alloc, tables, cert).ok()?;
+    Node::new(alloc, &accepted, NodeNo::new(0)).ok()
+}
+
+fn copied(alloc: Global, bytes: &[u8]) -> Result<Vec<u8>, AllocError> {
+    Vec::from_slice(alloc, bytes)
+}
+
+fn request(alloc: Global) -> Result<Vec<u8>, AllocError> {
+    copied(alloc, REQUEST)
+}
+
+/// One try of a step.
+fn step(
+    alloc: Global,
+    node: &mut Node<'_>,
+    event: Event,
+    outputs: &mut Outputs,
+) -> Result<(), StepFault> {
+    let case = match event {
+        Event::Request => match request(alloc) {
+            Ok(bytes) => Case::Enter(bytes),
+            Err(_) => return Err(StepFault::Memory),
+        },
+        Event::LinkDown => {
+            let link = LinkNo::new(0);
+            if !node.has_link(link) {
+                return Err(StepFault::NoPlace);
+            }
+            Case::LinkDown(link)
+        }
+        Event::Tick => Case::Tick,
+    };
+    node.step(Input::new(case), outputs)
+}
+
+/// Whether the step was made: tried again where it is refused memory, if that left the trace as it was and no outputs.
+fn is_stepped(alloc: Global, node: &mut Node<'_>, event: Event, outputs: &mut Outputs) -> bool {
+    let before = node.trace().len();
+    for _ in 0..TRIES {
+        outputs.clear();
+        match step(alloc, node, event, outputs) {
+            Ok(()) => return node.trace().len() > before,
+            Err(StepFault::Memory) => {
+                if node.trace().len() != before || !outputs.as_slice().is_empty() {
+                    return false;
+                }
+            }
+            Err(_) => return false,
+        }
+    }
+    false
+}
+
+/// Writes the outputs of a step, each in a line of its own.
+fn write_outputs(writer: &mut impl Write, outputs: &Outputs) -> io::Result<()> {
+    for output in outputs.as_slice() {
+        writer.write_all(output.bytes())?;
+        writer.write_all(b"\n")?;
+    }
+    Ok(())
+}
+
+/// Whether all steps were made, and their outputs written.
+fn is_run(alloc: Global, writer: &mut impl Write) -> bool {
+    let Some(tables) = tables(alloc) else {
+        return false;
+    };
+    let Some(cert) = ranks(alloc) else {
+        return false;
+    };
+    let Some(mut node) = first_node(alloc, &tables, &cert) else {
+        return false;
+    };
+    let mut outputs = Outputs::new(alloc);
+    for event in [Event::Request, Event::Tick, Event::LinkDown] {
+        if !is_stepped(alloc, &mut node, event, &mut outputs) {
+            return false;
+        }
+        if write_outputs(writer, &outputs).is_err() {
+            return false;
+        }
+    }
+    true
+}
+
+fn main(rt: HostRuntime) -> ExitCode {
+    let mut writer = rt.stdout();
+    if is_run(rt.alloc(), &mut writer) {
+        return ExitCode::from(0);
+    }
+    let _ = writer.write_all(b"memory\n");
+    ExitCode::from(2)
+}
