@@ -6,6 +6,8 @@ use std::alloc::{AllocError, Global};
 use std::test::Fail;
 
 mod base;
+mod changed;
+mod failing;
 mod faults;
 mod limits;
 mod made;

@@ -1,8 +1,6 @@
-//! Too many rows, other shapes of whole inputs, and readers and writers that fail.
-use crate::bundle::{BundleFault, run_text};
+//! Too many rows, and other shapes of whole inputs.
 use crate::job::Job;
 use crate::tests::says;
-use card_digits::{Counted, ReadFault, Sink, Source, WriteFault};
 use std::alloc::{AllocError, Global};
 use std::test::Fail;
 
@@ -172,67 +170,5 @@ fn parts_and_returns(rt: HostRuntime) -> Result<(), Fail> {
             2
         )?
     );
-    Ok(())
-}
-
-/// A reader whose first call fails.
-#[derive(Drop)]
-struct Unreadable {
-    calls: u64,
-}
-
-impl Source for Unreadable {
-    ghost use Rattle.std.specs.Prelude.{None};
-
-    ghost remaining = { λ _. None };
-
-    ghost failures = { λ s. s.calls };
-
-    ghost turns = { λ s. s.calls };
-
-    fn read(&mut self, _buffer: &mut [u8]) -> Result<usize, ReadFault> {
-        self.calls = self.calls.saturating_add(1);
-        Err(ReadFault::Failed)
-    }
-}
-
-/// A writer that takes nothing.
-#[derive(Drop)]
-struct Unwritable {
-    calls: u64,
-}
-
-impl Sink for Unwritable {
-    ghost use Rattle.std.specs.Prelude.{None};
-
-    ghost written = { λ _. None };
-
-    ghost failures = { λ s. s.calls };
-
-    fn write(&mut self, _bytes: &[u8]) -> Result<usize, WriteFault> {
-        self.calls = self.calls.saturating_add(1);
-        Err(WriteFault::Failed)
-    }
-}
-
-#[test]
-fn a_reader_that_fails(rt: HostRuntime) -> Result<(), Fail> {
-    let alloc = rt.alloc();
-    let mut text: Vec<u8> = Vec::new(alloc);
-    let mut reader = Unreadable { calls: 0 };
-    let mut writer = Counted::writer(&mut text);
-    let ended = run_text(alloc, Job::Check, &mut reader, &mut writer);
-    assert_eq!(rt; ended, Ok(2));
-    assert!(rt; text.as_slice() == b"fault bundle 3 read\n".as_slice());
-    Ok(())
-}
-
-#[test]
-fn a_writer_that_fails(rt: HostRuntime) -> Result<(), Fail> {
-    let alloc = rt.alloc();
-    let mut reader = Counted::reader(b"%%\n".as_slice());
-    let mut writer = Unwritable { calls: 0 };
-    let ended = run_text(alloc, Job::Check, &mut reader, &mut writer);
-    assert_eq!(rt; ended, Err(BundleFault::Write));
     Ok(())
 }
