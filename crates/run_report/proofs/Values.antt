@@ -1,7 +1,7 @@
 -- Values of a list, one after another, and that no part of a report is a float.
-use Rattle.std.proofs.Common.{◌≡◌, ℕ, ◌+◌, ◌<◌, ◌≤◌, List, [], ◌∷◌, ◌++◌, length, get_or, take, map, Bool, true, false, refl, sym, ap, ◌∙◌}
+use Rattle.std.proofs.Common.{◌≡◌, ℕ, ◌+◌, ◌<◌, ◌≤◌, List, [], ◌∷◌, ◌++◌, length, get_or, take, map, false, refl, sym, ap, ◌∙◌}
 use Rattle.std.proofs.lemmas.List.{take_all, take_more}
-use Rattle.serde_json.specs.Data.{Data, array}
+use Rattle.serde_json.specs.Data.{Data}
 use Rattle.serde_json.specs.View.{view, items_of}
 use Rattle.serde_json.specs.Written.{has_float, items_have_float}
 use Rattle.serde_json.specs.declared.value.Value.{Value}
@@ -10,7 +10,7 @@ use Rattle.net_threads.specs.declared.ended.Ended.{Ended}
 use Rattle.net_threads.specs.declared.ended.Finished.{Finished}
 use Rattle.net_threads.specs.declared.ended.LineEnd.{LineEnd}
 use Rattle.net_threads.specs.declared.ended.SessionEnd.{SessionEnd}
-use Rattle.run_report.specs.Answers.{end_data, session_data, answers_data}
+use Rattle.run_report.specs.Answers.{end_data, session_data}
 use Rattle.run_report.specs.Reports.{report_data}
 
 map_append : {X Y : Type 0} (f : X → Y) (xs : List X) (x : X) → map f (xs ++ x ∷ []) ≡ map f xs ++ f x ∷ []

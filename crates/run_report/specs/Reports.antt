@@ -14,10 +14,11 @@ use Rattle.run_report.specs.Answers.{answers_data}
 use Rattle.run_report.specs.Counted.{counted}
 use Rattle.run_report.specs.Own.{own_of, posts_of}
 
--- a name is ASCII; what of it were no UTF-8 would be replaced
+-- the name of a node; names of tables are ASCII, and bytes that were no text would be replaced
 abbrev pub node_name : Network → ℕ → List ℕ
 node_name t n = option_map_or (λ k. utf8_lossy k.name) (slice_get t.nodes n) []
 
+-- likewise of a link
 abbrev pub link_name : Network → ℕ → List ℕ
 link_name t l = option_map_or (λ k. utf8_lossy k.name) (slice_get t.links l) []
 

@@ -1,7 +1,5 @@
 //! What nodes approved by themselves, counted in their traces.
-ghost use Rattle.std.specs.Prelude.{◌≡◌, List, ◌<◌, length, not, IfOk, OnOk};
-ghost use Rattle.std.specs.Option.{option_copied};
-ghost use Rattle.net_threads.specs.Station.{StationView};
+ghost use Rattle.std.specs.Prelude.{◌≡◌, List, not, IfOk, OnOk};
 ghost use Rattle.run_report.specs.declared.answered.Answered.{Answered};
 ghost use Rattle.run_report.specs.Counted.{counted};
 ghost use Rattle.run_report.specs.Own.{is_response, brings_answer, answer_of, answer_in, output_answer, with_answer, answers_onto, answers_given, own_of};

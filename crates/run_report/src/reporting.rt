@@ -2,8 +2,6 @@
 ghost use Rattle.std.specs.Prelude.{◌≡◌, IfOk, map, string_bytes};
 ghost use Rattle.serde_json.specs.View.{view};
 ghost use Rattle.serde_json.specs.Written.{compact_text};
-ghost use Rattle.net_threads.specs.declared.ended.LineEnd.{LineEnd};
-ghost use Rattle.net_threads.specs.declared.ended.SessionEnd.{SessionEnd};
 ghost use Rattle.run_report.specs.Answers.{end_data, session_data, answers_data};
 ghost use Rattle.run_report.specs.Reports.{object_of, report_data};
 

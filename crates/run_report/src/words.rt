@@ -1,7 +1,5 @@
 //! The words of a report.
 ghost use Rattle.std.specs.Prelude.{◌≡◌, IfOk, string_bytes};
-ghost use Rattle.std.specs.Str.Lossy.{utf8_lossy};
-ghost use Rattle.net_threads.specs.declared.ended.LineEnd.{LineEnd};
 ghost use Rattle.run_report.specs.Answers.{step_number, fault_number, code_text, end_text};
 ghost use Rattle.run_report.specs.Reports.{node_name, link_name, verdict_text};
 

@@ -1,6 +1,5 @@
-use Rattle.std.proofs.Common.{arith, reverse, take, ◌∙◌}
-use Rattle.run_report.specs.Own.{answers_given}
-use Rattle.run_report.proofs.Given.{entries_more, entries_all, inputs_are, length_inputs, input_of_entry}
+use Rattle.std.proofs.Common.{arith}
+use Rattle.run_report.proofs.Given.{inputs_are, input_of_entry}
 use Rattle.run_report.proofs.approvals.own_approvals.Goals as goal
 
 pub add_entry-requires : goal.add_entry-requires

@@ -1,5 +1,5 @@
 use Rattle.std.proofs.Common.{arith, ap, sym, ◌∙◌}
-use Rattle.std.specs.Prelude.{sum_by, count_by}
+use Rattle.std.specs.Prelude.{count_by}
 use Rattle.network_law.specs.Entries.{Entry}
 use Rattle.run_report.specs.Counted.{counted}
 use Rattle.run_report.specs.Own.{is_post, posts_of}
