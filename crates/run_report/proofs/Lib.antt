@@ -1,0 +1,5 @@
+pub mod Counting
+pub mod Given
+pub mod Values
+pub mod Texts
+pub mod Outcomes

@@ -1,101 +1,144 @@
-//! What nodes approved by themselves and what they posted, counted in their traces.
+//! What nodes approved by themselves, counted in their traces.
+ghost use Rattle.std.specs.Prelude.{◌≡◌, List, not, IfOk, OnOk};
+ghost use Rattle.run_report.specs.declared.answered.Answered.{Answered};
+ghost use Rattle.run_report.specs.Counted.{counted};
+ghost use Rattle.run_report.specs.Own.{is_response, brings_answer, answer_of, answer_in, output_answer, with_answer, answers_onto, answers_given, own_of};
+ghost use Rattle.run_report.specs.Reports.{own_total};
+ghost use Rattle.run_report.specs.Tally.{Counts};
 
-use card_digits::Key;
-use iso_message::{DecodeFault, Kind, Message, code_of, decode, key_of};
+use crate::answered::Answered;
+use crate::messages::read_message;
+use crate::tally::Tally;
+use iso_message::{Message, code_of, key_of};
 use net_threads::Station;
 use request_book::Way;
 use std::alloc::{AllocError, Global};
-use std::collections::BTreeSet;
 use switch_node::{Case, Entry, Input, Output};
 
-/// The message that the bytes spell.
-fn read(alloc: Global, bytes: &[u8]) -> Result<Option<Message>, AllocError> {
-    match decode(alloc, bytes) {
-        Ok(message) => Ok(Some(message)),
-        Err(DecodeFault::Memory) => Err(AllocError),
-        Err(_) => Ok(None),
-    }
+/// Whether the bytes begin as those of a response to a request do.
+fn is_response(bytes: &[u8]) -> bool
+    ensures { result ≡ is_response bytes.now }
+{
+    bytes.starts_with(b"0110")
 }
 
 /// Whether an answer that is given at this input is the host's, or one that came by a link.
-fn brings_answer(input: Option<&Input>) -> bool {
-    let Some(input) = input else {
-        return false;
-    };
+fn brings_answer(input: &Input) -> bool
+    ensures { result ≡ brings_answer input.now }
+{
     match input.case() {
         Case::HostAnswer(_, _) => true,
-        Case::Take(_, _, bytes) => bytes.as_slice().starts_with(b"0110"),
+        Case::Take(_, _, bytes) => is_response(bytes.as_slice()),
         _ => false,
     }
 }
 
-/// The key that a response answers, and whether with 00. A response with code 94 answers none.
-fn answered(alloc: Global, bytes: &[u8]) -> Result<Option<(Key, bool)>, AllocError> {
-    if !bytes.starts_with(b"0110") {
-        return Ok(None);
-    }
-    let Some(message) = read(alloc, bytes)? else {
-        return Ok(None);
-    };
-    let (Some(key), Some(code)) = (key_of(&message), code_of(&message)) else {
-        return Ok(None);
-    };
+/// The answer that a response is, where it has a key and a code. A response with code 94 answers none.
+fn answer_of(message: &Message, alone: bool) -> Option<Answered>
+    ensures { result ≡ answer_of alone message.now }
+{
+    let key = key_of(message)?;
+    let code = code_of(message)?;
     if code.as_slice() == b"94".as_slice() {
+        return None;
+    }
+    let approves = code.as_slice() == b"00".as_slice();
+    Some(Answered {
+        key,
+        approves,
+        alone,
+    })
+}
+
+fn answer_in(alloc: Global, bytes: &[u8], alone: bool) -> Result<Option<Answered>, AllocError>
+    ensures { IfOk result (λ a. a ≡ answer_in alone bytes.now) }
+{
+    if !is_response(bytes) {
         return Ok(None);
     }
-    Ok(Some((key, code.as_slice() == b"00".as_slice())))
-}
-
-/// The bytes of an output that may answer a request: to the acquirer or on a link.
-fn sent(output: &Output) -> Option<&[u8]> {
-    match output.way() {
-        Way::Answer => Some(output.bytes()),
-        Way::Put(_, _) => Some(output.bytes()),
-        _ => None,
+    match read_message(alloc, bytes)? {
+        Some(message) => Ok(answer_of(&message, alone)),
+        None => Ok(None),
     }
 }
 
-/// How many keys of an entry are answered there for the first time and with 00, and are so by the node itself.
-fn own_in(
+/// The answer that goes out to the acquirer or on a link.
+fn output_answer(
     alloc: Global,
-    seen: &mut BTreeSet<Key>,
-    entry: &Entry,
-    input: Option<&Input>,
-) -> Result<u64, AllocError> {
-    let by_itself = !brings_answer(input);
-    let mut own: u64 = 0;
-    for output in entry.outputs().as_slice() {
-        if let Some(bytes) = sent(output) {
-            if let Some((key, approved)) = answered(alloc, bytes)? {
-                if seen.insert(key)? && approved && by_itself {
-                    own = own.saturating_add(1);
-                }
-            }
-        }
+    output: &Output,
+    alone: bool,
+) -> Result<Option<Answered>, AllocError>
+    ensures { IfOk result (λ a. a ≡ output_answer alone output.now) }
+{
+    match output.way() {
+        Way::Answer => answer_in(alloc, output.bytes(), alone),
+        Way::Put(_, _) => answer_in(alloc, output.bytes(), alone),
+        _ => Ok(None),
     }
-    Ok(own)
+}
+
+fn add_output(
+    alloc: Global,
+    tally: &mut Tally,
+    output: &Output,
+    alone: bool,
+) -> Result<(), AllocError>
+    ensures { OnOk result ((before : List Answered) → Counts tally.old before → Counts tally.new (with_answer (output_answer alone output.now) before)) }
+{
+    match output_answer(alloc, output, alone)? {
+        Some(answer) => tally.add(answer),
+        None => Ok(()),
+    }
+}
+
+fn add_outputs(
+    alloc: Global,
+    tally: &mut Tally,
+    outputs: &[Output],
+    alone: bool,
+) -> Result<(), AllocError>
+    ensures { OnOk result ((before : List Answered) → Counts tally.old before → Counts tally.new (answers_onto alone outputs.now before)) }
+{
+    for output in outputs {
+        add_output(alloc, tally, output, alone)?;
+    }
+    Ok(())
+}
+
+/// Adds the answers of an entry.
+fn add_entry(
+    alloc: Global,
+    tally: &mut Tally,
+    entry: &Entry,
+    input: &Input,
+) -> Result<(), AllocError>
+    requires { input.now ≡ entry.now.input }
+    ensures { OnOk result ((before : List Answered) → Counts tally.old before → Counts tally.new (answers_onto (not (brings_answer entry.now.input)) entry.now.outputs before)) }
+{
+    let alone = !brings_answer(input);
+    add_outputs(alloc, tally, entry.outputs().as_slice(), alone)
 }
 
 /// How many keys the node of a station approved by itself.
-pub(crate) fn own_approvals(alloc: Global, station: &Station<'_>) -> Result<u64, AllocError> {
-    let mut seen = BTreeSet::new(alloc);
+fn own_approvals(alloc: Global, station: &Station<'_>) -> Result<u64, AllocError>
+    ensures { IfOk result (λ n. n ≡ counted (own_of station.now.trace)) }
+{
+    let trace = station.trace();
     let inputs = station.inputs();
-    let mut own: u64 = 0;
-    for (k, entry) in station.trace().iter().enumerate() {
-        own = own.saturating_add(own_in(alloc, &mut seen, entry, inputs.get(k))?);
+    let mut tally = Tally::new(alloc);
+    for k in 0..trace.len() {
+        add_entry(alloc, &mut tally, &trace[k], &inputs[k])?;
     }
-    Ok(own)
+    Ok(tally.own)
 }
 
-/// How many advices the node of a station posted.
-pub(crate) fn posts(station: &Station<'_>) -> u64 {
-    let mut posts: u64 = 0;
-    for entry in station.trace() {
-        for output in entry.outputs().as_slice() {
-            if let Way::Post = output.way() {
-                posts = posts.saturating_add(1);
-            }
-        }
+/// How many keys the nodes approved by themselves.
+pub(crate) fn own_total(alloc: Global, stations: &[Station<'_>]) -> Result<u64, AllocError>
+    ensures { IfOk result (λ n. n ≡ own_total stations.now) }
+{
+    let mut own: u64 = 0;
+    for station in stations {
+        own = own.saturating_add(own_approvals(alloc, station)?);
     }
-    posts
+    Ok(own)
 }

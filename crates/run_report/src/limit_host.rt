@@ -1,4 +1,6 @@
 //! A host that approves up to an amount.
+ghost use Rattle.std.specs.Prelude.{◌≡◌};
+ghost use Rattle.run_report.specs.Hosts.{is_within, limit_code};
 
 use card_digits::Amount;
 use iso_message::{Code, Message};
@@ -10,16 +12,24 @@ pub struct LimitHost {
     pub amount: Amount,
 }
 
+/// Whether the request has an amount, of at most the limit.
+fn is_within(limit: Amount, request: &Message) -> bool
+    ensures { result ≡ is_within limit request.now }
+{
+    match request.get(4) {
+        Some(text) => match Amount::read(text) {
+            Ok(amount) => amount.value() <= limit.value(),
+            Err(_) => false,
+        },
+        None => false,
+    }
+}
+
 impl Host for LimitHost {
-    fn authorize(&self, request: &Message) -> Code {
-        let within = match request.get(4) {
-            Some(text) => match Amount::read(text) {
-                Ok(amount) => amount.value() <= self.amount.value(),
-                Err(_) => false,
-            },
-            None => false,
-        };
-        if within {
+    fn authorize(&self, request: &Message) -> Code
+        ensures { result ≡ limit_code self.now.amount request.now }
+    {
+        if is_within(self.amount, request) {
             Code::new(*b"00")
         } else {
             Code::new(*b"05")

@@ -1,101 +1,79 @@
 //! The report.
+ghost use Rattle.std.specs.Prelude.{◌≡◌, IfOk, map, string_bytes};
+ghost use Rattle.serde_json.specs.View.{view};
+ghost use Rattle.serde_json.specs.Written.{compact_text};
+ghost use Rattle.run_report.specs.Answers.{end_data, session_data, answers_data};
+ghost use Rattle.run_report.specs.Reports.{object_of, report_data};
 
-use crate::approvals::{own_approvals, posts};
-use card_digits::{LinkNo, NodeNo};
-use iso_message::{code_of, decode};
+use crate::approvals::own_total;
+use crate::posts::posts_total;
+use crate::words::{end_text, verdict_text};
 use net_rows::Tables;
-use net_threads::{Ended, Finished, LineEnd, SessionEnd, StationFault, Verdict};
-use network_law::StepFault;
+use net_threads::{Ended, Finished, LineEnd, SessionEnd};
 use serde_json::{Value, json};
 use std::alloc::{AllocError, Global};
 
-/// The number of a fault, as the texts have it.
-fn fault_number(fault: StationFault) -> u8 {
-    match fault {
-        StationFault::StrangeLink => 11,
-        StationFault::Step(fault) => match fault {
-            StepFault::Decode(_) => 1,
-            StepFault::ForeignAcquirer => 2,
-            StepFault::Missing(_) => 3,
-            StepFault::TypeNotForGate => 4,
-            StepFault::UnknownAsk => 5,
-            StepFault::Replacement => 6,
-            StepFault::HistoryFull => 7,
-            StepFault::Memory => 8,
-            StepFault::NoPlace => 9,
-            StepFault::NotLent => 10,
-        },
+fn line_values(alloc: Global, lines: &[LineEnd]) -> Result<Vec<Value>, AllocError>
+    ensures { IfOk result (λ vs. map view vs.items ≡ map end_data lines.now) }
+{
+    let mut values = Vec::new(alloc);
+    for end in lines {
+        values.push(Value::String(end_text(alloc, end)?))?;
     }
+    Ok(values)
 }
 
-fn text(alloc: Global, bytes: &[u8]) -> Result<String, AllocError> {
-    String::from_utf8_lossy(alloc, bytes)
+fn session_value(alloc: Global, session: &SessionEnd) -> Result<Value, AllocError>
+    ensures { IfOk result (λ v. view v ≡ session_data session.now) }
+{
+    let values = line_values(alloc, session.lines.as_slice())?;
+    Ok(Value::Array(values))
 }
 
-/// The code of an answer.
-fn code_text(alloc: Global, bytes: &[u8]) -> Result<String, AllocError> {
-    if let Ok(message) = decode(alloc, bytes) {
-        if let Some(code) = code_of(&message) {
-            return text(alloc, code.as_slice());
-        }
+fn session_values(alloc: Global, sessions: &[SessionEnd]) -> Result<Vec<Value>, AllocError>
+    ensures { IfOk result (λ vs. map view vs.items ≡ map session_data sessions.now) }
+{
+    let mut values = Vec::new(alloc);
+    for session in sessions {
+        values.push(session_value(alloc, session)?)?;
     }
-    text(alloc, b"none")
+    Ok(values)
 }
 
-fn line_text(alloc: Global, end: &LineEnd) -> Result<String, AllocError> {
-    match end {
-        LineEnd::Answer(bytes) => code_text(alloc, bytes.as_slice()),
-        LineEnd::Nothing => text(alloc, b"none"),
-        LineEnd::Refused(fault) => {
-            let number = fault_number(*fault);
-            format!(in alloc; "refused {number}")
-        }
-    }
+fn answers_value(alloc: Global, ended: &Ended) -> Result<Value, AllocError>
+    ensures { IfOk result (λ v. view v ≡ answers_data ended.now) }
+{
+    let values = session_values(alloc, ended.sessions.as_slice())?;
+    Ok(Value::Array(values))
 }
 
-fn session_value(alloc: Global, session: &SessionEnd) -> Result<Value, AllocError> {
-    let mut lines = Vec::new(alloc);
-    for end in session.lines.iter() {
-        lines.push(Value::String(line_text(alloc, end)?))?;
-    }
-    Ok(Value::Array(lines))
+/// The report of these answers, verdict and numbers.
+fn object_of(
+    alloc: Global,
+    answers: Value,
+    linked: String,
+    own: u64,
+    posts: u64,
+) -> Result<Value, AllocError>
+    ensures { IfOk result (λ v. view v ≡ object_of (view answers) (string_bytes linked) own posts) }
+{
+    json!(in alloc; {"answers": answers, "linked": linked, "own": own, "posts": posts})
 }
 
-fn answers_value(alloc: Global, ended: &Ended) -> Result<Value, AllocError> {
-    let mut sessions = Vec::new(alloc);
-    for session in ended.sessions.iter() {
-        sessions.push(session_value(alloc, session)?)?;
-    }
-    Ok(Value::Array(sessions))
-}
-
-fn node_name(alloc: Global, tables: &Tables, node: NodeNo) -> Result<String, AllocError> {
-    match tables.nodes().get(node.place()) {
-        Some(row) => text(alloc, row.name.as_slice()),
-        None => text(alloc, b""),
-    }
-}
-
-fn link_name(alloc: Global, tables: &Tables, link: LinkNo) -> Result<String, AllocError> {
-    match tables.links().get(link.place()) {
-        Some(row) => text(alloc, row.name.as_slice()),
-        None => text(alloc, b""),
-    }
-}
-
-fn linked_text(alloc: Global, tables: &Tables, verdict: Verdict) -> Result<String, AllocError> {
-    match verdict {
-        Verdict::Linked => text(alloc, b"yes"),
-        Verdict::StationStrange(node) => {
-            let name = node_name(alloc, tables, node)?;
-            format!(in alloc; "station {name}")
-        }
-        Verdict::LinkStrange(link, serial) => {
-            let name = link_name(alloc, tables, link)?;
-            format!(in alloc; "link {name} {serial}")
-        }
-        Verdict::AnswerStrange(session, line) => format!(in alloc; "answer {session} {line}"),
-    }
+fn report_value(
+    alloc: Global,
+    tables: &Tables,
+    ended: &Ended,
+    finished: &Finished<'_>,
+) -> Result<Value, AllocError>
+    ensures { IfOk result (λ v. view v ≡ report_data tables.now ended.now finished.now) }
+{
+    let stations = finished.stations.as_slice();
+    let own = own_total(alloc, stations)?;
+    let posts = posts_total(stations);
+    let answers = answers_value(alloc, ended)?;
+    let linked = verdict_text(alloc, tables, finished.verdict)?;
+    object_of(alloc, answers, linked, own, posts)
 }
 
 /// The report of a run, as compact JSON with its keys in byte order: `answers`, for each session a list of the codes of its answers,
@@ -105,16 +83,9 @@ pub fn report(
     tables: &Tables,
     ended: &Ended,
     finished: &Finished<'_>,
-) -> Result<String, AllocError> {
-    let mut own: u64 = 0;
-    let mut posted: u64 = 0;
-    for station in finished.stations.iter() {
-        own = own.saturating_add(own_approvals(alloc, station)?);
-        posted = posted.saturating_add(posts(station));
-    }
-    let answers = answers_value(alloc, ended)?;
-    let linked = linked_text(alloc, tables, finished.verdict)?;
-    let value =
-        json!(in alloc; {"answers": answers, "linked": linked, "own": own, "posts": posted})?;
+) -> Result<String, AllocError>
+    ensures { IfOk result (λ s. string_bytes s ≡ compact_text (report_data tables.now ended.now finished.now)) }
+{
+    let value = report_value(alloc, tables, ended, finished)?;
     value.to_string(alloc)
 }

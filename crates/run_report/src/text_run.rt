@@ -1,4 +1,7 @@
 //! From a plan's text to its report.
+ghost use Rattle.std.specs.Prelude.{◌≡◌, IfOk, map};
+ghost use Rattle.card_digits.specs.Lines.{lines};
+ghost use Rattle.run_report.specs.Runs.{RunsPlan, RunsText};
 
 use crate::limit_host::LimitHost;
 use crate::reporting::report;
@@ -24,7 +27,10 @@ pub enum RunFault {
     Memory,
 }
 
-fn hosts_of(alloc: Global, plan: &Plan<'_>) -> Result<Vec<LimitHost>, AllocError> {
+/// The host of each node.
+fn hosts_of(alloc: Global, plan: &Plan<'_>) -> Result<Vec<LimitHost>, AllocError>
+    ensures { IfOk result (λ hosts. map (λ h. h.amount) hosts.items ≡ plan.now.limits.items) }
+{
     let mut hosts = Vec::new(alloc);
     for amount in plan.limits.iter() {
         hosts.push(LimitHost { amount: *amount })?;
@@ -38,7 +44,9 @@ fn run<R: Threads + Wait + Sync>(
     alloc: Global,
     accepted: &Accepted<'_>,
     plan: &Plan<'_>,
-) -> Result<String, RunFault> {
+) -> Result<String, RunFault>
+    ensures { RunsPlan accepted.now plan.now.sessions.items result }
+{
     let Ok(hosts) = hosts_of(alloc, plan) else {
         return Err(RunFault::Memory);
     };
@@ -65,7 +73,10 @@ pub fn run_plan_text<R: Threads + Wait + Sync>(
     alloc: Global,
     accepted: &Accepted<'_>,
     text: &[u8],
-) -> Result<String, RunFault> {
+) -> Result<String, RunFault>
+    // The fault of the plan, exactly; or a report of what sessions ended with and traces show.
+    ensures { RunsText accepted.now (lines text.now) result }
+{
     match read_plan(alloc, accepted.tables(), text) {
         Ok(plan) => run(rt, alloc, accepted, &plan),
         Err(fault) => Err(RunFault::Plan(fault)),

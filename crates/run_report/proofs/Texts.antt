@@ -1,0 +1,35 @@
+-- What texts are, and what bytes are no message.
+use Rattle.std.proofs.Common.{◌≡◌, ℕ, zero, suc, ◌<◌, List, [], ◌∷◌, None, Result, nat_le, get_or, arith, refl, sym, ap}
+use Rattle.std.specs.Result.{result_ok}
+use Rattle.std.specs.Str.{IsUtf8}
+use Rattle.std.proofs.lemmas.Bool.{and_parts, leb-true}
+use Rattle.std.proofs.lemmas.Str.{IsUtf8-from_ascii}
+use Rattle.iso_message.specs.declared.fault.DecodeFault.{DecodeFault}
+use Rattle.iso_message.specs.declared.fault.DecodeFault.TheVariants.{Short, BadType, BitMap, Element, Length, Character, Trailing, Memory}
+use Rattle.iso_message.specs.declared.form.Class.TheVariants.{Text}
+use Rattle.iso_message.specs.Elements.{fits}
+use Rattle.iso_message.specs.Grammar.{AreOf}
+use Rattle.iso_message.specs.Messages.{Fails}
+
+-- a fault other than want of memory is that of reading
+pub no_message : {X : Type 0} (e : DecodeFault) (read : Result X DecodeFault) → (e ≡ Memory → ⊥) → Fails e read → None ≡ result_ok read
+no_message Short read other fails = sym (ap result_ok fails)
+no_message BadType read other fails = sym (ap result_ok fails)
+no_message BitMap read other fails = sym (ap result_ok fails)
+no_message (Element n) read other fails = sym (ap result_ok fails)
+no_message (Length n) read other fails = sym (ap result_ok fails)
+no_message (Character n) read other fails = sym (ap result_ok fails)
+no_message Trailing read other fails = sym (ap result_ok fails)
+no_message Memory read other fails = absurd (other refl)
+
+code_bytes : (bs : List ℕ) → AreOf Text bs → (i : ℕ) → get_or bs i 0 < 128
+code_bytes [] h i = omega arith
+code_bytes (b ∷ bs) h zero =
+    let first = and_parts (fits Text b) _ h in
+    let within = leb-true b 126 (and_parts (nat_le 32 b) (nat_le b 126) first.0).1 in
+    omega (arith, within)
+code_bytes (b ∷ bs) h (suc i) = code_bytes bs (and_parts (fits Text b) _ h).1 i
+
+-- bytes from 0x20 to 0x7E are text
+pub code_is_utf8 : (bs : List ℕ) → AreOf Text bs → IsUtf8 bs
+code_is_utf8 bs h = IsUtf8-from_ascii bs (code_bytes bs h)
