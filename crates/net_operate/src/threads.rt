@@ -2,7 +2,7 @@
 
 use crate::fitting::is_answer_to;
 use crate::running::Host;
-use crate::waiting::{Wanted, next_answer, next_ask};
+use crate::waiting::{Cursor, Wanted, next_answer, next_ask};
 use iso_message::decode;
 use link_rings::Held;
 use net_threads::{LineEnd, Station, StationFault};
@@ -164,14 +164,14 @@ fn ask_at<R: Wait>(
     alloc: Global,
     n: usize,
     station: &Mutex<Station<'_>>,
-    from: &mut usize,
+    cursor: &mut Cursor,
     shared: &Shared,
 ) -> Option<(u64, Vec<u8>)> {
-    if !shared.has_more(n, *from) {
+    if !shared.has_more(n, cursor.entry) {
         return None;
     }
     let station = station.lock(rt);
-    next_ask(alloc, station.trace(), from)
+    next_ask(alloc, station.trace(), cursor)
 }
 
 /// Asks the host, with no lock held, and hands its answer to the station.
@@ -201,12 +201,12 @@ pub(crate) fn run_host<H: Host, R: Wait>(
     plan: &Plan<'_>,
     shared: &Shared,
 ) {
-    let mut from = 0;
+    let mut cursor = Cursor::at(0);
     for _ in 0..plan.turns {
         if shared.is_over() {
             break;
         }
-        match ask_at(rt, alloc, n, station, &mut from, shared) {
+        match ask_at(rt, alloc, n, station, &mut cursor, shared) {
             Some((ask, bytes)) => {
                 serve(rt, alloc, n, station, host, ask, bytes.as_slice(), shared)
             }
@@ -236,15 +236,15 @@ fn answer_at<R: Wait>(
     alloc: Global,
     n: usize,
     station: &Mutex<Station<'_>>,
-    from: &mut usize,
+    cursor: &mut Cursor,
     wanted: &Wanted,
     shared: &Shared,
 ) -> Option<Vec<u8>> {
-    if !shared.has_more(n, *from) {
+    if !shared.has_more(n, cursor.entry) {
         return None;
     }
     let station = station.lock(rt);
-    next_answer(alloc, station.trace(), from, wanted)
+    next_answer(alloc, station.trace(), cursor, wanted)
 }
 
 /// What the answer to a line has.
@@ -268,10 +268,10 @@ fn await_line<R: Wait>(
         return LineEnd::Nothing;
     };
     let n = session.node.place();
-    let mut from = from;
+    let mut cursor = Cursor::at(from);
     for _ in 0..plan.turns {
         let last = shared.is_stopped() || shared.is_idle(n);
-        match answer_at(rt, alloc, n, station, &mut from, &wanted, shared) {
+        match answer_at(rt, alloc, n, station, &mut cursor, &wanted, shared) {
             Some(bytes) => {
                 if is_answer_to(alloc, line, bytes.as_slice()) {
                     return LineEnd::Answer(bytes);

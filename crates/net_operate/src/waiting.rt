@@ -33,56 +33,83 @@ impl Wanted {
     }
 }
 
-fn asked(entry: &Entry) -> Option<(u64, &[u8])> {
-    for output in entry.outputs().as_slice() {
+/// Where somebody who reads a trace has come: to an output of an entry, or to an entry that has not been made.
+#[derive(Clone, Copy)]
+pub(crate) struct Cursor {
+    pub entry: usize,
+    output: usize,
+}
+
+impl Cursor {
+    /// Before the first output of an entry.
+    pub(crate) fn at(entry: usize) -> Cursor {
+        Cursor { entry, output: 0 }
+    }
+
+    /// Behind an output of an entry that has so many.
+    fn behind(entry: usize, output: usize, count: usize) -> Cursor {
+        let output = output.saturating_add(1);
+        if output < count {
+            Cursor { entry, output }
+        } else {
+            Cursor::at(entry.saturating_add(1))
+        }
+    }
+}
+
+/// The first request to the host among an entry's outputs from a place on, and its place.
+fn asked(entry: &Entry, from: usize) -> Option<(usize, u64, &[u8])> {
+    for (place, output) in entry.outputs().as_slice().iter().enumerate().skip(from) {
         if let Way::Ask(ask) = output.way() {
-            return Some((ask, output.bytes()));
+            return Some((place, ask, output.bytes()));
         }
     }
     None
 }
 
-fn answered<'e>(entry: &'e Entry, wanted: &Wanted) -> Option<&'e [u8]> {
-    for output in entry.outputs().as_slice() {
+/// The first answer among an entry's outputs from a place on that may be the wanted one, and its place.
+fn answered<'e>(entry: &'e Entry, from: usize, wanted: &Wanted) -> Option<(usize, &'e [u8])> {
+    for (place, output) in entry.outputs().as_slice().iter().enumerate().skip(from) {
         if let Way::Answer = output.way() {
             if wanted.may_be(output.bytes()) {
-                return Some(output.bytes());
+                return Some((place, output.bytes()));
             }
         }
     }
     None
 }
 
-/// The first request to the host in the entries from a place on, which moves behind its entry. Where there is no memory for a copy of
-/// it, the place stays before it.
-pub(crate) fn next_ask(alloc: Global, trace: &[Entry], from: &mut usize) -> Option<(u64, Vec<u8>)> {
-    for k in *from..trace.len() {
-        if let Some((ask, bytes)) = asked(&trace[k]) {
-            *from = k;
+/// The next request to the host in a trace. The cursor moves behind it; where there is no memory for a copy, it stays before it.
+pub(crate) fn next_ask(
+    alloc: Global,
+    trace: &[Entry],
+    cursor: &mut Cursor,
+) -> Option<(u64, Vec<u8>)> {
+    for k in cursor.entry..trace.len() {
+        if let Some((place, ask, bytes)) = asked(&trace[k], cursor.output) {
             let copy = Vec::from_slice(alloc, bytes).ok()?;
-            *from = k + 1;
+            *cursor = Cursor::behind(k, place, trace[k].outputs().as_slice().len());
             return Some((ask, copy));
         }
+        *cursor = Cursor::at(k + 1);
     }
-    *from = trace.len();
     None
 }
 
-/// The first answer in the entries from a place on that may be the wanted one, in the same way.
+/// The next answer in a trace that may be the wanted one, in the same way. One entry may answer several requests.
 pub(crate) fn next_answer(
     alloc: Global,
     trace: &[Entry],
-    from: &mut usize,
+    cursor: &mut Cursor,
     wanted: &Wanted,
 ) -> Option<Vec<u8>> {
-    for k in *from..trace.len() {
-        if let Some(bytes) = answered(&trace[k], wanted) {
-            *from = k;
+    for k in cursor.entry..trace.len() {
+        if let Some((place, bytes)) = answered(&trace[k], cursor.output, wanted) {
             let copy = Vec::from_slice(alloc, bytes).ok()?;
-            *from = k + 1;
+            *cursor = Cursor::behind(k, place, trace[k].outputs().as_slice().len());
             return Some(copy);
         }
+        *cursor = Cursor::at(k + 1);
     }
-    *from = trace.len();
     None
 }

@@ -13,6 +13,12 @@ pub(crate) const TWO_NODES: Sample = Sample {
     ranks: "RANKS 1\nA 4 1\nH 4 0\nEND\n",
 };
 
+/// The same, with two acquirers at the node.
+pub(crate) const TWO_ACQUIRERS: Sample = Sample {
+    tables: "[network]\ncurrency = \"840\"\ndate = \"0314\"\nhost_ticks = 100\nadvice_ticks = 50\n[[node]]\nname = \"A\"\nid = \"1001\"\n[[node]]\nname = \"H\"\nid = \"1002\"\n[[link]]\nname = \"AH\"\nends = [\"A\", \"H\"]\nticks = 3\n[[acquirer]]\nid = \"400001\"\nnode = \"A\"\n[[acquirer]]\nid = \"400002\"\nnode = \"A\"\n[[issuer]]\nname = \"I\"\nprefix = \"4\"\nhome = \"H\"\nnamed = []\nceiling = 0\n[[route]]\nnode = \"A\"\nprefix = \"4\"\nlinks = [\"AH\"]\n",
+    ranks: "RANKS 1\nA 4 1\nH 4 0\nEND\n",
+};
+
 /// A node with two ways to the home, over P and Q, which may approve while it is out of reach.
 pub(crate) const DIAMOND: Sample = Sample {
     tables: "[network]\ncurrency = \"840\"\ndate = \"0314\"\nhost_ticks = 100\nadvice_ticks = 50\n[[node]]\nname = \"A\"\nid = \"1001\"\n[[node]]\nname = \"P\"\nid = \"1003\"\n[[node]]\nname = \"Q\"\nid = \"1004\"\n[[node]]\nname = \"H\"\nid = \"1002\"\n[[link]]\nname = \"AP\"\nends = [\"A\", \"P\"]\nticks = 3\n[[link]]\nname = \"AQ\"\nends = [\"A\", \"Q\"]\nticks = 3\n[[link]]\nname = \"PH\"\nends = [\"P\", \"H\"]\nticks = 3\n[[link]]\nname = \"QH\"\nends = [\"Q\", \"H\"]\nticks = 3\n[[acquirer]]\nid = \"400001\"\nnode = \"A\"\n[[issuer]]\nname = \"I\"\nprefix = \"4\"\nhome = \"H\"\nnamed = [\"A\"]\nceiling = 1000\n[[route]]\nnode = \"A\"\nprefix = \"4\"\nlinks = [\"AP\", \"AQ\"]\n[[route]]\nnode = \"P\"\nprefix = \"4\"\nlinks = [\"PH\"]\n[[route]]\nnode = \"Q\"\nprefix = \"4\"\nlinks = [\"QH\"]\n[[stand_in]]\nnode = \"A\"\nprefix = \"4\"\nday = 1000\nsingle = 1000\n",

@@ -1,7 +1,7 @@
 //! Plans, and what is printed for them.
 use crate::bundle::run_bundle;
 use crate::job::Job;
-use crate::tests::networks::{IN_A_LINE, Sample, TWO_NODES};
+use crate::tests::networks::{IN_A_LINE, Sample, TWO_ACQUIRERS, TWO_NODES};
 use card_digits::Counted;
 use std::alloc::{AllocError, Global};
 use std::sync::Wait;
@@ -83,6 +83,23 @@ fn plans_and_their_faults(rt: HostRuntime) -> Result<(), Fail> {
     for plan in plans.iter() {
         let name = plan.name;
         assert!(rt; gives(&rt, rt.alloc(), plan)?, "{name}");
+    }
+    Ok(())
+}
+
+/// Two requests of one gate that fail at the same tick are answered by one entry. Their elements 7 and 11 are the same, and each
+/// session gets its own answer.
+#[test]
+fn answers_of_one_entry(rt: HostRuntime) -> Result<(), Fail> {
+    let plan = Plan {
+        name: "one entry",
+        network: TWO_ACQUIRERS,
+        lines: "PLAN 1\nturns 1000000\ntick_every 1000\nlose AH 1\nsession 400001\nsend 01007220000100008000164111111111111111000000000000001000031409153000000106400001840\nsession 400002\nsend 01007220000100008000164111111111111111000000000000001000031409153000000106400002840\nEND\n",
+        want: "{\"answers\":[[\"91\"],[\"91\"]],\"linked\":\"yes\",\"own\":0,\"posts\":0}\n",
+        status: 0,
+    };
+    for _ in 0..10 {
+        assert!(rt; gives(&rt, rt.alloc(), &plan)?);
     }
     Ok(())
 }
