@@ -1,0 +1,114 @@
+//! A node, and the count of what it does. Nothing is promised of these functions.
+use crate::words::Words;
+use card_digits::{LinkNo, NodeNo};
+use network_law::StepFault;
+use request_book::Way;
+use std::alloc::Global;
+use std::io;
+use switch_node::{Case, Input, Node, Outputs};
+use table_checker::Accepted;
+
+/// Steps that were accepted, and their outputs.
+#[derive(Clone, Copy)]
+pub(crate) struct Counts {
+    pub(crate) steps: u64,
+    pub(crate) puts: u64,
+    pub(crate) answers: u64,
+}
+
+fn nothing() -> Counts {
+    Counts {
+        steps: 0,
+        puts: 0,
+        answers: 0,
+    }
+}
+
+/// The gate of the network, and what it did since it was last asked.
+#[derive(Drop)]
+pub(crate) struct Desk<'t> {
+    alloc: Global,
+    node: Node<'t>,
+    outputs: Outputs,
+    counts: Counts,
+}
+
+impl<'t> Desk<'t> {
+    pub(crate) fn new(alloc: Global, accepted: &Accepted<'t>) -> io::Result<Desk<'t>> {
+        if accepted.tables().nodes().is_empty() {
+            return Err(io::Error::other("no nodes"));
+        }
+        let node = Node::new(alloc, accepted, NodeNo::new(0))?;
+        Ok(Desk {
+            alloc,
+            node,
+            outputs: Outputs::new(alloc),
+            counts: nothing(),
+        })
+    }
+
+    /// What was done since the last call.
+    pub(crate) fn counted(&mut self) -> Counts {
+        let counts = self.counts;
+        self.counts = nothing();
+        counts
+    }
+
+    fn count(&mut self, fault: Option<StepFault>) {
+        if fault.is_some() {
+            return;
+        }
+        self.counts.steps = self.counts.steps.wrapping_add(1);
+        for output in self.outputs.as_slice() {
+            match output.way() {
+                Way::Put(_, _) => self.counts.puts = self.counts.puts.wrapping_add(1),
+                Way::Answer => self.counts.answers = self.counts.answers.wrapping_add(1),
+                _ => {}
+            }
+        }
+    }
+
+    pub(crate) fn enter(&mut self, words: &Words, trace: u32) -> io::Result<()> {
+        let bytes = words.written(self.alloc, trace)?;
+        let input = Input::new(Case::Enter(bytes));
+        let fault = self.node.step(input, &mut self.outputs).err();
+        self.count(fault);
+        Ok(())
+    }
+
+    /// Takes a message from a link by its place in the tables.
+    pub(crate) fn take(&mut self, place: u8, words: &Words, trace: u32) -> io::Result<()> {
+        let link = LinkNo::new(place as usize);
+        if !self.node.has_link(link) {
+            return Ok(());
+        }
+        let bytes = words.written(self.alloc, trace)?;
+        let input = Input::new(Case::Take(link, trace as u64, bytes));
+        let fault = self.node.step(input, &mut self.outputs).err();
+        self.count(fault);
+        Ok(())
+    }
+
+    pub(crate) fn link_down(&mut self, place: u8) {
+        let link = LinkNo::new(place as usize);
+        if !self.node.has_link(link) {
+            return;
+        }
+        let input = Input::new(Case::LinkDown(link));
+        let fault = self.node.step(input, &mut self.outputs).err();
+        self.count(fault);
+    }
+
+    pub(crate) fn tick(&mut self) -> Option<StepFault> {
+        let input = Input::new(Case::Tick);
+        let fault = self.node.step(input, &mut self.outputs).err();
+        self.count(fault);
+        fault
+    }
+
+    pub(crate) fn ticks(&mut self, count: u32) {
+        for _ in 0..count {
+            let _ = self.tick();
+        }
+    }
+}

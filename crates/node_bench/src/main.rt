@@ -1,0 +1,58 @@
+//! Steps one node over and over. Standard output has what it did, and standard error how long that took. The first argument is the
+//! number of requests; the word `full` fills a history in their place.
+#![tactic(auto)]
+
+mod desk;
+mod network;
+mod parts;
+mod words;
+
+use crate::network::{ranks, tables};
+use crate::parts::Part;
+use net_tables::read_tables;
+use rank_cert::read_cert;
+use std::io;
+use table_checker::{Accepted, check};
+
+/// How many requests there are in each part, if no argument says so.
+const REQUESTS: u32 = 1_000;
+
+/// Three entries for each have room in a history, and trace numbers have six digits.
+const MOST_REQUESTS: u32 = 300_000;
+
+/// Measures all parts but the full history.
+fn measure(rt: &HostRuntime, accepted: &Accepted, requests: u32) -> io::Result<()> {
+    for part in [
+        Part::Answered,
+        Part::BesidePending,
+        Part::FailingInTurn,
+        Part::FailingTogether,
+        Part::SentAgain,
+        Part::Idle,
+    ] {
+        part.measure(rt, accepted, requests)?;
+    }
+    Ok(())
+}
+
+fn main(rt: HostRuntime) -> io::Result<()> {
+    let mut requests = REQUESTS;
+    let mut full = false;
+    for (place, word) in std::env::args(&rt)?.enumerate() {
+        if place == 1 {
+            full = word.as_str() == "full";
+            requests = word.parse().unwrap_or(REQUESTS);
+        }
+    }
+    let alloc = rt.alloc();
+    if let (Ok(tables), Ok(cert)) = (read_tables(alloc, tables()), read_cert(alloc, ranks())) {
+        if let Ok(accepted) = check(alloc, &tables, &cert) {
+            if full {
+                Part::Full.measure(&rt, &accepted, 0)?;
+            } else {
+                measure(&rt, &accepted, requests.min(MOST_REQUESTS))?;
+            }
+        }
+    }
+    Ok(())
+}
