@@ -103,6 +103,10 @@ impl Draft {
         ensures due { OnOk result (AreDue tables.now self.now.base.count ticks self.now.base.rows places.new.items) }
     {
         let now = self.books.count() + 1;
+        if now < ticks as u64 {
+            // Nothing was opened so long ago.
+            return Ok(());
+        }
         let span = self.books.opened_at(now.saturating_sub(ticks as u64));
         self.add_between(tables, span.start, span.end, places)
     }
