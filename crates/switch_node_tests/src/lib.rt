@@ -2,13 +2,7 @@
 #![tactic(auto)]
 
 #[cfg(test)]
-mod dates;
-#[cfg(test)]
 mod desk;
-#[cfg(test)]
-mod full;
-#[cfg(test)]
-mod gate;
 #[cfg(test)]
 mod late;
 #[cfg(test)]
@@ -19,8 +13,6 @@ mod limits;
 mod messages;
 #[cfg(test)]
 mod networks;
-#[cfg(test)]
-mod orders;
 #[cfg(test)]
 mod refusals;
 #[cfg(test)]
