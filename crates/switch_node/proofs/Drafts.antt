@@ -30,7 +30,7 @@ use Rattle.node_books.specs.declared.effect.Effect.TheVariants as effects
 use Rattle.request_book.specs.Ways.{output_of}
 use Rattle.node_books.specs.Effects.{Drafted, progress, with_effect, applied, applied_one, sent_in}
 use Rattle.switch_node.specs.Outputs.{put_out, spelled_in}
-use Rattle.switch_node.specs.SoFar.{link_step, link_from}
+use Rattle.entry_changes.specs.SoFar.{link_step, link_from}
 
 pub spelled_way : (w : Way) (m : Fields) → put_out w (spelling m) ≡ spelled (output_of w m)
 unfolding spelled

@@ -7,6 +7,7 @@ pub mod Parts
 pub mod FailingPlaces
 pub mod Few
 pub mod Takings
+pub mod LateUses
 pub mod Requested
 pub mod Starts
 pub mod Coming

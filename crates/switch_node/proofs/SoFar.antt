@@ -21,7 +21,9 @@ use Rattle.advice_store.specs.Advices.{has_id, packet_acked}
 use Rattle.request_book.specs.Values.{opened}
 use Rattle.node_books.specs.Values.{NewAdvice}
 use Rattle.node_books.specs.Effects.{applied, applied_one, keep_in}
-use Rattle.switch_node.specs.SoFar.{Forwarding, forwarding, forward_step, forward_from, AdviceState, advice_state, advice_step, advice_from, count_step, count_from}
+use Rattle.entry_changes.specs.SoFar.{forwarding, forward_step, forward_from, advice_state, advice_step, advice_from, count_step, count_from}
+use Rattle.entry_changes.specs.declared.so_far.AdviceState.{AdviceState}
+use Rattle.entry_changes.specs.declared.so_far.Forwarding.{Forwarding}
 
 -- requests
 

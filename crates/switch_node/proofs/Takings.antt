@@ -1,11 +1,12 @@
 -- What is used after the changes.
-use Rattle.std.proofs.Common.{◌≡◌, ℕ, ◌+◌, List, [], ◌∷◌, ◌++◌, map, reverse, Bool, true, false, refl, sym, ap, ◌∙◌, arith}
+use Rattle.std.proofs.Common.{◌≡◌, ℕ, ◌+◌, List, [], ◌∷◌, ◌++◌, map, reverse, take, drop, take-append-drop, Bool, true, false, refl, sym, ap, ◌∙◌, arith}
 use mathlib.Core.List.{reverse-cons}
 use Rattle.card_digits.specs.declared.key.Key.{Key}
 use Rattle.iso_message.specs.Groups.{is_04xx}
 use Rattle.iso_message.specs.Keys.{key_of, identity_of}
 use Rattle.net_rows.specs.Network.{Network}
 use Rattle.network_law.specs.Traces.{added}
+use Rattle.node_machine.specs.Books.{Taken}
 use Rattle.node_machine.specs.Machine as machine
 use Rattle.node_machine.specs.Lists as lists
 use Rattle.node_machine.specs.Lists.{Take, Mark, Lists, LeftAsMarked, forget, give_back_to, is_among, leaves, view}
@@ -24,7 +25,7 @@ map_more : {X Y : Type 0} (f : X → Y) (xs ys : List X) → map f (xs ++ ys) �
 map_more f [] ys = refl
 map_more f (x ∷ xs) ys = ap (λ z. f x ∷ z) (map_more f xs ys)
 
-append_none : {X : Type 0} (xs : List X) → xs ++ [] ≡ xs
+pub append_none : {X : Type 0} (xs : List X) → xs ++ [] ≡ xs
 append_none [] = refl
 append_none (x ∷ xs) = ap (λ z. x ∷ z) (append_none xs)
 
@@ -65,6 +66,14 @@ approved_more (effects.PacketSent l s p) es = refl
 approved_more (effects.Lent g) es = refl
 approved_more (effects.PacketTaken p) es = refl
 
+pub approved_append : (xs ys : List Effect) → approved_in (xs ++ ys) ≡ approved_in xs ++ approved_in ys
+approved_append [] ys = refl
+approved_append (e ∷ xs) ys =
+    sym (approved_more e (xs ++ ys))
+    ∙ (ap (λ z. approved_in (e ∷ []) ++ z) (approved_append xs ys)
+    ∙ (sym (append_all (approved_in (e ∷ [])) (approved_in xs) (approved_in ys))
+    ∙ ap (λ z. z ++ approved_in ys) (approved_more e xs)))
+
 taken_all : (es : List Effect) (x : Lists) → map forget (applied es x).takes ≡ map forget x.takes ++ approved_in es
 taken_all [] x = sym (append_none (map forget x.takes))
 taken_all (e ∷ es) x =
@@ -77,7 +86,7 @@ added_append : {X : Type 0} (f : X → ℕ) (xs ys : List X) → added f (xs ++ 
 added_append f [] ys = omega arith
 added_append f (x ∷ xs) ys = let e = added_append f xs ys in omega (arith, e)
 
-added_last : {X : Type 0} (f : X → ℕ) (xs : List X) (x : X) → added f (xs ++ x ∷ []) ≡ f x + added f xs
+pub added_last : {X : Type 0} (f : X → ℕ) (xs : List X) (x : X) → added f (xs ++ x ∷ []) ≡ f x + added f xs
 added_last f [] x = refl
 added_last f (y ∷ ys) x = let e = added_last f ys x in omega (arith, e)
 
@@ -89,10 +98,25 @@ machine_used : (t : Network) (n : ℕ) (y : Lists) (card date : List ℕ) → ma
 machine_used t n y card date = added_reverse (counted_by y.marks card date) (map forget y.takes)
 
 -- by the approvals of the books, and those among the changes
-pub used_after : (t : Network) (n : ℕ) (es : List Effect) (x : Lists) (card date : List ℕ) → IsQuiet x (applied es x) → LeftAsMarked x.marks x.takes → lists.used x.takes card date + added (counted_by x.marks card date) (approved_in es) ≡ machine.used (view t n (applied es x)) card date
+used_after : (t : Network) (n : ℕ) (es : List Effect) (x : Lists) (card date : List ℕ) → IsQuiet x (applied es x) → LeftAsMarked x.marks x.takes → lists.used x.takes card date + added (counted_by x.marks card date) (approved_in es) ≡ machine.used (view t n (applied es x)) card date
 used_after t n es x card date quiet left =
     ap (λ z. z + added (counted_by x.marks card date) (approved_in es)) (used_is t n x card date left ∙ machine_used t n x card date)
     ∙ (sym (added_append (counted_by x.marks card date) (map forget x.takes) (approved_in es))
     ∙ (ap (added (counted_by x.marks card date)) (sym (taken_all es x))
     ∙ (ap (λ z. added (counted_by z card date) (map forget (applied es x).takes)) (sym quiet.marks)
     ∙ sym (machine_used t n (applied es x) card date))))
+
+added_parts : (f : Taken → ℕ) (n : ℕ) (es : List Effect) → added f (approved_in (take n es)) + added f (approved_in (drop n es)) ≡ added f (approved_in es)
+added_parts f n es =
+    sym (added_append f (approved_in (take n es)) (approved_in (drop n es)))
+    ∙ ap (added f) (sym (approved_append (take n es) (drop n es)) ∙ ap approved_in (take-append-drop n es))
+
+one_sum : (u a b all r : ℕ) → a + b ≡ all → u + all ≡ r → u + a + b ≡ r
+one_sum u a b all r e f = omega (arith, e, f)
+
+-- the same with the changes in two parts
+pub used_parts : (t : Network) (n few : ℕ) (es : List Effect) (x : Lists) (card date : List ℕ) → IsQuiet x (applied es x) → LeftAsMarked x.marks x.takes → lists.used x.takes card date + added (counted_by x.marks card date) (approved_in (take few es)) + added (counted_by x.marks card date) (approved_in (drop few es)) ≡ machine.used (view t n (applied es x)) card date
+used_parts t n few es x card date quiet left =
+    one_sum (lists.used x.takes card date) (added (counted_by x.marks card date) (approved_in (take few es))) (added (counted_by x.marks card date) (approved_in (drop few es))) (added (counted_by x.marks card date) (approved_in es)) (machine.used (view t n (applied es x)) card date)
+    (added_parts (counted_by x.marks card date) few es)
+    (used_after t n es x card date quiet left)

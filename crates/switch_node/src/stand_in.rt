@@ -13,7 +13,7 @@ use crate::draft::Draft;
 use card_digits::{Key, LinkNo, NodeNo};
 use iso_message::{Code, Message};
 use net_rows::Tables;
-use node_books::{Effect, OwnApproval};
+use node_books::OwnApproval;
 use std::alloc::AllocError;
 use step_rules::amount_of;
 
@@ -27,8 +27,7 @@ impl Draft {
     {
         let card = card_number(request);
         let date = date_label(request);
-        let approval = OwnApproval::new(key, card, date, amount_of(request));
-        self.change(Effect::Approved(approval))
+        self.approve(OwnApproval::new(key, card, date, amount_of(request)))
     }
 
     /// The node answers a request with this code. What it approves is stored as an advice and sent to the home of the card.

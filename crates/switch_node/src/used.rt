@@ -1,5 +1,5 @@
 //! What a node's own approvals use, and what it may approve by itself.
-ghost use Rattle.std.specs.Prelude.{◌≡◌, ◌<◌, ◌^◌, ℕ};
+ghost use Rattle.std.specs.Prelude.{◌≡◌, ◌<◌, ◌^◌, ℕ, drop};
 ghost use Rattle.net_rows.specs.Network.{Network};
 ghost use Rattle.network_law.specs.Cards.{card_of, label_of};
 ghost use Rattle.network_law.specs.Traces.{added};
@@ -7,6 +7,7 @@ ghost use Rattle.node_machine.specs.Books.{Taken};
 ghost use Rattle.node_machine.specs.Lists.{LeftAsMarked, forget, view};
 ghost use Rattle.node_machine.specs.Machine.{limit, standin_code, used};
 ghost use Rattle.node_books.specs.Effects.{progress};
+ghost use Rattle.entry_changes.specs.Late.{few};
 ghost use Rattle.switch_node.specs.SoFar.{approved_in};
 ghost use Rattle.switch_node.specs.Used.{IsQuiet, counted_by};
 
@@ -54,19 +55,29 @@ fn card_day(message: &Message) -> CardDay
 }
 
 impl Draft {
+    /// What the own approvals among the later changes count for.
+    fn late_used(&self, day: &CardDay) -> u128
+        ensures sum { result ≡ added (counted_by self.now.base.marks day.now.card day.now.date) (approved_in (drop few self.now.effects)) }
+        ensures bound { result < 2 ^ 104 }
+    {
+        // Their number fits a `usize`, which bounds the sum.
+        let _ = self.effects.len();
+        self.late_uses.get(day)
+    }
+
     /// What the node's own approvals use of a card and a settlement date.
     pub(crate) fn used_now(&self, day: &CardDay) -> u128
         requires quiet { IsQuiet self.now.base (progress self.now).lists }
         requires left { LeftAsMarked self.now.base.marks self.now.base.takes }
         ensures used { (t : Network) (n : ℕ) → result ≡ used (view t n (progress self.now).lists) day.now.card day.now.date }
     {
-        let changed = approved_total(
-            self.effects.as_slice(),
+        let first = approved_total(
+            self.effects.first(),
             &self.books,
             day.card.as_slice(),
             day.date.as_slice(),
         );
-        self.books.used(day) + changed
+        self.books.used(day) + first + self.late_used(day)
     }
 
     /// What the node may approve by itself of a message's card and settlement date: 0 without a stand-in row.

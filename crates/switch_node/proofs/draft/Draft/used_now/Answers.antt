@@ -1,4 +1,5 @@
-use Rattle.switch_node.proofs.Takings.{used_after}
+use Rattle.entry_changes.specs.Late.{few}
+use Rattle.switch_node.proofs.Takings.{used_parts}
 use Rattle.switch_node.proofs.draft.Draft.used_now.Goals as goal
 
 pub returns : goal.returns
@@ -7,5 +8,5 @@ returns c =
     let left = rw (← c.self.view_is) at c.requires.left in
     let day = c.args.day.now in
     record {
-      used = λ t n. rw (c.used.ensures.used, c.approved_total-changed.ensures.sum, c.as_slice.ensures.value, c.as_slice-2.ensures, c.as_slice-3.ensures, ← c.self.view_is) (used_after t n c.self.inside.effects.items c.self.inside.books.lists day.card day.date quiet left);
+      used = λ t n. rw (c.used.ensures.used, c.approved_total-first.ensures.sum, c.first.ensures, c.late_used.ensures.sum, c.as_slice.ensures, c.as_slice-2.ensures, ← c.self.view_is) (used_parts t n few c.self.inside.effects c.self.inside.books.lists day.card day.date quiet left);
     }

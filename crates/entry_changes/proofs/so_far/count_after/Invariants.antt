@@ -1,6 +1,6 @@
 use Rattle.std.proofs.Common.{◌≡◌, ◌≤◌, ◌+◌, drop}
-use Rattle.switch_node.specs.SoFar.{count_from}
-use Rattle.switch_node.proofs.so_far.count_after.Given as goal
+use Rattle.entry_changes.specs.SoFar.{count_from}
+use Rattle.entry_changes.proofs.so_far.count_after.Given as goal
 
 abbrev pub invariant-loop-effect : goal.invariant-loop-effect
 invariant-loop-effect l = record {

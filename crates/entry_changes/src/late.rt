@@ -1,0 +1,119 @@
+//! What is kept of the changes after the first few, so that a look goes over none of them.
+ghost use Rattle.std.specs.Prelude.{◌≡◌, ◌≤◌, ◌<◌, ◌^◌, ◌++◌, ◌∷◌, [], ℕ, List, true, OnOk, OnErr, length, drop};
+ghost use Rattle.std.specs.HashMap.{spare};
+ghost use Rattle.iso_message.specs.declared.keys.AdviceId.{AdviceId};
+ghost use Rattle.node_books.specs.declared.effect.Effect.{Effect};
+ghost use Rattle.node_books.specs.declared.effect.Effect.TheVariants.{Sent};
+ghost use Rattle.entry_changes.specs.Late.{ArePlain, AreLate, AreTold, few, move_at, touches, touched};
+
+use crate::advice_places::AdvicePlaces;
+use crate::link_moves::LinkMoves;
+use iso_message::AdviceId;
+use node_books::Effect;
+use request_book::{PreparedOutput, Way, is_request};
+use std::alloc::{AllocError, Global};
+
+/// So many changes are gone through one by one; what those after them did is kept beside them.
+pub(crate) const FEW: usize = 8;
+
+/// What is kept of the later changes.
+#[derive(Drop)]
+pub(crate) struct LateChanges {
+    /// What they did to links.
+    pub moves: LinkMoves,
+    /// The places of those that say something of an advice.
+    pub advices: AdvicePlaces,
+    /// No request came or was put on a link, and no tick went by.
+    pub plain: bool,
+}
+
+/// The advice that an output puts on a link.
+fn put_advice(output: &PreparedOutput) -> Option<AdviceId>
+    ensures { (id : AdviceId) → touches id (Sent output.now) ≡ touched id result }
+{
+    match output.way() {
+        Way::Put(_, _) => output.advice(),
+        _ => None,
+    }
+}
+
+/// The advice of which a change says something.
+fn advice_of(effect: &Effect) -> Option<AdviceId>
+    ensures { (id : AdviceId) → touches id effect.now ≡ touched id result }
+{
+    match effect {
+        Effect::Sent(output) => put_advice(output),
+        Effect::Kept(advice) => Some(advice.id()),
+        Effect::Acknowledged(id) => Some(*id),
+        _ => None,
+    }
+}
+
+/// Whether no request comes or is put on a link, and no tick goes by.
+fn is_plain(effect: &Effect) -> bool
+    ensures { result ≡ true → ArePlain (effect.now ∷ []) }
+{
+    match effect {
+        Effect::Sent(output) => !is_request(output.message().kind()),
+        Effect::Opened(_) | Effect::Ticked => false,
+        _ => true,
+    }
+}
+
+/// Whether all are plain, with one change more.
+fn still_plain(before: bool, effect: &Effect) -> bool
+    ensures { result ≡ true → (before ≡ true) × ArePlain (effect.now ∷ []) }
+{
+    before && is_plain(effect)
+}
+
+impl LateChanges {
+    /// There were none.
+    pub fn new(alloc: Global) -> LateChanges
+        ensures { AreLate [] result }
+    {
+        LateChanges {
+            moves: LinkMoves::new(alloc),
+            advices: AdvicePlaces::new(alloc),
+            plain: true,
+        }
+    }
+
+    /// One change more says this of an advice.
+    fn note_advice(&mut self, effect: &Effect, place: usize)
+        requires { 1 ≤ spare self.old.advices.index.places }
+        ensures moves { self.new.moves ≡ self.old.moves }
+        ensures plain { self.new.plain ≡ self.old.plain }
+        ensures advices { (es : List Effect) → length es ≡ place → AreTold es self.old.advices → AreTold (es ++ effect.now ∷ []) self.new.advices }
+    {
+        if let Some(id) = advice_of(effect) {
+            self.advices.add(id, place);
+        }
+    }
+
+    /// One change more, behind as many as `place`.
+    fn note(&mut self, effect: &Effect, place: usize) -> Result<(), AllocError>
+        requires { (l : ℕ) → (move_at l self.old.moves.moves.entries).puts < 2 ^ 63 }
+        ensures ok { OnOk result ((es : List Effect) → length es ≡ place → AreLate es self.old → AreLate (es ++ effect.now ∷ []) self.new) }
+        ensures err { OnErr result ((es : List Effect) → AreLate es self.old → AreLate es self.new) }
+    {
+        self.moves.reserve()?;
+        self.advices.reserve()?;
+        self.moves.note(effect);
+        self.note_advice(effect, place);
+        self.plain = still_plain(self.plain, effect);
+        Ok(())
+    }
+
+    /// One change more, behind as many of the entry as `place`, the first few among them.
+    pub fn note_behind(&mut self, effect: &Effect, place: usize) -> Result<(), AllocError>
+        requires { (l : ℕ) → (move_at l self.old.moves.moves.entries).puts < 2 ^ 63 }
+        ensures ok { OnOk result ((es : List Effect) → length es ≡ place → AreLate (drop few es) self.old → AreLate (drop few (es ++ effect.now ∷ [])) self.new) }
+        ensures err { OnErr result ((es : List Effect) → AreLate es self.old → AreLate es self.new) }
+    {
+        if place < FEW {
+            return Ok(());
+        }
+        self.note(effect, place - FEW)
+    }
+}
