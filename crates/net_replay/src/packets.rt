@@ -82,8 +82,7 @@ impl Packets {
     fn put(&mut self, link: LinkNo, bytes: &[u8]) -> Result<(), AllocError>
         ensures { OnOk result (self.new ≡ put_at self.old link bytes.now) }
     {
-        let mut copy = Vec::new(self.alloc);
-        copy.extend_from_slice(bytes)?;
+        let copy = Vec::from_slice(self.alloc, bytes)?;
         let place = link.place();
         if place < self.links.len() {
             self.links[place].packets.push(Packet { bytes: copy })?;
