@@ -48,12 +48,12 @@ fn changed(alloc: Global, ticks: usize) -> Result<Changes, Fail> {
 }
 
 /// A link that was up, with seven puts, after the changes: whether it is up, and whether it still has seven.
-fn link_seen(changes: &Changes, link: usize) -> (bool, bool) {
+fn link_seen(changes: &Changes, link: LinkNo) -> (bool, bool) {
     let before = LinkAfter {
         up: true,
         serial: 7,
     };
-    let after = changes.link_after(LinkNo::new(link), before);
+    let after = changes.link_after(link, before);
     (after.up, after.serial == 7)
 }
 
@@ -72,8 +72,8 @@ fn after_few_changes(rt: HostRuntime) -> Result<(), Fail> {
     assert!(rt; changes.len() == 4);
     assert!(rt; !changes.is_next_late());
     assert!(rt; ticks_seen(&changes) == 102);
-    assert!(rt; link_seen(&changes, 1) == (false, true));
-    assert!(rt; link_seen(&changes, 2) == (true, true));
+    assert!(rt; link_seen(&changes, LinkNo::new(1)) == (false, true));
+    assert!(rt; link_seen(&changes, LinkNo::new(2)) == (true, true));
     assert!(rt; !stored_still(&changes, ID));
     assert!(rt; stored_still(&changes, OTHER));
     Ok(())
@@ -86,8 +86,8 @@ fn after_many_changes(rt: HostRuntime) -> Result<(), Fail> {
     assert!(rt; changes.is_next_late());
     assert!(rt; changes.first().len() == 8);
     assert!(rt; ticks_seen(&changes) == 1100);
-    assert!(rt; link_seen(&changes, 1) == (false, true));
-    assert!(rt; link_seen(&changes, 2) == (true, true));
+    assert!(rt; link_seen(&changes, LinkNo::new(1)) == (false, true));
+    assert!(rt; link_seen(&changes, LinkNo::new(2)) == (true, true));
     assert!(rt; !stored_still(&changes, ID));
     assert!(rt; stored_still(&changes, OTHER));
     assert!(rt; changes.forwarded_after(KEY, NO_REQUEST).link.is_none());
@@ -100,7 +100,7 @@ fn taken_and_cleared(rt: HostRuntime) -> Result<(), Fail> {
     let effects = changes.take();
     assert!(rt; effects.len() == 22);
     assert!(rt; changes.len() == 0);
-    assert!(rt; link_seen(&changes, 1) == (true, true));
+    assert!(rt; link_seen(&changes, LinkNo::new(1)) == (true, true));
     changes.push(Effect::Ticked)?;
     changes.clear();
     assert!(rt; ticks_seen(&changes) == 100);

@@ -31,12 +31,11 @@ pub(crate) struct Running<'a> {
     places: Vec<StepPlace>,
 }
 
+/// The bytes in memory of their own, with no room to spare.
 fn copied(alloc: Global, bytes: &[u8]) -> Result<Vec<u8>, AllocError>
     ensures { IfOk result (λ v. v.items ≡ bytes.now) }
 {
-    let mut copy = Vec::new(alloc);
-    copy.extend_from_slice(bytes)?;
-    Ok(copy)
+    Vec::from_slice(alloc, bytes)
 }
 
 fn step_fault(number: usize, fault: StepFault) -> ReplayFault
