@@ -6,6 +6,8 @@ mod desk;
 #[cfg(test)]
 mod full;
 #[cfg(test)]
+mod hashes;
+#[cfg(test)]
 mod orders;
 #[cfg(test)]
 mod words;

@@ -3,6 +3,7 @@ use card_digits::{Card, Key, LinkNo};
 use iso_message::{Kind, Message};
 use pending_book::{Request, Source};
 use std::alloc::Global;
+use std::hash::{FoldHasher, Hash, Hasher};
 
 /// What a test says of a request: its card, the place of its link, and the ticks that it waits.
 #[derive(Clone, Copy)]
@@ -48,13 +49,33 @@ fn digits(number: u32) -> [u8; 6] {
     digits
 }
 
+/// The numbers of two keys that have one hash. They were searched for.
+pub(crate) const SAME_HASH: [u32; 2] = [1_000_001, 2_000_001];
+
+fn time(number: u32) -> [u8; 10] {
+    if number < SAME_HASH[0] {
+        *b"0314091530"
+    } else if number < SAME_HASH[1] {
+        [48, 51, 78, 36, 29, 219, 21, 237, 76, 0]
+    } else {
+        [48, 51, 141, 117, 187, 247, 245, 129, 113, 18]
+    }
+}
+
 /// The key of a number.
 pub(crate) fn key(number: u32) -> Key {
     Key {
         acquirer: *b"00000400001",
         trace: digits(number),
-        time: *b"0314091530",
+        time: time(number),
     }
+}
+
+/// What a map finds the key of a number by.
+pub(crate) fn hash(number: u32) -> u64 {
+    let mut hasher = FoldHasher::default();
+    key(number).hash(&mut hasher);
+    hasher.finish()
 }
 
 pub(crate) fn card(text: &str) -> Option<Card> {
