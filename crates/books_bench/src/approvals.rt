@@ -9,7 +9,7 @@ use std::io;
 /// How many cards there are.
 const CARDS: u32 = 50_000;
 
-/// Eight digits of an amount, and so of a card's number behind 41111111.
+/// A card of a number, whose eight digits stand behind 41111111, on one settlement date.
 fn day_of(number: u32) -> Option<CardDay> {
     let mut digits = *b"4111111100000000";
     let mut rest = number;

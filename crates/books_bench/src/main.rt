@@ -1,5 +1,6 @@
 //! Calls the books of a node over and over. Standard output has what was counted, and standard error how long that took. The first
-//! argument is the number of calls; `rest` in its place makes the books of as many nodes as the second argument says, and nothing else.
+//! argument is the number of calls. `rest` in its place makes the books of as many nodes as the second argument says, and nothing else;
+//! `slots` the books of pending requests over slots and timers.
 #![tactic(auto)]
 
 mod advices;
@@ -37,9 +38,11 @@ fn main(rt: HostRuntime) -> io::Result<()> {
     let mut calls = CALLS;
     let mut nodes = 0;
     let mut resting = false;
+    let mut slots = false;
     for (place, word) in std::env::args(&rt)?.enumerate() {
         if place == 1 {
             resting = word.as_str() == "rest";
+            slots = word.as_str() == "slots";
             calls = word.parse().unwrap_or(CALLS);
         }
         if place == 2 {
@@ -48,6 +51,8 @@ fn main(rt: HostRuntime) -> io::Result<()> {
     }
     if resting {
         rest::hold(&rt, nodes)
+    } else if slots {
+        rest::hold_slots(&rt, nodes)
     } else {
         measure(&rt, calls.min(MOST_CALLS))
     }
