@@ -1,0 +1,70 @@
+//! The store of advices.
+use crate::messages::advice;
+use crate::report::{report, start};
+use advice_store::{AdviceStore, KeptAdvice};
+use iso_message::{Message, advice_id};
+use std::alloc::{AllocError, Global};
+use std::io;
+
+/// After so many ticks an advice is sent again.
+const TICKS: u16 = 100;
+
+/// An advice that was stored before the first tick.
+#[tactic(auto, using(crate::proofs::Keys::known_identity))]
+fn kept(message: Message) -> Option<KeptAdvice> {
+    let id = advice_id(&message)?;
+    Some(KeptAdvice::new(id, message, 0, false))
+}
+
+fn store(store: &mut AdviceStore, advice: KeptAdvice) -> Result<(), AllocError> {
+    store.reserve(1)?;
+    store.store(advice);
+    Ok(())
+}
+
+fn store_all(alloc: Global, into: &mut AdviceStore, count: u32) -> Result<(), AllocError> {
+    for trace in 0..count {
+        if let Some(message) = advice(alloc, trace)? {
+            if let Some(kept) = kept(message) {
+                store(into, kept)?;
+            }
+        }
+    }
+    into.reserve(1)
+}
+
+/// A tick at this count. The result is how many advices are due.
+fn tick(store: &mut AdviceStore, now: u64) -> Result<u64, AllocError> {
+    let due = store.due(TICKS, now)?;
+    store.tick(now);
+    Ok(due.len() as u64)
+}
+
+/// So many ticks, over and over at the counts from 1 to 99, at which none is due.
+fn ticks(store: &mut AdviceStore, count: u32) -> Result<u64, AllocError> {
+    let mut due = 0u64;
+    let mut now = 0u64;
+    for _ in 0..count {
+        now = if now < 99 { now.wrapping_add(1) } else { 1 };
+        due = due.wrapping_add(tick(store, now)?);
+    }
+    Ok(due)
+}
+
+/// Ticks beside so many that are stored, none of which is due.
+pub(crate) fn measure(rt: &HostRuntime, stored: u32, calls: u32) -> io::Result<()> {
+    let alloc = rt.alloc();
+    let mut store = AdviceStore::new(alloc, TICKS)?;
+    let from = start(rt)?;
+    store_all(alloc, &mut store, stored)?;
+    report(rt, from, "advices stored", stored, store.len() as u64)?;
+    let from = start(rt)?;
+    let due = ticks(&mut store, calls.wrapping_mul(100))?;
+    report(
+        rt,
+        from,
+        "ticks with none due",
+        calls.wrapping_mul(100),
+        due,
+    )
+}

@@ -1,0 +1,100 @@
+//! The book of requests that a node uses.
+use crate::messages::{approval, request};
+use crate::report::{report, start};
+use iso_message::{Message, has_own_key, key_of};
+use request_book::{PendingBook, PreparedOutput, Row, Way, is_advice, is_request};
+use std::alloc::{AllocError, Global};
+use std::io;
+
+#[tactic(auto, using(crate::proofs::Keys::known_key))]
+fn row_of(message: Message) -> Option<Row> {
+    let key = key_of(&message)?;
+    if !has_own_key(&message) || !is_request(message.kind()) {
+        return None;
+    }
+    Some(Row::new(key, message, None, 0))
+}
+
+#[tactic(auto, using(crate::proofs::Keys::known_key))]
+fn answer_of(message: Message) -> Option<PreparedOutput> {
+    let key = key_of(&message)?;
+    if is_advice(message.kind().group()) {
+        return None;
+    }
+    Some(PreparedOutput::of_message(Way::Answer, key, message))
+}
+
+/// So many requests from a trace number on.
+fn rows(alloc: Global, first: u32, count: u32) -> Result<Vec<Row>, AllocError> {
+    let mut rows = Vec::new(alloc);
+    for i in 0..count {
+        if let Some(message) = request(alloc, first.wrapping_add(i))? {
+            if let Some(row) = row_of(message) {
+                rows.push(row)?;
+            }
+        }
+    }
+    Ok(rows)
+}
+
+/// The answers of so many requests from the first on.
+fn answers(alloc: Global, count: u32) -> Result<Vec<PreparedOutput>, AllocError> {
+    let mut answers = Vec::new(alloc);
+    for trace in 0..count {
+        if let Some(message) = approval(alloc, trace)? {
+            if let Some(answer) = answer_of(message) {
+                answers.push(answer)?;
+            }
+        }
+    }
+    Ok(answers)
+}
+
+fn open(book: &mut PendingBook, row: Row) -> Result<(), AllocError> {
+    book.reserve(1)?;
+    book.open(row);
+    Ok(())
+}
+
+fn close(book: &mut PendingBook, answer: PreparedOutput) -> Result<(), AllocError> {
+    book.reserve(1)?;
+    book.after(answer);
+    Ok(())
+}
+
+fn open_all(book: &mut PendingBook, rows: Vec<Row>) -> Result<(), AllocError> {
+    for row in rows {
+        open(book, row)?;
+    }
+    Ok(())
+}
+
+/// Opens a request and closes the oldest one, for each of these.
+fn pairs(
+    book: &mut PendingBook,
+    rows: Vec<Row>,
+    answers: Vec<PreparedOutput>,
+) -> Result<(), AllocError> {
+    for (row, answer) in rows.into_iter().zip(answers) {
+        open(book, row)?;
+        close(book, answer)?;
+    }
+    Ok(())
+}
+
+/// Beside so many that are pending, requests are opened and closed. As many are pending in the end.
+pub(crate) fn measure(rt: &HostRuntime, pending: u32, calls: u32) -> io::Result<()> {
+    let alloc = rt.alloc();
+    let mut book = PendingBook::new(alloc);
+    open_all(&mut book, rows(alloc, 0, pending)?)?;
+    let (rows, answers) = (rows(alloc, pending, calls)?, answers(alloc, calls)?);
+    let from = start(rt)?;
+    pairs(&mut book, rows, answers)?;
+    report(
+        rt,
+        from,
+        "requests opened and closed",
+        calls,
+        book.open_count() as u64,
+    )
+}

@@ -1,0 +1,68 @@
+//! Slots in lists of three families. In the beginning each list is a, b, c, and all slots are held.
+use crate::letters::{Step, lists, neighbours};
+use slot_chains::Family;
+use std::test::*;
+
+/// A slot leaves the list of one family.
+#[test]
+fn one_family_changes(rt: HostRuntime) -> Result<(), Fail> {
+    let steps = [Step::Unlink(Family::Bucket, 1)];
+    assert!(rt; lists(rt.alloc(), &steps, ["ac", "abc", "abc"])?);
+    Ok(())
+}
+
+/// It comes back at the end of it.
+#[test]
+fn pushed_behind(rt: HostRuntime) -> Result<(), Fail> {
+    let steps = [
+        Step::Unlink(Family::Bucket, 1),
+        Step::Push(Family::Bucket, 1),
+    ];
+    assert!(rt; lists(rt.alloc(), &steps, ["acb", "abc", "abc"])?);
+    Ok(())
+}
+
+/// A fourth letter is handed back.
+#[test]
+fn a_fourth_slot(rt: HostRuntime) -> Result<(), Fail> {
+    let steps = [Step::Refused(b'd')];
+    assert!(rt; lists(rt.alloc(), &steps, ["abc", "abc", "abc"])?);
+    Ok(())
+}
+
+/// A slot that was given up is there for another letter, which stands in no list before it is pushed.
+#[test]
+fn a_slot_is_given_up(rt: HostRuntime) -> Result<(), Fail> {
+    let steps = [
+        Step::Unlink(Family::Bucket, 1),
+        Step::Unlink(Family::Card, 1),
+        Step::Unlink(Family::Link, 1),
+        Step::Take(1),
+        Step::Hold(b'd'),
+        Step::Push(Family::Link, 3),
+    ];
+    assert!(rt; lists(rt.alloc(), &steps, ["ac", "ac", "acd"])?);
+    Ok(())
+}
+
+#[test]
+fn fronts_and_whole_lists(rt: HostRuntime) -> Result<(), Fail> {
+    let steps = [
+        Step::PopFront(Family::Link),
+        Step::Clear(Family::Bucket, 3),
+        Step::Write(1, b'B'),
+    ];
+    assert!(rt; lists(rt.alloc(), &steps, ["", "aBc", "Bc"])?);
+    Ok(())
+}
+
+/// What stands before a slot and after it, in the list that it is in.
+#[test]
+fn before_and_after(rt: HostRuntime) -> Result<(), Fail> {
+    let steps = [Step::Unlink(Family::Card, 1)];
+    assert!(rt; neighbours(rt.alloc(), &steps, Family::Card, 0, ["ac", "a"])?);
+    assert!(rt; neighbours(rt.alloc(), &steps, Family::Card, 2, ["c", "ca"])?);
+    assert!(rt; neighbours(rt.alloc(), &steps, Family::Card, 1, ["b", "b"])?);
+    assert!(rt; neighbours(rt.alloc(), &steps, Family::Link, 1, ["bc", "ba"])?);
+    Ok(())
+}
