@@ -1,0 +1,171 @@
+//! The networks of the tests, and steps at their nodes. Nothing is promised of these functions, so that a test is proved fast.
+use card_digits::NodeNo;
+use net_tables::{Tables, read_tables};
+use net_threads::{Network, StationFault};
+use rank_cert::{Cert, read_cert};
+use std::alloc::{AllocError, Global};
+use std::sync::Wait;
+use std::test::Fail;
+use switch_node::{Case, Input};
+use table_checker::{Accepted, check};
+
+/// Two nodes: A, with the acquirer 400001, and H, the home of the cards that begin with 4.
+const BASE: &[u8] = b"\
+[network]
+currency = \"840\"
+date = \"0314\"
+host_ticks = 100
+advice_ticks = 50
+[[node]]
+name = \"A\"
+id = \"1001\"
+[[node]]
+name = \"H\"
+id = \"1002\"
+[[link]]
+name = \"AH\"
+ends = [\"A\", \"H\"]
+ticks = 3
+[[acquirer]]
+id = \"400001\"
+node = \"A\"
+[[issuer]]
+name = \"I\"
+prefix = \"4\"
+home = \"H\"
+named = []
+ceiling = 0
+[[route]]
+node = \"A\"
+prefix = \"4\"
+links = [\"AH\"]
+";
+
+const BASE_RANKS: &[u8] = b"RANKS 1\nA 4 1\nH 4 0\nEND\n";
+
+/// A, B and H in a line. B is the home of the cards that begin with 5, and A has a second acquirer.
+const LINE: &[u8] = b"\
+[network]
+currency = \"840\"
+date = \"0314\"
+host_ticks = 100
+advice_ticks = 50
+[[node]]
+name = \"A\"
+id = \"1001\"
+[[node]]
+name = \"B\"
+id = \"1003\"
+[[node]]
+name = \"H\"
+id = \"1002\"
+[[link]]
+name = \"AB\"
+ends = [\"A\", \"B\"]
+ticks = 3
+[[link]]
+name = \"BH\"
+ends = [\"B\", \"H\"]
+ticks = 3
+[[acquirer]]
+id = \"400001\"
+node = \"A\"
+[[acquirer]]
+id = \"400002\"
+node = \"A\"
+[[issuer]]
+name = \"I\"
+prefix = \"4\"
+home = \"H\"
+named = []
+ceiling = 0
+[[issuer]]
+name = \"J\"
+prefix = \"5\"
+home = \"B\"
+named = []
+ceiling = 0
+[[route]]
+node = \"A\"
+prefix = \"4\"
+links = [\"AB\"]
+[[route]]
+node = \"B\"
+prefix = \"4\"
+links = [\"BH\"]
+[[route]]
+node = \"A\"
+prefix = \"5\"
+links = [\"AB\"]
+";
+
+const LINE_RANKS: &[u8] = b"RANKS 1\nA 4 2\nB 4 1\nH 4 0\nA 5 1\nB 5 0\nEND\n";
+
+#[derive(Clone, Copy, Debug, PartialEq, Eq)]
+pub(crate) enum Sample {
+    Base,
+    Line,
+}
+
+impl Sample {
+    pub(crate) fn tables(self, alloc: Global) -> Result<Tables, Fail> {
+        let text = match self {
+            Sample::Base => BASE,
+            Sample::Line => LINE,
+        };
+        Ok(read_tables(alloc, text).ok().ok_or("tables")?)
+    }
+
+    pub(crate) fn ranks(self, alloc: Global) -> Result<Cert, Fail> {
+        let text = match self {
+            Sample::Base => BASE_RANKS,
+            Sample::Line => LINE_RANKS,
+        };
+        Ok(read_cert(alloc, text).ok().ok_or("ranks")?)
+    }
+}
+
+pub(crate) fn accepted<'t>(
+    alloc: Global,
+    tables: &'t Tables,
+    cert: &Cert,
+) -> Result<Accepted<'t>, Fail> {
+    match check(alloc, tables, cert) {
+        Ok(accepted) => Ok(accepted),
+        Err(_) => Err("not accepted".into()),
+    }
+}
+
+/// A request of 10.00 by acquirer 400001 for card 4111111111111111, with a trace number.
+pub(crate) fn request(alloc: Global, trace: usize) -> Result<String, AllocError> {
+    format!(in alloc;
+        "010072200001000080001641111111111111110000000000000010000314091530{trace:06}06400001840"
+    )
+}
+
+/// A step at a node. None where there is no such node.
+pub(crate) fn step<R: Wait>(
+    rt: &R,
+    network: &Network<'_, '_>,
+    n: usize,
+    case: Case,
+) -> Option<Result<(), StationFault>> {
+    if n >= 64 || n >= network.stations().len() {
+        return None;
+    }
+    Some(network.step_at(rt, NodeNo::new(n), Input::new(case)))
+}
+
+pub(crate) fn pump<R: Wait>(rt: &R, network: &Network<'_, '_>, n: usize) {
+    if n < 64 && n < network.stations().len() {
+        network.pump_once(rt, NodeNo::new(n));
+    }
+}
+
+/// How many entries a node's trace has.
+pub(crate) fn entries<R: Wait>(rt: &R, network: &Network<'_, '_>, n: usize) -> usize {
+    match network.stations().get(n) {
+        Some(station) => station.lock(rt).trace().len(),
+        None => 0,
+    }
+}
