@@ -2,6 +2,8 @@
 #![tactic(auto)]
 
 #[cfg(test)]
+mod lent;
+#[cfg(test)]
 mod network;
 #[cfg(test)]
 mod overlapping;

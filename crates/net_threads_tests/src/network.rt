@@ -101,10 +101,73 @@ links = [\"AB\"]
 
 const LINE_RANKS: &[u8] = b"RANKS 1\nA 4 2\nB 4 1\nH 4 0\nA 5 1\nB 5 0\nEND\n";
 
+/// A and B with an acquirer each, and H, the home of the cards that begin with 4. A may approve 300 a day by itself, and B 200.
+const SHARED: &[u8] = b"\
+[network]
+currency = \"840\"
+date = \"0314\"
+host_ticks = 100
+advice_ticks = 50
+[[node]]
+name = \"A\"
+id = \"1001\"
+[[node]]
+name = \"B\"
+id = \"1003\"
+[[node]]
+name = \"H\"
+id = \"1002\"
+[[link]]
+name = \"AB\"
+ends = [\"A\", \"B\"]
+ticks = 3
+[[link]]
+name = \"AH\"
+ends = [\"A\", \"H\"]
+ticks = 3
+[[link]]
+name = \"BH\"
+ends = [\"B\", \"H\"]
+ticks = 3
+[[acquirer]]
+id = \"400001\"
+node = \"A\"
+[[acquirer]]
+id = \"400002\"
+node = \"B\"
+[[issuer]]
+name = \"I\"
+prefix = \"4\"
+home = \"H\"
+named = [\"A\", \"B\"]
+ceiling = 500
+[[route]]
+node = \"A\"
+prefix = \"4\"
+links = [\"AH\"]
+[[route]]
+node = \"B\"
+prefix = \"4\"
+links = [\"BH\"]
+[[stand_in]]
+node = \"A\"
+prefix = \"4\"
+day = 300
+single = 1000
+[[stand_in]]
+node = \"B\"
+prefix = \"4\"
+day = 200
+single = 1000
+";
+
+const SHARED_RANKS: &[u8] = b"RANKS 1\nA 4 1\nB 4 1\nH 4 0\nEND\n";
+
 #[derive(Clone, Copy, Debug, PartialEq, Eq)]
 pub(crate) enum Sample {
     Base,
     Line,
+    Shared,
 }
 
 impl Sample {
@@ -112,6 +175,7 @@ impl Sample {
         let text = match self {
             Sample::Base => BASE,
             Sample::Line => LINE,
+            Sample::Shared => SHARED,
         };
         Ok(read_tables(alloc, text).ok().ok_or("tables")?)
     }
@@ -120,6 +184,7 @@ impl Sample {
         let text = match self {
             Sample::Base => BASE_RANKS,
             Sample::Line => LINE_RANKS,
+            Sample::Shared => SHARED_RANKS,
         };
         Ok(read_cert(alloc, text).ok().ok_or("ranks")?)
     }
