@@ -164,7 +164,7 @@ struct Run {
     code: [u8; 2],
 }
 
-fn outcome<R: Threads + Wait + Sync>(rt: &R, alloc: Global, run: Run) -> Result<Outcome, Fail> {
+fn outcome_of<R: Threads + Wait + Sync>(rt: &R, alloc: Global, run: Run) -> Result<Outcome, Fail> {
     let tables = run.sample.tables(alloc)?;
     let cert = run.sample.ranks(alloc)?;
     let accepted = accepted(alloc, &tables, &cert)?;
@@ -193,7 +193,7 @@ fn a_hundred_requests(rt: HostRuntime) -> Result<(), Fail> {
         posts: 0,
         verdict: Verdict::Linked,
     };
-    assert_eq!(rt; outcome(&rt, rt.alloc(), run)?, wanted);
+    assert_eq!(rt; outcome_of(&rt, rt.alloc(), run)?, wanted);
     Ok(())
 }
 
@@ -215,7 +215,7 @@ fn links_that_repeat(rt: HostRuntime) -> Result<(), Fail> {
         posts: 0,
         verdict: Verdict::Linked,
     };
-    assert_eq!(rt; outcome(&rt, rt.alloc(), run)?, wanted);
+    assert_eq!(rt; outcome_of(&rt, rt.alloc(), run)?, wanted);
     Ok(())
 }
 
@@ -237,7 +237,7 @@ fn a_link_that_loses_all(rt: HostRuntime) -> Result<(), Fail> {
         posts: 0,
         verdict: Verdict::Linked,
     };
-    assert_eq!(rt; outcome(&rt, rt.alloc(), run)?, wanted);
+    assert_eq!(rt; outcome_of(&rt, rt.alloc(), run)?, wanted);
     Ok(())
 }
 
@@ -259,7 +259,7 @@ fn a_host_that_declines(rt: HostRuntime) -> Result<(), Fail> {
         posts: 0,
         verdict: Verdict::Linked,
     };
-    assert_eq!(rt; outcome(&rt, rt.alloc(), run)?, wanted);
+    assert_eq!(rt; outcome_of(&rt, rt.alloc(), run)?, wanted);
     Ok(())
 }
 
@@ -273,7 +273,7 @@ fn one_turn(rt: HostRuntime) -> Result<(), Fail> {
         host: *b"00",
         code: *b"00",
     };
-    let outcome = outcome(&rt, rt.alloc(), run)?;
+    let outcome = outcome_of(&rt, rt.alloc(), run)?;
     assert_eq!(rt; outcome.lines, 100);
     assert_eq!(rt; outcome.coded.saturating_add(outcome.silent), 100);
     assert_eq!(rt; outcome.verdict, Verdict::Linked);
