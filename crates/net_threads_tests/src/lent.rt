@@ -1,11 +1,11 @@
 //! A part of a limit that one node lends another, over a link that repeats each packet.
-use crate::network::{Sample, accepted, pump, step};
+use crate::network::{Sample, accepted, copied, plan_in, pump, step};
 use card_digits::LinkNo;
 use iso_message::{Code, Message};
 use net_operate::{Host, operate};
 use net_threads::{Network, Verdict};
 use request_book::Way;
-use run_plan::{Plan, read_plan};
+use run_plan::Plan;
 use std::alloc::{AllocError, Global};
 use std::sync::Wait;
 use std::test::Fail;
@@ -68,7 +68,7 @@ fn is_answered<R: Wait>(
     line: &[u8],
     answer: &[u8],
 ) -> Result<bool, AllocError> {
-    let entered = step(rt, network, 1, Case::Enter(line.to_vec(alloc)?));
+    let entered = step(rt, network, 1, Case::Enter(copied(alloc, line)?));
     let Some(station) = network.stations().get(1) else {
         return Ok(false);
     };
@@ -109,7 +109,7 @@ fn a_loan_counts_once(rt: HostRuntime) -> Result<(), Fail> {
     let tables = Sample::Shared.tables(alloc)?;
     let cert = Sample::Shared.ranks(alloc)?;
     let accepted = accepted(alloc, &tables, &cert)?;
-    let plan = read_plan(alloc, &tables, LOAN)?;
+    let plan = plan_in(alloc, &tables, LOAN)?;
     assert_eq!(rt; lent(&rt, alloc, &accepted, &plan), Some([true; 4]));
     Ok(())
 }

@@ -3,6 +3,7 @@ use card_digits::NodeNo;
 use net_tables::{Tables, read_tables};
 use net_threads::{Network, StationFault};
 use rank_cert::{Cert, read_cert};
+use run_plan::{Plan, read_plan};
 use std::alloc::{AllocError, Global};
 use std::sync::Wait;
 use std::test::Fail;
@@ -170,23 +171,56 @@ pub(crate) enum Sample {
     Shared,
 }
 
+// A function for each text keeps it out of the proofs of what uses it.
+fn base() -> &'static [u8] {
+    BASE
+}
+
+fn base_ranks() -> &'static [u8] {
+    BASE_RANKS
+}
+
+fn line() -> &'static [u8] {
+    LINE
+}
+
+fn line_ranks() -> &'static [u8] {
+    LINE_RANKS
+}
+
+fn shared() -> &'static [u8] {
+    SHARED
+}
+
+fn shared_ranks() -> &'static [u8] {
+    SHARED_RANKS
+}
+
+fn tables_in(alloc: Global, text: &[u8]) -> Result<Tables, Fail> {
+    Ok(read_tables(alloc, text).ok().ok_or("tables")?)
+}
+
+fn ranks_in(alloc: Global, text: &[u8]) -> Result<Cert, Fail> {
+    Ok(read_cert(alloc, text).ok().ok_or("ranks")?)
+}
+
 impl Sample {
     pub(crate) fn tables(self, alloc: Global) -> Result<Tables, Fail> {
         let text = match self {
-            Sample::Base => BASE,
-            Sample::Line => LINE,
-            Sample::Shared => SHARED,
+            Sample::Base => base(),
+            Sample::Line => line(),
+            Sample::Shared => shared(),
         };
-        Ok(read_tables(alloc, text).ok().ok_or("tables")?)
+        tables_in(alloc, text)
     }
 
     pub(crate) fn ranks(self, alloc: Global) -> Result<Cert, Fail> {
         let text = match self {
-            Sample::Base => BASE_RANKS,
-            Sample::Line => LINE_RANKS,
-            Sample::Shared => SHARED_RANKS,
+            Sample::Base => base_ranks(),
+            Sample::Line => line_ranks(),
+            Sample::Shared => shared_ranks(),
         };
-        Ok(read_cert(alloc, text).ok().ok_or("ranks")?)
+        ranks_in(alloc, text)
     }
 }
 
@@ -199,6 +233,21 @@ pub(crate) fn accepted<'t>(
         Ok(accepted) => Ok(accepted),
         Err(_) => Err("not accepted".into()),
     }
+}
+
+pub(crate) fn plan_in<'a>(
+    alloc: Global,
+    tables: &Tables,
+    text: &'a [u8],
+) -> Result<Plan<'a>, Fail> {
+    match read_plan(alloc, tables, text) {
+        Ok(plan) => Ok(plan),
+        Err(_) => Err("plan".into()),
+    }
+}
+
+pub(crate) fn copied(alloc: Global, bytes: &[u8]) -> Result<Vec<u8>, AllocError> {
+    bytes.to_vec(alloc)
 }
 
 /// A request of 10.00 by acquirer 400001 for card 4111111111111111, with a trace number.

@@ -1,9 +1,9 @@
 //! What runs while something else does not end.
-use crate::network::{Sample, accepted, step};
+use crate::network::{Sample, accepted, plan_in, step};
 use iso_message::{Code, Message};
 use net_operate::{Host, operate};
 use net_threads::{Ended, LineEnd, Network, Verdict};
-use run_plan::{Plan, read_plan};
+use run_plan::Plan;
 use std::alloc::Global;
 use std::sync::Wait;
 use std::sync::atomic::{AtomicBool, Ordering};
@@ -124,7 +124,7 @@ fn two_hosts_overlap(rt: HostRuntime) -> Result<(), Fail> {
     let tables = Sample::Line.tables(alloc)?;
     let cert = Sample::Line.ranks(alloc)?;
     let accepted = accepted(alloc, &tables, &cert)?;
-    let plan = read_plan(alloc, &tables, TWO_HOMES)?;
+    let plan = plan_in(alloc, &tables, TWO_HOMES)?;
     assert_eq!(rt; met(&rt, alloc, &accepted, &plan), Some([true; 3]));
     Ok(())
 }

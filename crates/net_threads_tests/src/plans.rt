@@ -1,10 +1,10 @@
 //! Plans that threads run, and what their sessions ended with.
-use crate::network::{Sample, accepted, request};
+use crate::network::{Sample, accepted, plan_in, request};
 use iso_message::{Code, Message, code_of, decode};
 use net_operate::{Host, operate};
 use net_threads::{Ended, LineEnd, Network, SessionEnd, Station, Verdict};
 use request_book::Way;
-use run_plan::{Plan, read_plan};
+use run_plan::Plan;
 use std::alloc::{AllocError, Global};
 use std::sync::Wait;
 use std::test::Fail;
@@ -33,7 +33,7 @@ enum Said {
     Other,
 }
 
-fn said(alloc: Global, end: &LineEnd) -> Said {
+fn said_by(alloc: Global, end: &LineEnd) -> Said {
     match end {
         LineEnd::Answer(bytes) => match decode(alloc, bytes.as_slice()) {
             Ok(message) => code_in(&message),
@@ -58,7 +58,7 @@ fn code_in(message: &Message) -> Said {
 fn count_said(alloc: Global, session: &SessionEnd, wanted: Said) -> usize {
     let mut count: usize = 0;
     for end in session.lines.iter() {
-        if said(alloc, end) == wanted {
+        if said_by(alloc, end) == wanted {
             count = count.saturating_add(1);
         }
     }
@@ -169,9 +169,7 @@ fn outcome_of<R: Threads + Wait + Sync>(rt: &R, alloc: Global, run: Run) -> Resu
     let cert = run.sample.ranks(alloc)?;
     let accepted = accepted(alloc, &tables, &cert)?;
     let text = plan_text(alloc, run.head, run.requests)?;
-    let Ok(plan) = read_plan(alloc, &tables, text.as_bytes()) else {
-        return Err("plan".into());
-    };
+    let plan = plan_in(alloc, &tables, text.as_bytes())?;
     Ok(ran(rt, alloc, &accepted, &plan, run.host, &run.code).ok_or("not run")?)
 }
 

@@ -1,5 +1,5 @@
 //! Rings between nodes that nobody pumps meanwhile.
-use crate::network::{Sample, accepted, entries, pump, request, step};
+use crate::network::{Sample, accepted, copied, entries, pump, request, step};
 use card_digits::LinkNo;
 use net_threads::{Network, StationFault};
 use std::alloc::Global;
@@ -16,7 +16,7 @@ fn enter_all<R: Wait>(
 ) -> Result<bool, Fail> {
     for k in 0..count {
         let text = request(alloc, k + 1)?;
-        let bytes = text.as_bytes().to_vec(alloc)?;
+        let bytes = copied(alloc, text.as_bytes())?;
         if step(rt, network, 0, Case::Enter(bytes)) != Some(Ok(())) {
             return Ok(false);
         }

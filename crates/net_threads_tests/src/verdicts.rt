@@ -1,5 +1,5 @@
 //! Networks that were meddled with, and what is said of them at the end.
-use crate::network::{Sample, accepted, step};
+use crate::network::{Sample, accepted, copied, step};
 use card_digits::{LinkNo, NodeNo};
 use net_threads::{Ended, LineEnd, Network, SessionEnd, Verdict};
 use std::alloc::{AllocError, Global};
@@ -25,7 +25,7 @@ const FORWARDED: &[u8] =
     b"010072220001000080001641111111111111110000000000000010000314091530000001031406400001840";
 
 fn take<R: Wait>(rt: &R, alloc: Global, network: &Network<'_, '_>) -> Result<bool, AllocError> {
-    let bytes = FORWARDED.to_vec(alloc)?;
+    let bytes = copied(alloc, FORWARDED)?;
     Ok(step(rt, network, 1, Case::Take(LinkNo::new(0), 7, bytes)) == Some(Ok(())))
 }
 
@@ -58,7 +58,7 @@ fn play<R: Wait>(
 /// One session at A whose one line was answered with these bytes.
 fn answered(alloc: Global, bytes: &[u8]) -> Result<SessionEnd, AllocError> {
     let mut lines = Vec::new(alloc);
-    lines.push(LineEnd::Answer(bytes.to_vec(alloc)?))?;
+    lines.push(LineEnd::Answer(copied(alloc, bytes)?))?;
     Ok(SessionEnd {
         node: NodeNo::new(0),
         lines,
