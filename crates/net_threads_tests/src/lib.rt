@@ -1,0 +1,15 @@
+//! Tests of stations, of threads that run plans, and of what is said of them at the end.
+#![tactic(auto)]
+
+#[cfg(test)]
+mod lent;
+#[cfg(test)]
+mod network;
+#[cfg(test)]
+mod overlapping;
+#[cfg(test)]
+mod plans;
+#[cfg(test)]
+mod rings;
+#[cfg(test)]
+mod verdicts;

@@ -1,0 +1,279 @@
+//! Plans that threads run, and what their sessions ended with.
+use crate::network::{Sample, accepted, plan_in, request};
+use iso_message::{Code, Message, code_of, decode};
+use net_operate::{Host, operate};
+use net_threads::{Ended, LineEnd, Network, SessionEnd, Station, Verdict};
+use request_book::Way;
+use run_plan::Plan;
+use std::alloc::{AllocError, Global};
+use std::sync::Wait;
+use std::test::Fail;
+use std::thread::Threads;
+use switch_node::Entry;
+use table_checker::Accepted;
+
+/// A host that always gives the same answer.
+#[derive(Clone, Copy)]
+struct Always {
+    code: [u8; 2],
+}
+
+impl Host for Always {
+    fn authorize(&self, _request: &Message) -> Code {
+        Code::new(self.code)
+    }
+}
+
+/// What a line of a session ended with.
+#[derive(Clone, Copy, Debug, PartialEq, Eq)]
+enum Said {
+    /// An answer with this code.
+    Code([u8; 2]),
+    Nothing,
+    Other,
+}
+
+fn said_by(alloc: Global, end: &LineEnd) -> Said {
+    match end {
+        LineEnd::Answer(bytes) => match decode(alloc, bytes.as_slice()) {
+            Ok(message) => code_in(&message),
+            Err(_) => Said::Other,
+        },
+        LineEnd::Nothing => Said::Nothing,
+        LineEnd::Refused(_) => Said::Other,
+    }
+}
+
+fn code_in(message: &Message) -> Said {
+    match code_of(message) {
+        Some(code) => match code.as_slice() {
+            [first, second] => Said::Code([*first, *second]),
+            _ => Said::Other,
+        },
+        None => Said::Other,
+    }
+}
+
+/// How many of the lines ended so.
+fn count_said(alloc: Global, session: &SessionEnd, wanted: Said) -> usize {
+    let mut count: usize = 0;
+    for end in session.lines.iter() {
+        if said_by(alloc, end) == wanted {
+            count = count.saturating_add(1);
+        }
+    }
+    count
+}
+
+/// How many outputs of the trace go to the host, and how many are posted there.
+fn asks_and_posts(trace: &[Entry]) -> (usize, usize) {
+    let mut asks: usize = 0;
+    let mut posts: usize = 0;
+    for entry in trace {
+        for output in entry.outputs().as_slice() {
+            match output.way() {
+                Way::Ask(_) => asks = asks.saturating_add(1),
+                Way::Post => posts = posts.saturating_add(1),
+                _ => {}
+            }
+        }
+    }
+    (asks, posts)
+}
+
+fn all_asks_and_posts(stations: &[Station<'_>]) -> (usize, usize) {
+    let mut asks: usize = 0;
+    let mut posts: usize = 0;
+    for station in stations {
+        let (asked, posted) = asks_and_posts(station.trace());
+        asks = asks.saturating_add(asked);
+        posts = posts.saturating_add(posted);
+    }
+    (asks, posts)
+}
+
+/// What came of a plan with one session.
+#[derive(Clone, Copy, Debug, PartialEq, Eq)]
+struct Outcome {
+    /// How many lines the session has, how many of them got the code, and how many got nothing.
+    lines: usize,
+    coded: usize,
+    silent: usize,
+    /// How often a host was asked, and how many advices were posted.
+    asks: usize,
+    posts: usize,
+    verdict: Verdict,
+}
+
+fn ran<R: Threads + Wait + Sync>(
+    rt: &R,
+    alloc: Global,
+    accepted: &Accepted<'_>,
+    plan: &Plan<'_>,
+    host: [u8; 2],
+    code: &[u8; 2],
+) -> Option<Outcome> {
+    let hosts = [
+        Always { code: host },
+        Always { code: host },
+        Always { code: host },
+    ];
+    let network = Network::new(alloc, accepted).ok()?;
+    let ended = operate(rt, alloc, &network, plan, &hosts).ok()?;
+    let finished = network.finish(&ended).ok()?;
+    let (asks, posts) = all_asks_and_posts(finished.stations.as_slice());
+    let session = one_session(&ended)?;
+    Some(Outcome {
+        lines: session.lines.len(),
+        coded: count_said(alloc, session, Said::Code(*code)),
+        silent: count_said(alloc, session, Said::Nothing),
+        asks,
+        posts,
+        verdict: finished.verdict,
+    })
+}
+
+fn one_session(ended: &Ended) -> Option<&SessionEnd> {
+    if ended.sessions.len() == 1 {
+        ended.sessions.first()
+    } else {
+        None
+    }
+}
+
+/// A plan with this head, and so many requests of one session.
+fn plan_text(alloc: Global, head: &str, count: usize) -> Result<String, AllocError> {
+    let mut text = String::from_str(alloc, head)?;
+    text.push_str("session 400001\n")?;
+    for k in 0..count {
+        let line = request(alloc, k + 1)?;
+        text.push_str(format!(in alloc; "send {line}\n")?.as_str())?;
+    }
+    text.push_str("END\n")?;
+    Ok(text)
+}
+
+/// A plan for a network, and the code that its hosts give.
+#[derive(Clone, Copy)]
+struct Run {
+    sample: Sample,
+    head: &'static str,
+    requests: usize,
+    host: [u8; 2],
+    /// The code that is looked for in the answers.
+    code: [u8; 2],
+}
+
+fn outcome_of<R: Threads + Wait + Sync>(rt: &R, alloc: Global, run: Run) -> Result<Outcome, Fail> {
+    let tables = run.sample.tables(alloc)?;
+    let cert = run.sample.ranks(alloc)?;
+    let accepted = accepted(alloc, &tables, &cert)?;
+    let text = plan_text(alloc, run.head, run.requests)?;
+    let plan = plan_in(alloc, &tables, text.as_bytes())?;
+    Ok(ran(rt, alloc, &accepted, &plan, run.host, &run.code).ok_or("not run")?)
+}
+
+/// A hundred requests over two links are all approved.
+#[test]
+fn a_hundred_requests(rt: HostRuntime) -> Result<(), Fail> {
+    let run = Run {
+        sample: Sample::Line,
+        head: "PLAN 1\nturns 4000000000\ntick_every 0\n",
+        requests: 100,
+        host: *b"00",
+        code: *b"00",
+    };
+    let wanted = Outcome {
+        lines: 100,
+        coded: 100,
+        silent: 0,
+        asks: 100,
+        posts: 0,
+        verdict: Verdict::Linked,
+    };
+    assert_eq!(rt; outcome_of(&rt, rt.alloc(), run)?, wanted);
+    Ok(())
+}
+
+/// The same where each packet is taken twice: each request counts once.
+#[test]
+fn links_that_repeat(rt: HostRuntime) -> Result<(), Fail> {
+    let run = Run {
+        sample: Sample::Line,
+        head: "PLAN 1\nturns 4000000000\ntick_every 0\nrepeat AB 1\nrepeat BH 1\n",
+        requests: 100,
+        host: *b"00",
+        code: *b"00",
+    };
+    let wanted = Outcome {
+        lines: 100,
+        coded: 100,
+        silent: 0,
+        asks: 100,
+        posts: 0,
+        verdict: Verdict::Linked,
+    };
+    assert_eq!(rt; outcome_of(&rt, rt.alloc(), run)?, wanted);
+    Ok(())
+}
+
+/// Where each packet is lost and clocks tick, the request is declined with 91.
+#[test]
+fn a_link_that_loses_all(rt: HostRuntime) -> Result<(), Fail> {
+    let run = Run {
+        sample: Sample::Base,
+        head: "PLAN 1\nturns 4000000000\ntick_every 100\nlose AH 1\n",
+        requests: 1,
+        host: *b"00",
+        code: *b"91",
+    };
+    let wanted = Outcome {
+        lines: 1,
+        coded: 1,
+        silent: 0,
+        asks: 0,
+        posts: 0,
+        verdict: Verdict::Linked,
+    };
+    assert_eq!(rt; outcome_of(&rt, rt.alloc(), run)?, wanted);
+    Ok(())
+}
+
+/// What the host declines is declined.
+#[test]
+fn a_host_that_declines(rt: HostRuntime) -> Result<(), Fail> {
+    let run = Run {
+        sample: Sample::Base,
+        head: "PLAN 1\nturns 4000000000\ntick_every 0\n",
+        requests: 1,
+        host: *b"05",
+        code: *b"05",
+    };
+    let wanted = Outcome {
+        lines: 1,
+        coded: 1,
+        silent: 0,
+        asks: 1,
+        posts: 0,
+        verdict: Verdict::Linked,
+    };
+    assert_eq!(rt; outcome_of(&rt, rt.alloc(), run)?, wanted);
+    Ok(())
+}
+
+/// With one turn each thread has soon ended: a request is approved, or nothing comes, and what was done is a run.
+#[test]
+fn one_turn(rt: HostRuntime) -> Result<(), Fail> {
+    let run = Run {
+        sample: Sample::Line,
+        head: "PLAN 1\nturns 1\ntick_every 0\n",
+        requests: 100,
+        host: *b"00",
+        code: *b"00",
+    };
+    let outcome = outcome_of(&rt, rt.alloc(), run)?;
+    assert_eq!(rt; outcome.lines, 100);
+    assert_eq!(rt; outcome.coded.saturating_add(outcome.silent), 100);
+    assert_eq!(rt; outcome.verdict, Verdict::Linked);
+    Ok(())
+}
