@@ -4,6 +4,7 @@ import random
 
 import answers
 import changes
+import full_nodes
 import system
 
 MOST = answers.MOST_BYTES
@@ -69,8 +70,6 @@ def many_lines():
     tables = changes.text_of(changes.FIRST / "tables.toml") + changes.LINE
     yield "check", tables + b"RANKS 1\n" + b"A 4 1\n" * 100000, answers.problem_of
     yield "check", tables + b"RANKS 1\n" + b"".join(b"A %d 1\n" % number for number in range(500000)) + b"H 4 0\nEND\n", answers.problem_of
-    yield "replay", bundle + b"tick A\n" * 1000000, answers.problem_of
-    yield "replay", bundle + b"tick A\n" * 1000001, answers.problem_of
     yield "replay", bundle + b"up AH A\ndown AH A\n" * 400000, answers.problem_of
     yield "replay", bundle + b"enter A " + changes.REQUEST + b"\n" + (b"enter A " + changes.REQUEST + b"\n") * 100000, answers.problem_of
     yield "replay", bundle + b"\n" * 1000000, answers.problem_of
@@ -96,3 +95,4 @@ def cases(seed):
         yield "frames", filled(b"\xff\xff" + b"0" * 65535, size), short_answer
     yield from deep_cases()
     yield from many_lines()
+    yield from full_nodes.cases()
