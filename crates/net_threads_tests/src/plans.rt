@@ -14,13 +14,17 @@ use table_checker::Accepted;
 
 /// A host that always gives the same answer.
 #[derive(Clone, Copy)]
-struct Always {
-    code: [u8; 2],
+enum Always {
+    Approves,
+    Declines,
 }
 
 impl Host for Always {
     fn authorize(&self, _request: &Message) -> Code {
-        Code::new(self.code)
+        match self {
+            Always::Approves => Code::new(*b"00"),
+            Always::Declines => Code::new(*b"05"),
+        }
     }
 }
 
@@ -110,14 +114,10 @@ fn ran<R: Threads + Wait + Sync>(
     alloc: Global,
     accepted: &Accepted<'_>,
     plan: &Plan<'_>,
-    host: [u8; 2],
+    host: Always,
     code: &[u8; 2],
 ) -> Option<Outcome> {
-    let hosts = [
-        Always { code: host },
-        Always { code: host },
-        Always { code: host },
-    ];
+    let hosts = [host, host, host];
     let network = Network::new(alloc, accepted).ok()?;
     let ended = operate(rt, alloc, &network, plan, &hosts).ok()?;
     let finished = network.finish(&ended).ok()?;
@@ -159,7 +159,7 @@ struct Run {
     sample: Sample,
     head: &'static str,
     requests: usize,
-    host: [u8; 2],
+    host: Always,
     /// The code that is looked for in the answers.
     code: [u8; 2],
 }
@@ -180,7 +180,7 @@ fn a_hundred_requests(rt: HostRuntime) -> Result<(), Fail> {
         sample: Sample::Line,
         head: "PLAN 1\nturns 4000000000\ntick_every 0\n",
         requests: 100,
-        host: *b"00",
+        host: Always::Approves,
         code: *b"00",
     };
     let wanted = Outcome {
@@ -202,7 +202,7 @@ fn links_that_repeat(rt: HostRuntime) -> Result<(), Fail> {
         sample: Sample::Line,
         head: "PLAN 1\nturns 4000000000\ntick_every 0\nrepeat AB 1\nrepeat BH 1\n",
         requests: 100,
-        host: *b"00",
+        host: Always::Approves,
         code: *b"00",
     };
     let wanted = Outcome {
@@ -224,7 +224,7 @@ fn a_link_that_loses_all(rt: HostRuntime) -> Result<(), Fail> {
         sample: Sample::Base,
         head: "PLAN 1\nturns 4000000000\ntick_every 100\nlose AH 1\n",
         requests: 1,
-        host: *b"00",
+        host: Always::Approves,
         code: *b"91",
     };
     let wanted = Outcome {
@@ -246,7 +246,7 @@ fn a_host_that_declines(rt: HostRuntime) -> Result<(), Fail> {
         sample: Sample::Base,
         head: "PLAN 1\nturns 4000000000\ntick_every 0\n",
         requests: 1,
-        host: *b"05",
+        host: Always::Declines,
         code: *b"05",
     };
     let wanted = Outcome {
@@ -268,7 +268,7 @@ fn one_turn(rt: HostRuntime) -> Result<(), Fail> {
         sample: Sample::Line,
         head: "PLAN 1\nturns 1\ntick_every 0\n",
         requests: 100,
-        host: *b"00",
+        host: Always::Approves,
         code: *b"00",
     };
     let outcome = outcome_of(&rt, rt.alloc(), run)?;
