@@ -2,6 +2,10 @@
 #![tactic(auto)]
 
 #[cfg(test)]
+mod advices;
+#[cfg(test)]
+mod desk;
+#[cfg(test)]
 mod grants;
 #[cfg(test)]
 mod identities;
