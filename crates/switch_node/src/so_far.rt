@@ -56,7 +56,7 @@ impl Draft {
         self.link_now(link).serial + 1
     }
 
-    /// The same, where it is known what it was before the changes.
+    /// The link on which a key's request was put, from what it was before the changes.
     fn forwarded_since(&self, key: Key, there: bool, link: Option<LinkNo>) -> Option<LinkNo>
         ensures { result ≡ (forward_from key self.now.effects (record { there = there; link = link })).link }
     {
