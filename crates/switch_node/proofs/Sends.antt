@@ -1,5 +1,5 @@
 -- What is sent again.
-use Rattle.std.proofs.Common.{◌≡◌, ◌<◌, ◌≤◌, ◌+◌, ℕ, zero, suc, List, [], ◌∷◌, filter, drop, length, get_or, Bool, true, false, cond, refl, sym, ap, subst, ◌∙◌, Option, Some, None, arith, add-one, find}
+use Rattle.std.proofs.Common.{◌≡◌, ℕ, suc, sym, ap, subst, ◌∙◌, Option, Some, None, find}
 use Rattle.iso_message.specs.Fields.{Fields}
 use Rattle.net_rows.specs.Network.{Network}
 use Rattle.network_law.specs.declared.grant.Grant.{Grant}
@@ -7,7 +7,6 @@ use Rattle.network_law.specs.declared.grant.GrantPacket.TheVariants as packets
 use Rattle.network_law.specs.Tables.{links_between}
 use Rattle.network_law.specs.Traces.{PutPacket}
 use Rattle.node_machine.specs.Books.{Books, Stored, Advised, Granted, Kept, KeptGrant}
-use Rattle.node_machine.specs.Machine as machine
 use Rattle.node_machine.specs.Lists.{Lists, link_at, view}
 use Rattle.node_machine.specs.Steps as steps
 use Rattle.node_machine.specs.Steps.{Progress}

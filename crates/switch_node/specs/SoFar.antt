@@ -1,9 +1,6 @@
--- What the changes so far did, beside what `entry_changes` reads from them.
-use Rattle.std.specs.Prelude.{List, [], ◌∷◌, Bool, ◌||◌}
-use Rattle.network_law.specs.declared.grant.Grant.{Grant}
-use Rattle.network_law.specs.declared.grant.GrantPacket.TheVariants as packets
-use Rattle.node_machine.specs.Books.{Taken, Loan, borrowed_of}
-use Rattle.node_machine.specs.Machine.{is_number_of}
+-- Own approvals among the changes so far.
+use Rattle.std.specs.Prelude.{List, [], ◌∷◌}
+use Rattle.node_machine.specs.Books.{Taken}
 use Rattle.node_machine.specs.Lists.{forget}
 use Rattle.node_books.specs.declared.effect.Effect.{Effect}
 use Rattle.node_books.specs.declared.effect.Effect.TheVariants as effects
