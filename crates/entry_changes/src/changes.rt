@@ -18,7 +18,8 @@ use std::alloc::{AllocError, Global};
 use std::marker::Model;
 use std::mem::replace;
 
-/// The changes of an entry, in their order. What a look costs doesn't grow with their number.
+/// The changes of an entry, in their order. What a look costs doesn't grow with their number, except where two of the later ones speak of
+/// the same advice, or one of them opens or forwards a request or is a tick: then all are gone through.
 #[derive(Drop)]
 pub struct Changes {
     alloc: Global,
