@@ -6,7 +6,7 @@ use crate::short_bytes::ShortBytes;
 use std::marker::Model;
 
 /// Any four digits that stand for a settlement date (ISO 8583, element 15). That they are a month and a day is not asked.
-#[derive(Clone, Copy, Debug, PartialEq, Eq, PartialOrd, Ord)]
+#[derive(Clone, Copy, Debug, PartialEq, Eq, PartialOrd, Ord, Hash)]
 pub struct DateLabel {
     digits: ShortBytes<4>,
 }

@@ -7,7 +7,7 @@ use crate::short_bytes::{ShortBytes, all_digits};
 use std::marker::Model;
 
 /// A name of 1 to 8 ASCII letters and digits.
-#[derive(Clone, Copy, Debug, PartialEq, Eq, PartialOrd, Ord)]
+#[derive(Clone, Copy, Debug, PartialEq, Eq, PartialOrd, Ord, Hash)]
 pub struct Name {
     text: ShortBytes<8>,
 }

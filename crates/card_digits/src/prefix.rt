@@ -6,7 +6,7 @@ use crate::short_bytes::ShortBytes;
 use std::marker::Model;
 
 /// A prefix of 1 to 12 digits.
-#[derive(Clone, Copy, Debug, PartialEq, Eq, PartialOrd, Ord)]
+#[derive(Clone, Copy, Debug, PartialEq, Eq, PartialOrd, Ord, Hash)]
 pub struct Prefix {
     digits: ShortBytes<12>,
 }

@@ -94,17 +94,18 @@ impl<const N: usize> Eq for ShortBytes<N> {
     ghost laws = { Prim.search (comparing, rules) };
 }
 
+// The bytes at once, and not one by one.
 impl<const N: usize> Hash for ShortBytes<N> {
-    ghost use Rattle.std.specs.Hash as fed;
+    ghost use Rattle.std.specs.Prelude.{[], ◌∷◌};
     ghost use Rattle.std.proofs.Common.{rules};
     ghost use Rattle.std.specs.Cmp.Rules.{hashing};
 
-    ghost hash_input = { λ bs. fed.slice fed.u8 bs };
+    ghost hash_input = { λ bs. bs ∷ [] };
 
     ghost respects_eq = { Prim.search (hashing, rules) };
 
     fn hash<H: Hasher>(&self, state: &mut H) {
-        self.as_slice().hash(state);
+        state.write(self.as_slice());
     }
 }
 
