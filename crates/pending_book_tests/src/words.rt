@@ -49,16 +49,17 @@ fn digits(number: u32) -> [u8; 6] {
     digits
 }
 
-/// The numbers of two keys that have one hash. They were searched for.
+/// The numbers of two keys that have one hash: the first eight bytes of their times are the hasher's state before them, and so one
+/// factor of the hash is 0, whatever the other is.
 pub(crate) const SAME_HASH: [u32; 2] = [1_000_001, 2_000_001];
 
 fn time(number: u32) -> [u8; 10] {
     if number < SAME_HASH[0] {
         *b"0314091530"
     } else if number < SAME_HASH[1] {
-        [48, 51, 78, 36, 29, 219, 21, 237, 76, 0]
+        [211, 7, 103, 203, 35, 26, 255, 5, 48, 48]
     } else {
-        [48, 51, 141, 117, 187, 247, 245, 129, 113, 18]
+        [211, 7, 103, 203, 35, 26, 255, 5, 49, 48]
     }
 }
 
