@@ -3,43 +3,11 @@ use net_replay::{ReplayFault, Traces, replay};
 use net_tables::read_tables;
 use rank_cert::read_cert;
 use request_book::Way;
+use sample_networks::Sample;
 use std::alloc::Global;
 use std::test::Fail;
 use switch_node::Output;
 use table_checker::check;
-
-const TABLES: &[u8] = b"\
-[network]
-currency = \"840\"
-date = \"0314\"
-host_ticks = 100
-advice_ticks = 50
-[[node]]
-name = \"A\"
-id = \"1001\"
-[[node]]
-name = \"H\"
-id = \"1002\"
-[[link]]
-name = \"AH\"
-ends = [\"A\", \"H\"]
-ticks = 3
-[[acquirer]]
-id = \"400001\"
-node = \"A\"
-[[issuer]]
-name = \"I\"
-prefix = \"4\"
-home = \"H\"
-named = []
-ceiling = 0
-[[route]]
-node = \"A\"
-prefix = \"4\"
-links = [\"AH\"]
-";
-
-const RANKS: &[u8] = b"RANKS 1\nA 4 1\nH 4 0\nEND\n";
 
 /// What a script is expected to give, line by line: the node of each step, and its outputs.
 #[derive(Clone, Copy)]
@@ -151,8 +119,10 @@ fn compared(traces: &Traces, all: &[Wanted]) -> End {
 
 /// Runs a script on the network, and compares its steps and outputs.
 pub(crate) fn end_of(alloc: Global, script: &[u8], all: &[Wanted]) -> Result<End, Fail> {
-    let tables = read_tables(alloc, TABLES).ok().ok_or("tables")?;
-    let cert = read_cert(alloc, RANKS).ok().ok_or("ranks")?;
+    let text = Sample::TwoNodes.tables(alloc)?;
+    let tables = read_tables(alloc, text.as_bytes()).ok().ok_or("tables")?;
+    let ranks = Sample::TwoNodes.ranks();
+    let cert = read_cert(alloc, ranks.as_bytes()).ok().ok_or("ranks")?;
     let Ok(accepted) = check(alloc, &tables, &cert) else {
         return Err("not accepted".into());
     };

@@ -1,11 +1,12 @@
 //! A part of a limit that one node lends another, over a link that repeats each packet.
-use crate::network::{Sample, accepted, copied, plan_in, pump, step};
+use crate::network::{accepted, copied, plan_in, pump, ranks, step, tables};
 use card_digits::LinkNo;
 use iso_message::{Code, Message};
 use net_operate::{Host, operate};
 use net_threads::{Network, Verdict};
 use request_book::Way;
 use run_plan::Plan;
+use sample_networks::Sample;
 use std::alloc::{AllocError, Global};
 use std::sync::Wait;
 use std::test::Fail;
@@ -106,8 +107,8 @@ fn lent<R: Threads + Wait + Sync>(
 #[test]
 fn a_loan_counts_once(rt: HostRuntime) -> Result<(), Fail> {
     let alloc = rt.alloc();
-    let tables = Sample::Shared.tables(alloc)?;
-    let cert = Sample::Shared.ranks(alloc)?;
+    let tables = tables(alloc, Sample::SharedLimits)?;
+    let cert = ranks(alloc, Sample::SharedLimits)?;
     let accepted = accepted(alloc, &tables, &cert)?;
     let plan = plan_in(alloc, &tables, LOAN)?;
     assert_eq!(rt; lent(&rt, alloc, &accepted, &plan), Some([true; 4]));

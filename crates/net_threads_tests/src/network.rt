@@ -4,197 +4,12 @@ use net_tables::{Tables, read_tables};
 use net_threads::{Network, StationFault};
 use rank_cert::{Cert, read_cert};
 use run_plan::{Plan, read_plan};
+use sample_networks::Sample;
 use std::alloc::{AllocError, Global};
 use std::sync::Wait;
 use std::test::Fail;
 use switch_node::{Case, Input};
 use table_checker::{Accepted, check};
-
-/// Two nodes: A, with the acquirer 400001, and H, the home of the cards that begin with 4.
-const BASE: &[u8] = b"\
-[network]
-currency = \"840\"
-date = \"0314\"
-host_ticks = 100
-advice_ticks = 50
-[[node]]
-name = \"A\"
-id = \"1001\"
-[[node]]
-name = \"H\"
-id = \"1002\"
-[[link]]
-name = \"AH\"
-ends = [\"A\", \"H\"]
-ticks = 3
-[[acquirer]]
-id = \"400001\"
-node = \"A\"
-[[issuer]]
-name = \"I\"
-prefix = \"4\"
-home = \"H\"
-named = []
-ceiling = 0
-[[route]]
-node = \"A\"
-prefix = \"4\"
-links = [\"AH\"]
-";
-
-const BASE_RANKS: &[u8] = b"RANKS 1\nA 4 1\nH 4 0\nEND\n";
-
-/// A, B and H in a line. B is the home of the cards that begin with 5, and A has a second acquirer.
-const LINE: &[u8] = b"\
-[network]
-currency = \"840\"
-date = \"0314\"
-host_ticks = 100
-advice_ticks = 50
-[[node]]
-name = \"A\"
-id = \"1001\"
-[[node]]
-name = \"B\"
-id = \"1003\"
-[[node]]
-name = \"H\"
-id = \"1002\"
-[[link]]
-name = \"AB\"
-ends = [\"A\", \"B\"]
-ticks = 3
-[[link]]
-name = \"BH\"
-ends = [\"B\", \"H\"]
-ticks = 3
-[[acquirer]]
-id = \"400001\"
-node = \"A\"
-[[acquirer]]
-id = \"400002\"
-node = \"A\"
-[[issuer]]
-name = \"I\"
-prefix = \"4\"
-home = \"H\"
-named = []
-ceiling = 0
-[[issuer]]
-name = \"J\"
-prefix = \"5\"
-home = \"B\"
-named = []
-ceiling = 0
-[[route]]
-node = \"A\"
-prefix = \"4\"
-links = [\"AB\"]
-[[route]]
-node = \"B\"
-prefix = \"4\"
-links = [\"BH\"]
-[[route]]
-node = \"A\"
-prefix = \"5\"
-links = [\"AB\"]
-";
-
-const LINE_RANKS: &[u8] = b"RANKS 1\nA 4 2\nB 4 1\nH 4 0\nA 5 1\nB 5 0\nEND\n";
-
-/// A and B with an acquirer each, and H, the home of the cards that begin with 4. A may approve 300 a day by itself, and B 200.
-const SHARED: &[u8] = b"\
-[network]
-currency = \"840\"
-date = \"0314\"
-host_ticks = 100
-advice_ticks = 50
-[[node]]
-name = \"A\"
-id = \"1001\"
-[[node]]
-name = \"B\"
-id = \"1003\"
-[[node]]
-name = \"H\"
-id = \"1002\"
-[[link]]
-name = \"AB\"
-ends = [\"A\", \"B\"]
-ticks = 3
-[[link]]
-name = \"AH\"
-ends = [\"A\", \"H\"]
-ticks = 3
-[[link]]
-name = \"BH\"
-ends = [\"B\", \"H\"]
-ticks = 3
-[[acquirer]]
-id = \"400001\"
-node = \"A\"
-[[acquirer]]
-id = \"400002\"
-node = \"B\"
-[[issuer]]
-name = \"I\"
-prefix = \"4\"
-home = \"H\"
-named = [\"A\", \"B\"]
-ceiling = 500
-[[route]]
-node = \"A\"
-prefix = \"4\"
-links = [\"AH\"]
-[[route]]
-node = \"B\"
-prefix = \"4\"
-links = [\"BH\"]
-[[stand_in]]
-node = \"A\"
-prefix = \"4\"
-day = 300
-single = 1000
-[[stand_in]]
-node = \"B\"
-prefix = \"4\"
-day = 200
-single = 1000
-";
-
-const SHARED_RANKS: &[u8] = b"RANKS 1\nA 4 1\nB 4 1\nH 4 0\nEND\n";
-
-#[derive(Clone, Copy, Debug, PartialEq, Eq)]
-pub(crate) enum Sample {
-    Base,
-    Line,
-    Shared,
-}
-
-// A function for each text keeps it out of the proofs of what uses it.
-fn base() -> &'static [u8] {
-    BASE
-}
-
-fn base_ranks() -> &'static [u8] {
-    BASE_RANKS
-}
-
-fn line() -> &'static [u8] {
-    LINE
-}
-
-fn line_ranks() -> &'static [u8] {
-    LINE_RANKS
-}
-
-fn shared() -> &'static [u8] {
-    SHARED
-}
-
-fn shared_ranks() -> &'static [u8] {
-    SHARED_RANKS
-}
 
 fn tables_in(alloc: Global, text: &[u8]) -> Result<Tables, Fail> {
     Ok(read_tables(alloc, text).ok().ok_or("tables")?)
@@ -204,24 +19,12 @@ fn ranks_in(alloc: Global, text: &[u8]) -> Result<Cert, Fail> {
     Ok(read_cert(alloc, text).ok().ok_or("ranks")?)
 }
 
-impl Sample {
-    pub(crate) fn tables(self, alloc: Global) -> Result<Tables, Fail> {
-        let text = match self {
-            Sample::Base => base(),
-            Sample::Line => line(),
-            Sample::Shared => shared(),
-        };
-        tables_in(alloc, text)
-    }
+pub(crate) fn tables(alloc: Global, sample: Sample) -> Result<Tables, Fail> {
+    tables_in(alloc, sample.tables(alloc)?.as_bytes())
+}
 
-    pub(crate) fn ranks(self, alloc: Global) -> Result<Cert, Fail> {
-        let text = match self {
-            Sample::Base => base_ranks(),
-            Sample::Line => line_ranks(),
-            Sample::Shared => shared_ranks(),
-        };
-        ranks_in(alloc, text)
-    }
+pub(crate) fn ranks(alloc: Global, sample: Sample) -> Result<Cert, Fail> {
+    ranks_in(alloc, sample.ranks().as_bytes())
 }
 
 pub(crate) fn accepted<'t>(

@@ -1,9 +1,10 @@
 //! What runs while something else does not end.
-use crate::network::{Sample, accepted, plan_in, step};
+use crate::network::{accepted, plan_in, ranks, step, tables};
 use iso_message::{Code, Message};
 use net_operate::{Host, operate};
 use net_threads::{Ended, LineEnd, Network, Verdict};
 use run_plan::Plan;
+use sample_networks::Sample;
 use std::alloc::Global;
 use std::sync::Wait;
 use std::sync::atomic::{AtomicBool, Ordering};
@@ -121,8 +122,8 @@ fn met<R: Threads + Wait + Sync>(
 #[test]
 fn two_hosts_overlap(rt: HostRuntime) -> Result<(), Fail> {
     let alloc = rt.alloc();
-    let tables = Sample::Line.tables(alloc)?;
-    let cert = Sample::Line.ranks(alloc)?;
+    let tables = tables(alloc, Sample::LineOfTwoHomes)?;
+    let cert = ranks(alloc, Sample::LineOfTwoHomes)?;
     let accepted = accepted(alloc, &tables, &cert)?;
     let plan = plan_in(alloc, &tables, TWO_HOMES)?;
     assert_eq!(rt; met(&rt, alloc, &accepted, &plan), Some([true; 3]));
@@ -151,8 +152,8 @@ fn ticks_meanwhile<R: Threads + Wait + Sync>(rt: &R, network: &Network<'_, '_>) 
 #[test]
 fn holding_a_does_not_stop_b(rt: HostRuntime) -> Result<(), Fail> {
     let alloc = rt.alloc();
-    let tables = Sample::Line.tables(alloc)?;
-    let cert = Sample::Line.ranks(alloc)?;
+    let tables = tables(alloc, Sample::LineOfTwoHomes)?;
+    let cert = ranks(alloc, Sample::LineOfTwoHomes)?;
     let accepted = accepted(alloc, &tables, &cert)?;
     let network = Network::new(alloc, &accepted)?;
     assert!(rt; ticks_meanwhile(&rt, &network));

@@ -1,10 +1,11 @@
 //! Plans that threads run, and what their sessions ended with.
-use crate::network::{Sample, accepted, plan_in, request};
+use crate::network::{accepted, plan_in, ranks, request, tables};
 use iso_message::{Code, Message, code_of, decode};
 use net_operate::{Host, operate};
 use net_threads::{Ended, LineEnd, Network, SessionEnd, Station, Verdict};
 use request_book::Way;
 use run_plan::Plan;
+use sample_networks::Sample;
 use std::alloc::{AllocError, Global};
 use std::sync::Wait;
 use std::test::Fail;
@@ -165,8 +166,8 @@ struct Run {
 }
 
 fn outcome_of<R: Threads + Wait + Sync>(rt: &R, alloc: Global, run: Run) -> Result<Outcome, Fail> {
-    let tables = run.sample.tables(alloc)?;
-    let cert = run.sample.ranks(alloc)?;
+    let tables = tables(alloc, run.sample)?;
+    let cert = ranks(alloc, run.sample)?;
     let accepted = accepted(alloc, &tables, &cert)?;
     let text = plan_text(alloc, run.head, run.requests)?;
     let plan = plan_in(alloc, &tables, text.as_bytes())?;
@@ -177,7 +178,7 @@ fn outcome_of<R: Threads + Wait + Sync>(rt: &R, alloc: Global, run: Run) -> Resu
 #[test]
 fn a_hundred_requests(rt: HostRuntime) -> Result<(), Fail> {
     let run = Run {
-        sample: Sample::Line,
+        sample: Sample::LineOfTwoHomes,
         head: "PLAN 1\nturns 4000000000\ntick_every 0\n",
         requests: 100,
         host: Always::Approves,
@@ -199,7 +200,7 @@ fn a_hundred_requests(rt: HostRuntime) -> Result<(), Fail> {
 #[test]
 fn links_that_repeat(rt: HostRuntime) -> Result<(), Fail> {
     let run = Run {
-        sample: Sample::Line,
+        sample: Sample::LineOfTwoHomes,
         head: "PLAN 1\nturns 4000000000\ntick_every 0\nrepeat AB 1\nrepeat BH 1\n",
         requests: 100,
         host: Always::Approves,
@@ -221,7 +222,7 @@ fn links_that_repeat(rt: HostRuntime) -> Result<(), Fail> {
 #[test]
 fn a_link_that_loses_all(rt: HostRuntime) -> Result<(), Fail> {
     let run = Run {
-        sample: Sample::Base,
+        sample: Sample::TwoNodes,
         head: "PLAN 1\nturns 4000000000\ntick_every 100\nlose AH 1\n",
         requests: 1,
         host: Always::Approves,
@@ -243,7 +244,7 @@ fn a_link_that_loses_all(rt: HostRuntime) -> Result<(), Fail> {
 #[test]
 fn a_host_that_declines(rt: HostRuntime) -> Result<(), Fail> {
     let run = Run {
-        sample: Sample::Base,
+        sample: Sample::TwoNodes,
         head: "PLAN 1\nturns 4000000000\ntick_every 0\n",
         requests: 1,
         host: Always::Declines,
@@ -265,7 +266,7 @@ fn a_host_that_declines(rt: HostRuntime) -> Result<(), Fail> {
 #[test]
 fn one_turn(rt: HostRuntime) -> Result<(), Fail> {
     let run = Run {
-        sample: Sample::Line,
+        sample: Sample::LineOfTwoHomes,
         head: "PLAN 1\nturns 1\ntick_every 0\n",
         requests: 100,
         host: Always::Approves,

@@ -1,7 +1,8 @@
 //! Rings between nodes that nobody pumps meanwhile.
-use crate::network::{Sample, accepted, copied, entries, pump, request, step};
+use crate::network::{accepted, copied, entries, pump, ranks, request, step, tables};
 use card_digits::LinkNo;
 use net_threads::{Network, StationFault};
+use sample_networks::Sample;
 use std::alloc::Global;
 use std::sync::Wait;
 use std::test::Fail;
@@ -26,8 +27,8 @@ fn enter_all<R: Wait>(
 
 /// How many entries the nodes have after so many requests at the first and as many pumps of the second.
 fn after_pumps<R: Wait>(rt: &R, alloc: Global, count: usize) -> Result<(usize, usize), Fail> {
-    let tables = Sample::Base.tables(alloc)?;
-    let cert = Sample::Base.ranks(alloc)?;
+    let tables = tables(alloc, Sample::TwoNodes)?;
+    let cert = ranks(alloc, Sample::TwoNodes)?;
     let accepted = accepted(alloc, &tables, &cert)?;
     let network = Network::new(alloc, &accepted)?;
     if !enter_all(rt, alloc, &network, count)? {
@@ -48,8 +49,8 @@ fn full_ring_loses_one(rt: HostRuntime) -> Result<(), Fail> {
 
 /// Takes the first node's link up at another node.
 fn strange_link_up<R: Wait>(rt: &R, alloc: Global) -> Result<Option<StationFault>, Fail> {
-    let tables = Sample::Line.tables(alloc)?;
-    let cert = Sample::Line.ranks(alloc)?;
+    let tables = tables(alloc, Sample::LineOfTwoHomes)?;
+    let cert = ranks(alloc, Sample::LineOfTwoHomes)?;
     let accepted = accepted(alloc, &tables, &cert)?;
     let network = Network::new(alloc, &accepted)?;
     match step(rt, &network, 0, Case::LinkUp(LinkNo::new(1))) {

@@ -1,7 +1,8 @@
 //! Networks that were meddled with, and what is said of them at the end.
-use crate::network::{Sample, accepted, copied, step};
+use crate::network::{accepted, copied, ranks, step, tables};
 use card_digits::{LinkNo, NodeNo};
 use net_threads::{Ended, LineEnd, Network, SessionEnd, Verdict};
+use sample_networks::Sample;
 use std::alloc::{AllocError, Global};
 use std::mem;
 use std::sync::Wait;
@@ -74,8 +75,8 @@ fn ended(alloc: Global, trick: Trick) -> Result<Ended, AllocError> {
 }
 
 fn verdict_of<R: Wait>(rt: &R, alloc: Global, trick: Trick) -> Result<Verdict, Fail> {
-    let tables = Sample::Base.tables(alloc)?;
-    let cert = Sample::Base.ranks(alloc)?;
+    let tables = tables(alloc, Sample::TwoNodes)?;
+    let cert = ranks(alloc, Sample::TwoNodes)?;
     let accepted = accepted(alloc, &tables, &cert)?;
     let network = Network::new(alloc, &accepted)?;
     if !play(rt, alloc, &network, trick)? {

@@ -1,12 +1,12 @@
 //! A node and the steps of the tests. Nothing is promised of these functions, so that a test is proved fast.
 use crate::messages::{Form, Purchase};
-use crate::network::{ranks, tables};
 use card_digits::{Amount, Card, DateLabel, LinkNo, NodeNo};
 use iso_message::Code;
 use net_tables::{Tables, read_tables};
 use network_law::StepFault;
 use rank_cert::{Cert, read_cert};
 use request_book::Way;
+use sample_networks::Sample;
 use std::alloc::Global;
 use std::test::Fail;
 use switch_node::{Case, Input, Node, Output, Outputs};
@@ -275,7 +275,7 @@ struct Desk<'t> {
 impl<'t> Desk<'t> {
     fn new(alloc: Global, tables: &'t Tables, name: &str) -> Result<Desk<'t>, Fail> {
         let place = node_of(tables, name)?;
-        let cert = ranks_of(alloc, ranks())?;
+        let cert = ranks_of(alloc, Sample::LimitAtHome.ranks().as_bytes())?;
         let node = Stepped {
             alloc,
             node: node_at(alloc, tables, &cert, place)?,
@@ -360,7 +360,8 @@ pub(crate) fn first_wrong(
     name: &str,
     steps: &[Step],
 ) -> Result<Option<usize>, Fail> {
-    let tables = tables_of(alloc, tables())?;
+    let text = Sample::LimitAtHome.tables(alloc)?;
+    let tables = tables_of(alloc, text.as_bytes())?;
     let mut desk = Desk::new(alloc, &tables, name)?;
     desk.first_wrong(steps)
 }

@@ -18,8 +18,6 @@ mod lending;
 #[cfg(test)]
 mod messages;
 #[cfg(test)]
-mod network;
-#[cfg(test)]
 mod orders;
 #[cfg(test)]
 mod passing;

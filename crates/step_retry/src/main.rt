@@ -6,76 +6,13 @@ use card_digits::{LinkNo, NodeNo};
 use net_tables::{Tables, read_tables};
 use network_law::StepFault;
 use rank_cert::{Cert, read_cert};
+use sample_networks::Sample;
 use std::alloc::{AllocError, Global};
 use std::io;
 use std::io::Write;
 use std::process::ExitCode;
 use switch_node::{Case, Input, Node, Outputs};
 use table_checker::check;
-
-const TABLES: &[u8] = b"\
-[network]
-currency = \"840\"
-date = \"0314\"
-host_ticks = 100
-advice_ticks = 50
-[[node]]
-name = \"A\"
-id = \"1001\"
-[[node]]
-name = \"P\"
-id = \"1003\"
-[[node]]
-name = \"Q\"
-id = \"1004\"
-[[node]]
-name = \"H\"
-id = \"1002\"
-[[link]]
-name = \"AP\"
-ends = [\"A\", \"P\"]
-ticks = 3
-[[link]]
-name = \"AQ\"
-ends = [\"A\", \"Q\"]
-ticks = 3
-[[link]]
-name = \"PH\"
-ends = [\"P\", \"H\"]
-ticks = 3
-[[link]]
-name = \"QH\"
-ends = [\"Q\", \"H\"]
-ticks = 3
-[[acquirer]]
-id = \"400001\"
-node = \"A\"
-[[issuer]]
-name = \"I\"
-prefix = \"4\"
-home = \"H\"
-named = [\"A\"]
-ceiling = 1000
-[[route]]
-node = \"A\"
-prefix = \"4\"
-links = [\"AP\", \"AQ\"]
-[[route]]
-node = \"P\"
-prefix = \"4\"
-links = [\"PH\"]
-[[route]]
-node = \"Q\"
-prefix = \"4\"
-links = [\"QH\"]
-[[stand_in]]
-node = \"A\"
-prefix = \"4\"
-day = 1000
-single = 1000
-";
-
-const RANKS: &[u8] = b"RANKS 1\nA 4 2\nP 4 1\nQ 4 1\nH 4 0\nEND\n";
 
 const REQUEST: &[u8] =
     b"01007220000100008000164111111111111111000000000000001000031409153000000106400001840";
@@ -100,13 +37,13 @@ fn ranks_of(alloc: Global, text: &[u8]) -> Option<Cert> {
     read_cert(alloc, text).ok()
 }
 
-/// The tables. Here and below, a function between a text and its reader keeps the text out of proofs.
 fn tables(alloc: Global) -> Option<Tables> {
-    tables_of(alloc, TABLES)
+    let text = Sample::Diamond.tables(alloc).ok()?;
+    tables_of(alloc, text.as_bytes())
 }
 
 fn ranks(alloc: Global) -> Option<Cert> {
-    ranks_of(alloc, RANKS)
+    ranks_of(alloc, Sample::Diamond.ranks().as_bytes())
 }
 
 /// The first node, where the tables are accepted and there is memory for it.

@@ -1,12 +1,12 @@
 //! A node and the inputs of the tests. Nothing is promised of these functions, so that a test is proved fast.
 use crate::messages::Words;
-use crate::networks::Network;
 use card_digits::{Amount, Card, DateLabel, LinkNo, NodeNo};
 use iso_message::Code;
 use net_tables::{Tables, read_tables};
 use network_law::StepFault;
 use rank_cert::{Cert, read_cert};
 use request_book::Way;
+use sample_networks::Sample;
 use std::alloc::Global;
 use std::test::Fail;
 use switch_node::{Case, Input, Node, Output, Outputs};
@@ -86,7 +86,7 @@ fn is_wanted(alloc: Global, output: &Output, wanted: Wanted) -> Result<bool, Fai
     Ok(goes && output.bytes() == text.as_bytes())
 }
 
-pub(crate) fn read(alloc: Global, text: &[u8]) -> Result<Tables, Fail> {
+fn tables(alloc: Global, text: &[u8]) -> Result<Tables, Fail> {
     Ok(read_tables(alloc, text).ok().ok_or("tables")?)
 }
 
@@ -278,12 +278,12 @@ impl<'t> Desk<'t> {
 /// The first line of a test that a node of the network doesn't do; the number of lines, where outputs are left over.
 pub(crate) fn first_wrong(
     alloc: Global,
-    network: Network,
+    sample: Sample,
     name: &str,
     steps: &[Step],
 ) -> Result<Option<usize>, Fail> {
-    let tables = network.tables(alloc)?;
-    let mut desk = Desk::new(alloc, &tables, network.ranks(), name)?;
+    let tables = tables(alloc, sample.tables(alloc)?.as_bytes())?;
+    let mut desk = Desk::new(alloc, &tables, sample.ranks().as_bytes(), name)?;
     for (place, step) in steps.iter().enumerate() {
         if !desk.does(*step)? {
             return Ok(Some(place));

@@ -1,7 +1,7 @@
 //! Answers that come late, and links that go down.
 use crate::desk::{Given, Step, Wanted, first_wrong};
 use crate::messages::{Form, ONE, Purchase};
-use crate::networks::Network;
+use sample_networks::Sample;
 use std::test::Fail;
 
 /// The request fails when its link goes down: its reversal goes out on the next link, and the gate approves by itself. The
@@ -10,7 +10,7 @@ use std::test::Fail;
 fn a_link_goes_down(rt: HostRuntime) -> Result<(), Fail> {
     let wrong = first_wrong(
         rt.alloc(),
-        Network::Diamond,
+        Sample::Diamond,
         "A",
         &[
             Step::In(Given::Enter(ONE.is(Form::Entered))),
@@ -29,7 +29,7 @@ fn a_link_goes_down(rt: HostRuntime) -> Result<(), Fail> {
 fn a_link_goes_down_without_a_limit(rt: HostRuntime) -> Result<(), Fail> {
     let wrong = first_wrong(
         rt.alloc(),
-        Network::DiamondWithoutLimit,
+        Sample::DiamondWithoutLimit,
         "A",
         &[
             Step::In(Given::Enter(ONE.is(Form::Entered))),
@@ -48,7 +48,7 @@ fn a_link_goes_down_without_a_limit(rt: HostRuntime) -> Result<(), Fail> {
 fn a_link_comes_up(rt: HostRuntime) -> Result<(), Fail> {
     let wrong = first_wrong(
         rt.alloc(),
-        Network::Diamond,
+        Sample::Diamond,
         "A",
         &[
             Step::In(Given::LinkDown(0)),
@@ -72,7 +72,7 @@ fn a_link_comes_up(rt: HostRuntime) -> Result<(), Fail> {
 fn a_late_approval(rt: HostRuntime) -> Result<(), Fail> {
     let wrong = first_wrong(
         rt.alloc(),
-        Network::Base,
+        Sample::TwoNodes,
         "A",
         &[
             Step::In(Given::Enter(ONE.is(Form::Entered))),
@@ -93,7 +93,7 @@ fn a_late_approval(rt: HostRuntime) -> Result<(), Fail> {
 fn requests_of_one_link(rt: HostRuntime) -> Result<(), Fail> {
     let wrong = first_wrong(
         rt.alloc(),
-        Network::TwoHomes,
+        Sample::TwoHomes,
         "A",
         &[
             Step::In(Given::Enter(ONE.is(Form::Entered))),

@@ -1,8 +1,8 @@
 //! Limits that one node lends to another.
 use crate::desk::{Given, Step, Wanted, first_wrong};
 use crate::messages::{Form, Purchase, Words, text};
-use crate::networks::Network;
 use network_law::StepFault;
+use sample_networks::Sample;
 use std::test::Fail;
 
 fn granted() -> Words {
@@ -18,7 +18,7 @@ fn received() -> Words {
 fn what_is_lent_is_spent(rt: HostRuntime) -> Result<(), Fail> {
     let wrong = first_wrong(
         rt.alloc(),
-        Network::Lenders,
+        Sample::SharedLimits,
         "A",
         &[
             Step::In(Given::Lend("000000000100")),
@@ -43,7 +43,7 @@ fn what_is_lent_is_spent(rt: HostRuntime) -> Result<(), Fail> {
 fn what_is_borrowed_counts_once(rt: HostRuntime) -> Result<(), Fail> {
     let wrong = first_wrong(
         rt.alloc(),
-        Network::Lenders,
+        Sample::SharedLimits,
         "B",
         &[
             Step::In(Given::Take(0, 1, granted())),
@@ -73,7 +73,7 @@ fn what_is_borrowed_counts_once(rt: HostRuntime) -> Result<(), Fail> {
 fn what_is_not_taken_is_not_borrowed(rt: HostRuntime) -> Result<(), Fail> {
     let wrong = first_wrong(
         rt.alloc(),
-        Network::Lenders,
+        Sample::SharedLimits,
         "B",
         &[
             Step::In(Given::LinkDown(2)),
@@ -100,7 +100,7 @@ fn what_is_not_taken_is_not_borrowed(rt: HostRuntime) -> Result<(), Fail> {
 fn a_grant_is_put_again(rt: HostRuntime) -> Result<(), Fail> {
     let wrong = first_wrong(
         rt.alloc(),
-        Network::Lenders,
+        Sample::SharedLimits,
         "A",
         &[
             Step::In(Given::Lend("000000000100")),
@@ -120,7 +120,7 @@ fn a_grant_is_put_again(rt: HostRuntime) -> Result<(), Fail> {
 fn a_grant_is_acknowledged(rt: HostRuntime) -> Result<(), Fail> {
     let wrong = first_wrong(
         rt.alloc(),
-        Network::Lenders,
+        Sample::SharedLimits,
         "A",
         &[
             Step::In(Given::Lend("000000000100")),
@@ -138,7 +138,7 @@ fn a_grant_is_acknowledged(rt: HostRuntime) -> Result<(), Fail> {
 fn what_may_not_be_lent(rt: HostRuntime) -> Result<(), Fail> {
     let wrong = first_wrong(
         rt.alloc(),
-        Network::Lenders,
+        Sample::SharedLimits,
         "A",
         &[
             Step::Refused(Given::Lend("000000000301"), StepFault::NotLent),

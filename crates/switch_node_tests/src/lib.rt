@@ -12,8 +12,6 @@ mod limits;
 #[cfg(test)]
 mod messages;
 #[cfg(test)]
-mod networks;
-#[cfg(test)]
 mod refusals;
 #[cfg(test)]
 mod requests;

@@ -1,7 +1,7 @@
 //! What a gate approves by itself while its link is down.
 use crate::desk::{Given, Step, Wanted, first_wrong};
 use crate::messages::{Form, ONE, Purchase};
-use crate::networks::Network;
+use sample_networks::Sample;
 use std::test::Fail;
 
 /// What is reversed is free again, once.
@@ -9,7 +9,7 @@ use std::test::Fail;
 fn a_day_limit(rt: HostRuntime) -> Result<(), Fail> {
     let wrong = first_wrong(
         rt.alloc(),
-        Network::Limited,
+        Sample::LimitAtA,
         "A",
         &[
             Step::In(Given::LinkDown(0)),
@@ -55,7 +55,7 @@ fn a_day_limit(rt: HostRuntime) -> Result<(), Fail> {
 fn single_amounts_and_currencies(rt: HostRuntime) -> Result<(), Fail> {
     let wrong = first_wrong(
         rt.alloc(),
-        Network::Limited,
+        Sample::LimitAtA,
         "A",
         &[
             Step::In(Given::LinkDown(0)),
@@ -80,7 +80,7 @@ fn single_amounts_and_currencies(rt: HostRuntime) -> Result<(), Fail> {
 fn cards_that_are_refused(rt: HostRuntime) -> Result<(), Fail> {
     let wrong = first_wrong(
         rt.alloc(),
-        Network::Base,
+        Sample::TwoNodes,
         "A",
         &[
             Step::In(Given::Enter(Purchase::with_bad_card("000002").is(Form::Entered))),
@@ -98,7 +98,7 @@ fn cards_that_are_refused(rt: HostRuntime) -> Result<(), Fail> {
 fn a_partial_reversal(rt: HostRuntime) -> Result<(), Fail> {
     let wrong = first_wrong(
         rt.alloc(),
-        Network::Limited,
+        Sample::LimitAtA,
         "A",
         &[
             Step::In(Given::LinkDown(0)),

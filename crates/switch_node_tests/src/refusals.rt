@@ -1,16 +1,16 @@
 //! Inputs that a node refuses, the first fault in the order of its tests.
 use crate::desk::{Given, Step, Wanted, first_wrong};
 use crate::messages::{Form, ONE, Purchase, text};
-use crate::networks::Network;
 use iso_message::DecodeFault;
 use network_law::StepFault;
+use sample_networks::Sample;
 use std::test::Fail;
 
 #[test]
 fn bytes_that_are_no_message(rt: HostRuntime) -> Result<(), Fail> {
     let wrong = first_wrong(
         rt.alloc(),
-        Network::Base,
+        Sample::TwoNodes,
         "A",
         &[
             Step::Refused(
@@ -36,7 +36,7 @@ fn bytes_that_are_no_message(rt: HostRuntime) -> Result<(), Fail> {
 fn types_for_another_input(rt: HostRuntime) -> Result<(), Fail> {
     let wrong = first_wrong(
         rt.alloc(),
-        Network::Base,
+        Sample::TwoNodes,
         "A",
         &[
             Step::Refused(
@@ -65,7 +65,7 @@ fn types_for_another_input(rt: HostRuntime) -> Result<(), Fail> {
 fn missing_elements(rt: HostRuntime) -> Result<(), Fail> {
     let wrong = first_wrong(
         rt.alloc(),
-        Network::Base,
+        Sample::TwoNodes,
         "A",
         &[
             Step::Refused(
@@ -99,7 +99,7 @@ fn missing_elements(rt: HostRuntime) -> Result<(), Fail> {
 fn strange_originals(rt: HostRuntime) -> Result<(), Fail> {
     let wrong = first_wrong(
         rt.alloc(),
-        Network::Base,
+        Sample::TwoNodes,
         "A",
         &[
             Step::Refused(
@@ -125,7 +125,7 @@ fn strange_originals(rt: HostRuntime) -> Result<(), Fail> {
 fn foreign_acquirers(rt: HostRuntime) -> Result<(), Fail> {
     let wrong = first_wrong(
         rt.alloc(),
-        Network::Base,
+        Sample::TwoNodes,
         "H",
         &[
             Step::Refused(
@@ -151,7 +151,7 @@ fn foreign_acquirers(rt: HostRuntime) -> Result<(), Fail> {
 fn partial_reversals(rt: HostRuntime) -> Result<(), Fail> {
     let wrong = first_wrong(
         rt.alloc(),
-        Network::Limited,
+        Sample::LimitAtA,
         "A",
         &[
             Step::Refused(
@@ -172,7 +172,7 @@ fn partial_reversals(rt: HostRuntime) -> Result<(), Fail> {
 fn unknown_asks(rt: HostRuntime) -> Result<(), Fail> {
     let wrong = first_wrong(
         rt.alloc(),
-        Network::Base,
+        Sample::TwoNodes,
         "H",
         &[
             Step::Refused(Given::Host(1, "00"), StepFault::UnknownAsk),
@@ -191,7 +191,7 @@ fn unknown_asks(rt: HostRuntime) -> Result<(), Fail> {
 fn nothing_is_changed(rt: HostRuntime) -> Result<(), Fail> {
     let wrong = first_wrong(
         rt.alloc(),
-        Network::Base,
+        Sample::TwoNodes,
         "A",
         &[
             Step::In(Given::Enter(ONE.is(Form::Entered))),

@@ -1,7 +1,7 @@
 //! Requests, answers, and hosts.
 use crate::desk::{Given, Step, Wanted, first_wrong};
 use crate::messages::{Form, ONE, Purchase};
-use crate::networks::Network;
+use sample_networks::Sample;
 use std::test::Fail;
 
 /// A request goes from its gate towards its home, whose answer comes back; then both are repeated.
@@ -9,7 +9,7 @@ use std::test::Fail;
 fn a_request_and_its_answer(rt: HostRuntime) -> Result<(), Fail> {
     let wrong = first_wrong(
         rt.alloc(),
-        Network::Base,
+        Sample::TwoNodes,
         "A",
         &[
             Step::In(Given::Enter(ONE.is(Form::Entered))),
@@ -30,7 +30,7 @@ fn a_request_and_its_answer(rt: HostRuntime) -> Result<(), Fail> {
 fn a_request_at_its_home(rt: HostRuntime) -> Result<(), Fail> {
     let wrong = first_wrong(
         rt.alloc(),
-        Network::Base,
+        Sample::TwoNodes,
         "H",
         &[
             Step::In(Given::Take(0, 1, ONE.is(Form::Forwarded))),
@@ -50,7 +50,7 @@ fn a_request_at_its_home(rt: HostRuntime) -> Result<(), Fail> {
 fn other_content(rt: HostRuntime) -> Result<(), Fail> {
     let wrong = first_wrong(
         rt.alloc(),
-        Network::Base,
+        Sample::TwoNodes,
         "A",
         &[
             Step::In(Given::Enter(ONE.is(Form::Entered))),

@@ -1,7 +1,7 @@
 //! Reversals that acquirers enter, and those that come by links.
 use crate::desk::{Given, Step, Wanted, first_wrong};
 use crate::messages::{Form, ONE, Purchase};
-use crate::networks::Network;
+use sample_networks::Sample;
 use std::test::Fail;
 
 /// A pending request that is reversed is answered 68, and its reversal goes on; the same reversal again is known.
@@ -9,7 +9,7 @@ use std::test::Fail;
 fn a_pending_request_is_reversed(rt: HostRuntime) -> Result<(), Fail> {
     let wrong = first_wrong(
         rt.alloc(),
-        Network::Base,
+        Sample::TwoNodes,
         "A",
         &[
             Step::In(Given::Enter(ONE.is(Form::Entered))),
@@ -31,7 +31,7 @@ fn a_pending_request_is_reversed(rt: HostRuntime) -> Result<(), Fail> {
 fn a_reversal_comes_first(rt: HostRuntime) -> Result<(), Fail> {
     let wrong = first_wrong(
         rt.alloc(),
-        Network::Base,
+        Sample::TwoNodes,
         "H",
         &[
             Step::In(Given::Take(0, 2, ONE.is(Form::Reversed("0420")))),
@@ -50,7 +50,7 @@ fn a_reversal_comes_first(rt: HostRuntime) -> Result<(), Fail> {
 fn a_reversal_of_another_amount(rt: HostRuntime) -> Result<(), Fail> {
     let wrong = first_wrong(
         rt.alloc(),
-        Network::Base,
+        Sample::TwoNodes,
         "A",
         &[
             Step::In(Given::Enter(ONE.is(Form::Entered))),
@@ -72,7 +72,7 @@ fn a_reversal_of_another_amount(rt: HostRuntime) -> Result<(), Fail> {
 fn a_reversal_is_posted_once(rt: HostRuntime) -> Result<(), Fail> {
     let wrong = first_wrong(
         rt.alloc(),
-        Network::Base,
+        Sample::TwoNodes,
         "H",
         &[
             Step::In(Given::Take(0, 2, ONE.is(Form::Reversal("0420", "68")))),
@@ -91,7 +91,7 @@ fn a_reversal_is_posted_once(rt: HostRuntime) -> Result<(), Fail> {
 fn an_approval_is_posted_once(rt: HostRuntime) -> Result<(), Fail> {
     let wrong = first_wrong(
         rt.alloc(),
-        Network::Limited,
+        Sample::LimitAtA,
         "H",
         &[
             Step::In(Given::Take(0, 2, ONE.is(Form::StandIn("0120")))),

@@ -1,8 +1,8 @@
 //! Requests whose time is over, and advices that are sent again.
 use crate::desk::{Given, Step, Wanted, first_wrong};
 use crate::messages::{Form, ONE, Purchase, text};
-use crate::networks::Network;
 use network_law::StepFault;
+use sample_networks::Sample;
 use std::test::Fail;
 
 /// At the third tick the request fails, and the approval that comes later does nothing.
@@ -10,7 +10,7 @@ use std::test::Fail;
 fn a_request_fails(rt: HostRuntime) -> Result<(), Fail> {
     let wrong = first_wrong(
         rt.alloc(),
-        Network::Base,
+        Sample::TwoNodes,
         "A",
         &[
             Step::In(Given::Enter(ONE.is(Form::Entered))),
@@ -31,7 +31,7 @@ fn a_request_fails(rt: HostRuntime) -> Result<(), Fail> {
 fn a_reversal_is_sent_again(rt: HostRuntime) -> Result<(), Fail> {
     let wrong = first_wrong(
         rt.alloc(),
-        Network::Base,
+        Sample::TwoNodes,
         "A",
         &[
             Step::In(Given::Enter(ONE.is(Form::Entered))),
@@ -55,7 +55,7 @@ fn a_reversal_is_sent_again(rt: HostRuntime) -> Result<(), Fail> {
 fn requests_fail_in_their_order(rt: HostRuntime) -> Result<(), Fail> {
     let wrong = first_wrong(
         rt.alloc(),
-        Network::TwoHomes,
+        Sample::TwoHomes,
         "A",
         &[
             Step::In(Given::Enter(ONE.is(Form::Entered))),
@@ -84,7 +84,7 @@ fn requests_fail_in_their_order(rt: HostRuntime) -> Result<(), Fail> {
 fn the_limit_within_a_tick(rt: HostRuntime) -> Result<(), Fail> {
     let wrong = first_wrong(
         rt.alloc(),
-        Network::Limited,
+        Sample::LimitAtA,
         "A",
         &[
             Step::In(Given::Enter(Purchase::of("000001", "000000000600").is(Form::Entered))),
@@ -133,7 +133,7 @@ fn the_limit_within_a_tick(rt: HostRuntime) -> Result<(), Fail> {
 fn a_full_history(rt: HostRuntime) -> Result<(), Fail> {
     let wrong = first_wrong(
         rt.alloc(),
-        Network::Base,
+        Sample::TwoNodes,
         "A",
         &[
             Step::In(Given::Ticks(1_000_000)),

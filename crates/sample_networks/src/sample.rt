@@ -1,0 +1,127 @@
+//! The networks.
+use crate::pieces::*;
+use std::alloc::{AllocError, Global};
+
+/// A network of tests. Its gate is A, with the acquirer 400001, and the home of the cards that begin with 4 is H.
+#[derive(Clone, Copy, Debug, PartialEq, Eq)]
+pub enum Sample {
+    /// A and H, joined by a link.
+    TwoNodes,
+    /// The same, with the acquirer 400002 at A too.
+    TwoAcquirers,
+    /// Two nodes, of which A may approve 1,000 a day for each card.
+    LimitAtA,
+    /// Two ways from A to H, over P and over Q. A may approve 1,000 a day for each card.
+    Diamond,
+    /// The same, where no node may approve.
+    DiamondWithoutLimit,
+    /// A with a link to H, and one with a shorter timer to B, the home of the cards that begin with 5.
+    TwoHomes,
+    /// A and B, the gate of the acquirer 400002, are linked with each other and with H. A may approve 300 a day, and B 200.
+    SharedLimits,
+    /// A, B and H in a line.
+    Line,
+    /// The same with the acquirer 400002 at A too. B is the home of the cards that begin with 5.
+    LineOfTwoHomes,
+    /// A with a link to H and another way over P, with short timers. H is the gate of the acquirer 400002. A may approve 1,000 a day, at
+    /// most 600 at once, and H 500. Nobody may approve cards that begin with 5, and only H knows where they go.
+    LimitAtHome,
+}
+
+fn two_nodes(alloc: Global) -> Result<String, AllocError> {
+    format!(in alloc; "{SETTINGS}{NODE_A}{NODE_H}{LINK_AH}{ACQUIRER_AT_A}{ISSUER_AT_H}{A_BY_AH}")
+}
+
+fn two_acquirers(alloc: Global) -> Result<String, AllocError> {
+    let two_nodes = two_nodes(alloc)?;
+    format!(in alloc; "{two_nodes}{SECOND_ACQUIRER_AT_A}")
+}
+
+fn limit_at_a(alloc: Global) -> Result<String, AllocError> {
+    format!(in alloc;
+        "{SETTINGS}{NODE_A}{NODE_H}{LINK_AH}{ACQUIRER_AT_A}{ISSUER_NAMES_A}{A_BY_AH}{A_1000}"
+    )
+}
+
+/// The diamond's nodes, links and routes.
+fn diamond_ways(alloc: Global) -> Result<String, AllocError> {
+    let nodes = format!(in alloc; "{SETTINGS}{NODE_A}{NODE_P}{NODE_Q}{NODE_H}")?;
+    let links = format!(in alloc; "{LINK_AP}{LINK_AQ}{LINK_PH}{LINK_QH}")?;
+    format!(in alloc; "{nodes}{links}{ACQUIRER_AT_A}{A_BY_AP_OR_AQ}{P_BY_PH}{Q_BY_QH}")
+}
+
+fn diamond(alloc: Global) -> Result<String, AllocError> {
+    let ways = diamond_ways(alloc)?;
+    format!(in alloc; "{ways}{ISSUER_NAMES_A}{A_1000}")
+}
+
+fn diamond_without_limit(alloc: Global) -> Result<String, AllocError> {
+    let ways = diamond_ways(alloc)?;
+    format!(in alloc; "{ways}{ISSUER_AT_H}")
+}
+
+fn two_homes(alloc: Global) -> Result<String, AllocError> {
+    let nodes = format!(in alloc; "{SETTINGS}{NODE_A}{NODE_H}{NODE_B}{LINK_AH}{SHORT_LINK_AB}")?;
+    let issuers = format!(in alloc; "{ISSUER_AT_H}{SECOND_ISSUER_AT_B}")?;
+    format!(in alloc; "{nodes}{ACQUIRER_AT_A}{issuers}{A_BY_AH}{SECOND_BY_AB}")
+}
+
+fn shared_limits(alloc: Global) -> Result<String, AllocError> {
+    let nodes = format!(in alloc; "{SETTINGS}{NODE_A}{NODE_B}{NODE_H}{LINK_AB}{LINK_AH}{LINK_BH}")?;
+    let acquirers = format!(in alloc; "{ACQUIRER_AT_A}{SECOND_ACQUIRER_AT_B}")?;
+    format!(in alloc; "{nodes}{acquirers}{ISSUER_NAMES_A_AND_B}{A_BY_AH}{B_BY_BH}{A_300}{B_200}")
+}
+
+fn line(alloc: Global) -> Result<String, AllocError> {
+    let nodes = format!(in alloc; "{SETTINGS}{NODE_A}{NODE_B}{NODE_H}{LINK_AB}{LINK_BH}")?;
+    format!(in alloc; "{nodes}{ACQUIRER_AT_A}{ISSUER_AT_H}{A_BY_AB}{B_BY_BH}")
+}
+
+fn line_of_two_homes(alloc: Global) -> Result<String, AllocError> {
+    let line = line(alloc)?;
+    format!(in alloc; "{line}{SECOND_ACQUIRER_AT_A}{SECOND_ISSUER_AT_B}{SECOND_BY_AB}")
+}
+
+fn limit_at_home(alloc: Global) -> Result<String, AllocError> {
+    let nodes = format!(in alloc;
+        "{SHORT_TIMERS}{NODE_A}{NODE_P}{NODE_H}{LINK_AP}{LINK_AH}{LINK_PH}"
+    )?;
+    let gates = format!(in alloc; "{ACQUIRER_AT_A}{SECOND_ACQUIRER_AT_H}")?;
+    let issuers = format!(in alloc; "{ISSUER_NAMES_A_AND_H}{SECOND_ISSUER_AT_H}")?;
+    format!(in alloc; "{nodes}{gates}{issuers}{A_BY_AP_OR_AH}{P_BY_PH}{A_1000_SINGLE_600}{H_500}")
+}
+
+impl Sample {
+    /// Its tables, as TOML.
+    pub fn tables(self, alloc: Global) -> Result<String, AllocError> {
+        match self {
+            Sample::TwoNodes => two_nodes(alloc),
+            Sample::TwoAcquirers => two_acquirers(alloc),
+            Sample::LimitAtA => limit_at_a(alloc),
+            Sample::Diamond => diamond(alloc),
+            Sample::DiamondWithoutLimit => diamond_without_limit(alloc),
+            Sample::TwoHomes => two_homes(alloc),
+            Sample::SharedLimits => shared_limits(alloc),
+            Sample::Line => line(alloc),
+            Sample::LineOfTwoHomes => line_of_two_homes(alloc),
+            Sample::LimitAtHome => limit_at_home(alloc),
+        }
+    }
+
+    /// Ranks with which the checker accepts them.
+    pub fn ranks(self) -> &'static str {
+        match self {
+            Sample::TwoNodes | Sample::TwoAcquirers | Sample::LimitAtA => {
+                "RANKS 1\nA 4 1\nH 4 0\nEND\n"
+            }
+            Sample::Diamond | Sample::DiamondWithoutLimit => {
+                "RANKS 1\nA 4 2\nP 4 1\nQ 4 1\nH 4 0\nEND\n"
+            }
+            Sample::TwoHomes => "RANKS 1\nA 4 1\nH 4 0\nA 5 1\nB 5 0\nEND\n",
+            Sample::SharedLimits => "RANKS 1\nA 4 1\nB 4 1\nH 4 0\nEND\n",
+            Sample::Line => "RANKS 1\nA 4 2\nB 4 1\nH 4 0\nEND\n",
+            Sample::LineOfTwoHomes => "RANKS 1\nA 4 2\nB 4 1\nH 4 0\nA 5 1\nB 5 0\nEND\n",
+            Sample::LimitAtHome => "RANKS 1\nA 4 2\nP 4 1\nH 4 0\nEND\n",
+        }
+    }
+}
