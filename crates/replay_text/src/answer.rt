@@ -23,6 +23,7 @@ use net_rows::Tables;
 use net_tables::{TableFault, read_tables};
 use rank_cert::{Cert, CertFault, read_cert};
 use std::alloc::{AllocError, Global};
+use std::mem::ManuallyDrop;
 use table_checker::{Accepted, Refusal, check};
 
 /// The answer of a script's fault.
@@ -78,10 +79,14 @@ fn write_script<W: Sink>(
     ensures memory { result ≡ Err PrintFault.Memory → W.written writer.new ≡ W.written writer.old }
 {
     match replay(alloc, accepted, script) {
-        Ok(traces) => match write_traces(alloc, tables, &traces, writer) {
-            Ok(()) => Ok(Status::Done),
-            Err(fault) => Err(fault),
-        },
+        Ok(traces) => {
+            // The program ends behind this answer. To give millions of small pieces back one by one would take a third of its time.
+            let kept = ManuallyDrop::new(traces);
+            match write_traces(alloc, tables, &kept, writer) {
+                Ok(()) => Ok(Status::Done),
+                Err(fault) => Err(fault),
+            }
+        }
         Err(fault) => write_made(writer, script_fault_answer(alloc, fault)),
     }
 }
