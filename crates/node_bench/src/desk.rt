@@ -76,17 +76,22 @@ impl<'t> Desk<'t> {
         Ok(())
     }
 
-    /// Takes a message from a link by its place in the tables.
-    pub(crate) fn take(&mut self, place: u8, words: &Words, trace: u32) -> io::Result<()> {
+    /// Takes a message from a link by its place in the tables, and tells why it was refused.
+    pub(crate) fn take(
+        &mut self,
+        place: u8,
+        words: &Words,
+        trace: u32,
+    ) -> io::Result<Option<StepFault>> {
         let link = LinkNo::new(place as usize);
         if !self.node.has_link(link) {
-            return Ok(());
+            return Ok(None);
         }
         let bytes = words.written(self.alloc, trace)?;
         let input = Input::new(Case::Take(link, trace as u64, bytes));
         let fault = self.node.step(input, &mut self.outputs).err();
         self.count(fault);
-        Ok(())
+        Ok(fault)
     }
 
     pub(crate) fn link_down(&mut self, place: u8) {

@@ -1,5 +1,5 @@
 //! Steps one node over and over. Standard output has what it did, and standard error how long that took. The first argument is the
-//! number of requests; the word `full` fills a history in their place.
+//! number of requests; the word `full` fills a history and all places of a node instead.
 #![tactic(auto)]
 
 mod desk;
@@ -20,7 +20,7 @@ const REQUESTS: u32 = 1_000;
 /// Three entries for each have room in a history, and trace numbers have six digits.
 const MOST_REQUESTS: u32 = 300_000;
 
-/// Measures all parts but the full history.
+/// Measures all parts but those that fill a node.
 fn measure(rt: &HostRuntime, accepted: &Accepted, requests: u32) -> io::Result<()> {
     for part in [
         Part::Answered,
@@ -49,6 +49,7 @@ fn main(rt: HostRuntime) -> io::Result<()> {
         if let Ok(accepted) = check(alloc, &tables, &cert) {
             if full {
                 Part::Full.measure(&rt, &accepted, 0)?;
+                Part::LateAtFull.measure(&rt, &accepted, 0)?;
             } else {
                 measure(&rt, &accepted, requests.min(MOST_REQUESTS))?;
             }

@@ -1,6 +1,8 @@
 //! The parts of the measurement. Beside each stands what it has to count.
 use crate::desk::{Counts, Desk};
-use crate::words::{Words, acknowledgement, approval, quick_request, request, reversal};
+use crate::words::{
+    Words, acknowledgement, approval, posted, quick_request, refusal, request, reversal,
+};
 use std::io;
 use std::time::Instant;
 use table_checker::Accepted;
@@ -33,6 +35,10 @@ enum Work {
     FailInTurn(u32),
     Ticks(u32),
     LinkDown,
+    /// A request of this trace number that is answered 05.
+    Refuse(u32),
+    /// What acknowledges the reversal of the first trace number, and the approval of the second.
+    AcknowledgeAndApprove(u32, u32),
 }
 
 fn enter_all(desk: &mut Desk, words: &Words, first: u32, count: u32) -> io::Result<()> {
@@ -47,7 +53,7 @@ fn answer_each(desk: &mut Desk, first: u32, count: u32) -> io::Result<()> {
     for i in 0..count {
         let trace = first.wrapping_add(i);
         desk.enter(&request, trace)?;
-        desk.take(SLOW, &approval, trace)?;
+        let _ = desk.take(SLOW, &approval, trace)?;
     }
     Ok(())
 }
@@ -57,8 +63,22 @@ fn fail_in_turn(desk: &mut Desk, count: u32) -> io::Result<()> {
     for trace in 0..count {
         desk.enter(&request, trace)?;
         let _ = desk.tick();
-        desk.take(QUICK, &acknowledgement, trace)?;
+        let _ = desk.take(QUICK, &acknowledgement, trace)?;
     }
+    Ok(())
+}
+
+/// A request that is answered 05.
+fn refuse(desk: &mut Desk, trace: u32) -> io::Result<()> {
+    desk.enter(&request(), trace)?;
+    let _ = desk.take(SLOW, &refusal(), trace)?;
+    Ok(())
+}
+
+/// What acknowledges one reversal, and then the approval of a request.
+fn acknowledge_and_approve(desk: &mut Desk, reversed: u32, approved: u32) -> io::Result<()> {
+    let _ = desk.take(SLOW, &posted(), reversed)?;
+    let _ = desk.take(SLOW, &approval(), approved)?;
     Ok(())
 }
 
@@ -74,6 +94,10 @@ fn make(desk: &mut Desk, work: Work) -> io::Result<()> {
         Work::LinkDown => {
             desk.link_down(SLOW);
             Ok(())
+        }
+        Work::Refuse(trace) => refuse(desk, trace),
+        Work::AcknowledgeAndApprove(reversed, approved) => {
+            acknowledge_and_approve(desk, reversed, approved)
         }
     }
 }
@@ -149,6 +173,18 @@ fn full(rt: &HostRuntime, desk: &mut Desk) -> io::Result<()> {
     }
 }
 
+/// A request is answered 05: a put and an answer. Reversals take all places: a step, a put and an answer for each. Then the request's
+/// approval, which comes late, finds no place for its reversal. After one reversal is acknowledged it does: two steps and a put.
+fn late_at_full(rt: &HostRuntime, desk: &mut Desk) -> io::Result<()> {
+    time(rt, desk, "refused", Work::Refuse(0))?;
+    time(rt, desk, "stored", Work::Enter(reversal(), 1, MOST_STORED))?;
+    match desk.take(SLOW, &approval(), 0)? {
+        Some(fault) => println!(rt; "then {fault}")?,
+        None => println!(rt; "then an approval")?,
+    }
+    time(rt, desk, "with a place", Work::AcknowledgeAndApprove(1, 0))
+}
+
 /// A part of the measurement, which has a node of its own.
 #[derive(Clone, Copy)]
 pub(crate) enum Part {
@@ -159,6 +195,7 @@ pub(crate) enum Part {
     SentAgain,
     Idle,
     Full,
+    LateAtFull,
 }
 
 impl Part {
@@ -171,6 +208,7 @@ impl Part {
             Part::SentAgain => sent_again(rt, desk, requests),
             Part::Idle => idle(rt, desk, requests),
             Part::Full => full(rt, desk),
+            Part::LateAtFull => late_at_full(rt, desk),
         }
     }
 

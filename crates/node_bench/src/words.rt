@@ -27,12 +27,31 @@ pub(crate) fn approval() -> Words {
     }
 }
 
+/// Its answer with code 05, from the link.
+pub(crate) fn refusal() -> Words {
+    Words {
+        head: b"011072220001020080001641111111111111110000000000000010000314091530",
+        middle: b"",
+        tail: b"03140640000105840",
+    }
+}
+
 /// The acquirer's reversal of it.
 pub(crate) fn reversal() -> Words {
     Words {
         head: b"0400F2200001000080000000004000000000164111111111111111000000000000001000\
 0314091600",
         middle: b"064000018400100",
+        tail: b"03140915300000040000100000000000",
+    }
+}
+
+/// What acknowledges that reversal with code 00, from the link.
+pub(crate) fn posted() -> Words {
+    Words {
+        head: b"0430F2200001020080000000004000000000164111111111111111000000000000001000\
+0314091600",
+        middle: b"06400001008400100",
         tail: b"03140915300000040000100000000000",
     }
 }
