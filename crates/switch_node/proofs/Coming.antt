@@ -20,7 +20,7 @@ use Rattle.node_machine.specs.Lists.{Lists, Row, of_key, row_link, view, new_row
 use Rattle.iso_message.specs.Made.{without_forwarder}
 use Rattle.node_machine.specs.Books.{Stored, Advised, Granted}
 use Rattle.node_machine.specs.Machine as machine
-use Rattle.switch_node.specs.Used.{IsQuiet}
+use Rattle.step_draft.specs.Used.{IsQuiet}
 use Rattle.switch_node.proofs.Starts.{stays, zero_plus}
 use Rattle.node_machine.specs.Steps as steps
 use Rattle.node_machine.specs.Steps.{Progress}

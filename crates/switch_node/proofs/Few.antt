@@ -1,6 +1,5 @@
--- Digits that messages carry.
+-- Settlement dates that a gate writes.
 use Rattle.std.proofs.Common.{◌≡◌, ℕ, ◌+◌, ◌<◌, ◌⊎◌, length, List, [], ◌∷◌, Option, Some, None, true, refl, sym, ◌∙◌, arith, inl, inr}
-use Rattle.std.specs.Prelude.{unwrap_or}
 use Rattle.std.specs.Char.{is_ascii_digit}
 use Rattle.std.specs.List.{list_all}
 use Rattle.std.proofs.lemmas.Bool.{and_from, le-leb, eq-eqb}
@@ -11,22 +10,6 @@ use Rattle.iso_message.specs.declared.fault.DecodeFault.TheVariants.{Memory}
 use Rattle.iso_message.specs.Elements.{set_fault}
 use Rattle.network_law.specs.Cards.{text_of}
 use Rattle.iso_message.specs.Table.{table, form_of}
-use Rattle.iso_message.specs.Fields.{Fields, get, el}
-use Rattle.iso_message.specs.Spelling.{IsMessage}
-use Rattle.iso_message.proofs.KeyLemmas.{good_found}
-use Rattle.step_rules.proofs.Values as values
-use Rattle.step_rules.proofs.Values.{AreFew}
-
-pub card_few : (m : Fields) → IsMessage m → AreFew 19 (el m 2)
-card_few m g = values.card_few m g
-
-pub date_few : (m : Fields) → IsMessage m → AreFew 4 (el m 15)
-unfolding el form_of table
-date_few m g = go (get m 15) refl
-  where
-    go : (o : Option (List ℕ)) → get m 15 ≡ o → AreFew 4 (unwrap_or o [])
-    go None e = record { few = omega arith; digits = refl }
-    go (Some v) e = let good = good_found m 15 v g e in record { few = omega (arith, good.0); digits = good.1 }
 
 digit_written : (d : ℕ) → d < 10 → is_ascii_digit (d + 48) ≡ true
 digit_written d h = and_from _ _ (le-leb 48 (d + 48) (omega arith)) (le-leb (d + 48) 57 (omega arith))

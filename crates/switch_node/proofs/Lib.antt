@@ -1,16 +1,9 @@
-pub mod Drafts
 pub mod Stepped
-pub mod SoFar
 pub mod Messages
-pub mod Quiet
 pub mod Parts
-pub mod FailingPlaces
 pub mod Few
-pub mod Takings
-pub mod LateUses
 pub mod Requested
 pub mod Starts
 pub mod Coming
 pub mod Reading
-pub mod Sends
 pub mod Complete

@@ -16,7 +16,7 @@ use Rattle.advice_store.specs.Advices.{packet_acked}
 use Rattle.node_machine.specs.Steps as steps
 use Rattle.node_books.specs.Effects.{Drafted, progress, with_effect}
 use Rattle.node_books.specs.declared.effect.Effect.{Effect}
-use Rattle.switch_node.specs.Used.{IsQuiet}
+use Rattle.step_draft.specs.Used.{IsQuiet}
 use Rattle.switch_node.specs.Node.{Does, fault_in}
 
 pub does_up : (t : Network) (n l : ℕ) (before after : Drafted) → progress after ≡ steps.step t n before.base (messages.LinkUp l) → Does t n (entries.LinkUp l) before after

@@ -1,7 +1,4 @@
-pub mod Outputs
+pub use Rattle.step_draft.specs.Outputs
 pub mod Inputs
 pub mod Node
-pub mod SoFar
-pub mod Used
-pub mod Failures
 pub mod Coming

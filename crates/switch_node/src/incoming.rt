@@ -14,16 +14,19 @@ ghost use Rattle.node_machine.specs.Lists.{LeftAsMarked, of_key, row_link, view}
 ghost use Rattle.node_machine.specs.Steps.{on_advice, on_answer, on_group, on_request, on_reversal, step};
 ghost use Rattle.node_books.specs.Effects.{progress};
 ghost use Rattle.request_book.specs.Values.{IsKeyOf, source_of};
-ghost use Rattle.switch_node.specs.Used.{IsQuiet};
+ghost use Rattle.step_draft.specs.Used.{IsQuiet};
 ghost use Rattle.switch_node.specs.Coming.{opened_start, is_complete};
 
-use crate::draft::Draft;
+use crate::answers::on_code;
+use crate::notices::{on_advice, on_reversal};
+use crate::requests::on_request;
 use card_digits::{Key, LinkNo, NodeNo};
 use iso_message::{AdviceId, Code, DecodeFault, Group, Message, advice_id, code_of, key_of};
 use net_rows::Tables;
 use node_books::Effect;
 use request_book::{Row, is_request};
 use std::alloc::AllocError;
+use step_draft::Draft;
 use step_rules::is_approval;
 
 /// The key of a request.
@@ -73,201 +76,199 @@ fn identity(m: &Message) -> AdviceId
     }
 }
 
-impl Draft {
-    /// A message as its gate handles it: without the forwarding institution, and a request with the settlement date.
-    fn handled(&self, m: Message) -> Result<Message, AllocError>
-        ensures { IfOk result (λ h. h ≡ dated self.now.base.date (without_forwarder m)) }
-    {
-        let mut handled = m;
-        handled.remove(33);
-        if !is_request(handled.kind()) {
-            return Ok(handled);
-        }
-        let date = self.books.date();
-        let mut text = Vec::new(self.alloc);
-        push_digits(&mut text, date.digits())?;
-        match handled.set(15, &text) {
-            Ok(()) => Ok(handled),
-            Err(fault) => match fault {
-                DecodeFault::Memory => Err(AllocError),
-                // Element 15 takes the four digits of a date.
-                _ => unreachable!(),
-            },
-        }
+/// A message as its gate handles it: without the forwarding institution, and a request with the settlement date.
+fn handled(draft: &Draft, m: Message) -> Result<Message, AllocError>
+    ensures { IfOk result (λ h. h ≡ dated draft.now.base.date (without_forwarder m)) }
+{
+    let mut handled = m;
+    handled.remove(33);
+    if !is_request(handled.kind()) {
+        return Ok(handled);
     }
-
-    /// A request opens its key, where that has none yet; another message does nothing as it comes.
-    #[tactic(auto, using(crate::proofs::Coming::opens, crate::proofs::Coming::opens_none))]
-    fn open(&mut self, m: &Message, source: Option<LinkNo>) -> Result<(), AllocError>
-        requires empty { self.old.effects ≡ [] }
-        requires complete { is_complete (group m.now.kind) m.now ≡ true }
-        ensures base { self.new.base ≡ self.old.base }
-        ensures ok { OnOk result (progress self.new ≡ opened_start self.old.base (record { message = m.now; source = source_of source })) }
-    {
-        if !is_request(m.kind()) {
-            return Ok(());
-        }
-        let key = request_key(m);
-        let request = m.copy()?;
-        let row = Row::new(key, request, source, self.books.count());
-        self.change(Effect::Opened(row))
+    let date = draft.books().date();
+    let mut text = Vec::new(draft.alloc());
+    push_digits(&mut text, date.digits())?;
+    match handled.set(15, &text) {
+        Ok(()) => Ok(handled),
+        Err(fault) => match fault {
+            DecodeFault::Memory => Err(AllocError),
+            // Element 15 takes the four digits of a date.
+            _ => unreachable!(),
+        },
     }
+}
 
-    /// Whether the key's request was put on this link before the entry.
-    fn was_put_on(&self, key: Key, link: LinkNo) -> bool
-        ensures { result ≡ is_link link (option_and_then row_link (of_key key self.now.base.rows)) }
-    {
-        match self.books.of_key(key) {
-            Some(row) => match row.link() {
-                Some(own) => own == link,
-                None => false,
-            },
+/// A request opens its key, where that has none yet; another message does nothing as it comes.
+#[tactic(auto, using(crate::proofs::Coming::opens, crate::proofs::Coming::opens_none))]
+fn open(draft: &mut Draft, m: &Message, source: Option<LinkNo>) -> Result<(), AllocError>
+    requires empty { draft.old.effects ≡ [] }
+    requires complete { is_complete (group m.now.kind) m.now ≡ true }
+    ensures base { draft.new.base ≡ draft.old.base }
+    ensures ok { OnOk result (progress draft.new ≡ opened_start draft.old.base (record { message = m.now; source = source_of source })) }
+{
+    if !is_request(m.kind()) {
+        return Ok(());
+    }
+    let key = request_key(m);
+    let request = m.copy()?;
+    let row = Row::new(key, request, source, draft.books().count());
+    draft.change(Effect::Opened(row))
+}
+
+/// Whether the key's request was put on this link before the entry.
+fn was_put_on(draft: &Draft, key: Key, link: LinkNo) -> bool
+    ensures { result ≡ is_link link (option_and_then row_link (of_key key draft.now.base.rows)) }
+{
+    match draft.books().of_key(key) {
+        Some(row) => match row.link() {
+            Some(own) => own == link,
             None => false,
-        }
+        },
+        None => false,
     }
+}
 
-    /// An answer counts on the link on which its request was put.
-    #[tactic(auto, using(crate::proofs::Coming::answer_counts, crate::proofs::Coming::answer_strange))]
-    fn on_answer(
-        &mut self,
-        tables: &Tables,
-        node: NodeNo,
-        m: &Message,
-        link: LinkNo,
-    ) -> Result<(), AllocError>
-        requires key { has_key m.now ≡ true }
-        requires code { has m.now 39 ≡ true }
-        ensures base { self.new.base ≡ self.old.base }
-        ensures ok { OnOk result (progress self.new ≡ on_answer tables.now node (view tables.now node self.old.base) m.now (ByLink link) (progress self.old)) }
-    {
-        let Some(key) = key_of(m) else {
-            unreachable!();
-        };
-        let Some(code) = code_of(m) else {
-            unreachable!();
-        };
-        if !self.was_put_on(key, link) {
-            return Ok(());
-        }
-        self.on_code(tables, node, key, code, Code::new(*b"96"))
+/// An answer counts on the link on which its request was put.
+#[tactic(auto, using(crate::proofs::Coming::answer_counts, crate::proofs::Coming::answer_strange))]
+fn on_answer(
+    draft: &mut Draft,
+    tables: &Tables,
+    node: NodeNo,
+    m: &Message,
+    link: LinkNo,
+) -> Result<(), AllocError>
+    requires key { has_key m.now ≡ true }
+    requires code { has m.now 39 ≡ true }
+    ensures base { draft.new.base ≡ draft.old.base }
+    ensures ok { OnOk result (progress draft.new ≡ on_answer tables.now node (view tables.now node draft.old.base) m.now (ByLink link) (progress draft.old)) }
+{
+    let Some(key) = key_of(m) else {
+        unreachable!();
+    };
+    let Some(code) = code_of(m) else {
+        unreachable!();
+    };
+    if !was_put_on(draft, key, link) {
+        return Ok(());
     }
+    on_code(draft, tables, node, key, code, Code::new(*b"96"))
+}
 
-    fn on_keyed_request(
-        &mut self,
-        tables: &Tables,
-        node: NodeNo,
-        m: &Message,
-        source: Option<LinkNo>,
-    ) -> Result<(), AllocError>
-        requires request { is_request m.now.kind ≡ true }
-        requires key { has_key m.now ≡ true }
-        requires quiet { IsQuiet self.old.base (progress self.old).lists }
-        requires left { LeftAsMarked self.old.base.marks self.old.base.takes }
-        ensures base { self.new.base ≡ self.old.base }
-        ensures ok { OnOk result (progress self.new ≡ on_request tables.now node (view tables.now node self.old.base) m.now (source_of source) ((view tables.now node self.old.base).opening (key_of m.now)) (progress self.old)) }
-    {
-        let key = request_key(m);
-        self.on_request(tables, node, key, m, source)
-    }
+fn on_keyed_request(
+    draft: &mut Draft,
+    tables: &Tables,
+    node: NodeNo,
+    m: &Message,
+    source: Option<LinkNo>,
+) -> Result<(), AllocError>
+    requires request { is_request m.now.kind ≡ true }
+    requires key { has_key m.now ≡ true }
+    requires quiet { IsQuiet draft.old.base (progress draft.old).lists }
+    requires left { LeftAsMarked draft.old.base.marks draft.old.base.takes }
+    ensures base { draft.new.base ≡ draft.old.base }
+    ensures ok { OnOk result (progress draft.new ≡ on_request tables.now node (view tables.now node draft.old.base) m.now (source_of source) ((view tables.now node draft.old.base).opening (key_of m.now)) (progress draft.old)) }
+{
+    let key = request_key(m);
+    on_request(draft, tables, node, key, m, source)
+}
 
-    fn on_identified(
-        &mut self,
-        tables: &Tables,
-        node: NodeNo,
-        m: &Message,
-        source: Option<LinkNo>,
-        reverses: bool,
-    ) -> Result<(), AllocError>
-        requires advice { is_advice_group (group m.now.kind) ≡ true }
-        requires identity { has_identity m.now ≡ true }
-        ensures base { self.new.base ≡ self.old.base }
-        ensures reversal { OnOk result (reverses ≡ true → progress self.new ≡ on_reversal tables.now node (view tables.now node self.old.base) m.now (source_of source) (progress self.old)) }
-        ensures stand_in { OnOk result (reverses ≡ false → progress self.new ≡ on_advice tables.now node (view tables.now node self.old.base) m.now (source_of source) (progress self.old)) }
-    {
-        let id = identity(m);
-        if reverses {
-            self.on_reversal(tables, node, id, m, source)
-        } else {
-            self.on_advice(tables, node, id, m, source)
-        }
+fn on_identified(
+    draft: &mut Draft,
+    tables: &Tables,
+    node: NodeNo,
+    m: &Message,
+    source: Option<LinkNo>,
+    reverses: bool,
+) -> Result<(), AllocError>
+    requires advice { is_advice_group (group m.now.kind) ≡ true }
+    requires identity { has_identity m.now ≡ true }
+    ensures base { draft.new.base ≡ draft.old.base }
+    ensures reversal { OnOk result (reverses ≡ true → progress draft.new ≡ on_reversal tables.now node (view tables.now node draft.old.base) m.now (source_of source) (progress draft.old)) }
+    ensures stand_in { OnOk result (reverses ≡ false → progress draft.new ≡ on_advice tables.now node (view tables.now node draft.old.base) m.now (source_of source) (progress draft.old)) }
+{
+    let id = identity(m);
+    if reverses {
+        on_reversal(draft, tables, node, id, m, source)
+    } else {
+        on_advice(draft, tables, node, id, m, source)
     }
+}
 
-    /// A message, as it is handled.
-    #[tactic(auto, using(crate::proofs::Messages::request_group))]
-    fn on_message(
-        &mut self,
-        tables: &Tables,
-        node: NodeNo,
-        m: &Message,
-        source: Option<LinkNo>,
-    ) -> Result<(), AllocError>
-        requires complete { is_complete (group m.now.kind) m.now ≡ true }
-        requires quiet { IsQuiet self.old.base (progress self.old).lists }
-        requires left { LeftAsMarked self.old.base.marks self.old.base.takes }
-        ensures base { self.new.base ≡ self.old.base }
-        ensures ok { OnOk result (progress self.new ≡ on_group tables.now node (view tables.now node self.old.base) m.now (source_of source) (group m.now.kind) (progress self.old)) }
-    {
-        match m.kind().group() {
-            Group::Request => self.on_keyed_request(tables, node, m, source),
-            Group::Answer => match source {
-                Some(link) => self.on_answer(tables, node, m, link),
-                None => Ok(()),
-            },
-            Group::StandInAdvice => self.on_identified(tables, node, m, source, false),
-            Group::Reversal => self.on_identified(tables, node, m, source, true),
-            Group::Acknowledgement => Ok(()),
-            Group::Reply => Ok(()),
-        }
+/// A message, as it is handled.
+#[tactic(auto, using(crate::proofs::Messages::request_group))]
+fn on_message(
+    draft: &mut Draft,
+    tables: &Tables,
+    node: NodeNo,
+    m: &Message,
+    source: Option<LinkNo>,
+) -> Result<(), AllocError>
+    requires complete { is_complete (group m.now.kind) m.now ≡ true }
+    requires quiet { IsQuiet draft.old.base (progress draft.old).lists }
+    requires left { LeftAsMarked draft.old.base.marks draft.old.base.takes }
+    ensures base { draft.new.base ≡ draft.old.base }
+    ensures ok { OnOk result (progress draft.new ≡ on_group tables.now node (view tables.now node draft.old.base) m.now (source_of source) (group m.now.kind) (progress draft.old)) }
+{
+    match m.kind().group() {
+        Group::Request => on_keyed_request(draft, tables, node, m, source),
+        Group::Answer => match source {
+            Some(link) => on_answer(draft, tables, node, m, link),
+            None => Ok(()),
+        },
+        Group::StandInAdvice => on_identified(draft, tables, node, m, source, false),
+        Group::Reversal => on_identified(draft, tables, node, m, source, true),
+        Group::Acknowledgement => Ok(()),
+        Group::Reply => Ok(()),
     }
+}
 
-    /// A message that an acquirer enters.
-    pub(crate) fn enter(
-        &mut self,
-        tables: &Tables,
-        node: NodeNo,
-        m: Message,
-    ) -> Result<(), AllocError>
-        requires empty { self.old.effects ≡ [] }
-        requires complete { is_complete (group m.kind) m ≡ true }
-        requires left { LeftAsMarked self.old.base.marks self.old.base.takes }
-        ensures base { self.new.base ≡ self.old.base }
-        ensures ok { OnOk result (progress self.new ≡ step tables.now node self.old.base (Enter m)) }
-    {
-        let handled = self.handled(m)?;
-        self.open(&handled, None)?;
-        self.on_message(tables, node, &handled, None)
-    }
+/// A message that an acquirer enters.
+pub(crate) fn enter(
+    draft: &mut Draft,
+    tables: &Tables,
+    node: NodeNo,
+    m: Message,
+) -> Result<(), AllocError>
+    requires empty { draft.old.effects ≡ [] }
+    requires complete { is_complete (group m.kind) m ≡ true }
+    requires left { LeftAsMarked draft.old.base.marks draft.old.base.takes }
+    ensures base { draft.new.base ≡ draft.old.base }
+    ensures ok { OnOk result (progress draft.new ≡ step tables.now node draft.old.base (Enter m)) }
+{
+    let handled = handled(draft, m)?;
+    open(draft, &handled, None)?;
+    on_message(draft, tables, node, &handled, None)
+}
 
-    /// What a message acknowledges leaves the store.
-    fn acknowledge(&mut self, m: &Message) -> Result<(), AllocError>
-        requires empty { self.old.effects ≡ [] }
-        requires ack { (is_ack (group m.now.kind) && bytes_eq (code_of m.now) code_00) ≡ true }
-        requires identity { has_identity m.now ≡ true }
-        ensures base { self.new.base ≡ self.old.base }
-        ensures ok { OnOk result ((t : Network) (n : ℕ) (link : ℕ) (serial : ℕ) → progress self.new ≡ step t n self.old.base (Take link serial m.now)) }
-    {
-        let id = identity(m);
-        self.change(Effect::Acknowledged(id))
-    }
+/// What a message acknowledges leaves the store.
+fn acknowledge(draft: &mut Draft, m: &Message) -> Result<(), AllocError>
+    requires empty { draft.old.effects ≡ [] }
+    requires ack { (is_ack (group m.now.kind) && bytes_eq (code_of m.now) code_00) ≡ true }
+    requires identity { has_identity m.now ≡ true }
+    ensures base { draft.new.base ≡ draft.old.base }
+    ensures ok { OnOk result ((t : Network) (n : ℕ) (link : ℕ) (serial : ℕ) → progress draft.new ≡ step t n draft.old.base (Take link serial m.now)) }
+{
+    let id = identity(m);
+    draft.change(Effect::Acknowledged(id))
+}
 
-    /// A message that comes by a link, with any serial.
-    pub(crate) fn take_message(
-        &mut self,
-        tables: &Tables,
-        node: NodeNo,
-        link: LinkNo,
-        m: &Message,
-    ) -> Result<(), AllocError>
-        requires empty { self.old.effects ≡ [] }
-        requires complete { is_complete (group m.now.kind) m.now ≡ true }
-        requires left { LeftAsMarked self.old.base.marks self.old.base.takes }
-        ensures base { self.new.base ≡ self.old.base }
-        ensures ok { OnOk result ((serial : ℕ) → progress self.new ≡ step tables.now node self.old.base (Take link serial m.now)) }
-    {
-        if is_acknowledgement(m) {
-            return self.acknowledge(m);
-        }
-        self.open(m, Some(link))?;
-        self.on_message(tables, node, m, Some(link))
+/// A message that comes by a link, with any serial.
+pub(crate) fn take_message(
+    draft: &mut Draft,
+    tables: &Tables,
+    node: NodeNo,
+    link: LinkNo,
+    m: &Message,
+) -> Result<(), AllocError>
+    requires empty { draft.old.effects ≡ [] }
+    requires complete { is_complete (group m.now.kind) m.now ≡ true }
+    requires left { LeftAsMarked draft.old.base.marks draft.old.base.takes }
+    ensures base { draft.new.base ≡ draft.old.base }
+    ensures ok { OnOk result ((serial : ℕ) → progress draft.new ≡ step tables.now node draft.old.base (Take link serial m.now)) }
+{
+    if is_acknowledgement(m) {
+        return acknowledge(draft, m);
     }
+    open(draft, m, Some(link))?;
+    on_message(draft, tables, node, m, Some(link))
 }

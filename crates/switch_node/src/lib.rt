@@ -1,11 +1,7 @@
-//! One node of the network.
+//! One node of the network: what it does for each input, and its trace.
 #![tactic(auto)]
 
-mod advice;
 mod answers;
-mod digits;
-mod draft;
-mod failing;
 mod incoming;
 mod input;
 mod inputs;
@@ -13,13 +9,8 @@ mod node;
 mod notices;
 mod output;
 mod requests;
-mod sending;
-mod so_far;
-mod stand_in;
-mod timers;
-mod used;
 
-pub use draft::Draft;
 pub use input::{Case, Input};
 pub use node::Node;
-pub use output::{Entry, Output, Outputs};
+pub use output::{Entry, Outputs};
+pub use step_draft::Output;

@@ -7,8 +7,8 @@ ghost use Rattle.network_law.specs.Runs.{IsLegal, NamesOwnLink, IsTyped, step_re
 ghost use Rattle.network_law.specs.declared.fault.StepFault.TheVariants.{Memory};
 ghost use Rattle.std.specs.Prelude.{reverse};
 
-use crate::draft::Draft;
 use crate::input::Input;
+use crate::inputs::step;
 use crate::output::{Entry, Outputs};
 use card_digits::{LinkNo, NodeNo};
 use net_rows::Tables;
@@ -16,6 +16,7 @@ use network_law::{StepFault, every_legal_trace_is_within_limits};
 use node_books::Books;
 use std::alloc::{AllocError, Global};
 use std::marker::Model;
+use step_draft::Draft;
 use table_checker::Accepted;
 
 /// The most entries that a trace has.
@@ -98,7 +99,7 @@ impl<'a> Node<'a> {
         if self.trace.reserve(1).is_err() {
             return Err(StepFault::Memory);
         }
-        if let Err(fault) = self.draft.step(self.tables, self.node, &input) {
+        if let Err(fault) = step(&mut self.draft, self.tables, self.node, &input) {
             self.draft.rollback();
             return Err(fault);
         }

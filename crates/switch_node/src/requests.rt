@@ -19,16 +19,16 @@ ghost use Rattle.iso_message.specs.Made.{response};
 ghost use Rattle.std.specs.Prelude.{false};
 ghost use Rattle.node_books.specs.Effects.{progress};
 ghost use Rattle.request_book.specs.Values.{IsAnswerOf, IsKeyOf, source_of};
-ghost use Rattle.switch_node.specs.Used.{IsQuiet};
+ghost use Rattle.step_draft.specs.Used.{IsQuiet};
 ghost use Rattle.node_machine.specs.Lists.{link_at};
 
-use crate::draft::Draft;
 use card_digits::{Key, LinkNo, NodeNo};
 use iso_message::{Code, Kind, Message, same_content};
 use net_rows::Tables;
 use node_books::Books;
 use request_book::{PreparedOutput, Row, Way};
 use std::alloc::AllocError;
+use step_draft::Draft;
 use step_refusals::{PLACES, same_source};
 use step_rules::{has_good_card, is_home, issuer_of, route_links};
 
@@ -89,176 +89,174 @@ fn copy_of_answer(row: &Row) -> Result<Option<Message>, AllocError>
     }
 }
 
-impl Draft {
-    /// A request goes to the host.
-    fn ask(&mut self, key: Key, m: &Message) -> Result<(), AllocError>
-        requires { IsKeyOf key m.now }
-        ensures base { self.new.base ≡ self.old.base }
-        ensures ok { OnOk result ((t : Network) (n : ℕ) → progress self.new ≡ emit (Ask (suc (view t n self.old.base).ask_count) (as_kind K0100 m.now)) (progress self.old)) }
-    {
-        let ask = self.books.ask_count() as u64 + 1;
-        let forward = forwarded(key, m)?;
-        self.emit(PreparedOutput::of_message(Way::Ask(ask), key, forward))
-    }
+/// A request goes to the host.
+fn ask(draft: &mut Draft, key: Key, m: &Message) -> Result<(), AllocError>
+    requires { IsKeyOf key m.now }
+    ensures base { draft.new.base ≡ draft.old.base }
+    ensures ok { OnOk result ((t : Network) (n : ℕ) → progress draft.new ≡ emit (Ask (suc (view t n draft.old.base).ask_count) (as_kind K0100 m.now)) (progress draft.old)) }
+{
+    let ask = draft.books().ask_count() as u64 + 1;
+    let forward = forwarded(key, m)?;
+    draft.emit(PreparedOutput::of_message(Way::Ask(ask), key, forward))
+}
 
-    /// The first link of a card's route that was up before the entry.
-    fn way_of(&self, tables: &Tables, node: NodeNo, m: &Message) -> Option<LinkNo>
-        ensures { result ≡ find (view tables.now node self.now.base).is_up (route_links tables.now node (card_of m.now)) }
-    {
-        first_up(&self.books, route_links(tables, node, m))
-    }
+/// The first link of a card's route that was up before the entry.
+fn way_of(draft: &Draft, tables: &Tables, node: NodeNo, m: &Message) -> Option<LinkNo>
+    ensures { result ≡ find (view tables.now node draft.now.base).is_up (route_links tables.now node (card_of m.now)) }
+{
+    first_up(draft.books(), route_links(tables, node, m))
+}
 
-    /// Whether there are no places for one more request.
-    fn is_full(&self) -> bool
-        ensures { (t : Network) (n : ℕ) → result ≡ nat_lt 65536 (load (view t n self.now.base) + 2) }
-    {
-        self.books.load() > PLACES - 2
-    }
+/// Whether there are no places for one more request.
+fn is_full(draft: &Draft) -> bool
+    ensures { (t : Network) (n : ℕ) → result ≡ nat_lt 65536 (load (view t n draft.now.base) + 2) }
+{
+    draft.books().load() > PLACES - 2
+}
 
-    /// A request of a card whose home is elsewhere is put on the first link of its route that is up. Where none is, the node answers it
-    /// by its own limits.
-    fn forward(
-        &mut self,
-        tables: &Tables,
-        node: NodeNo,
-        key: Key,
-        m: &Message,
-        source: Option<LinkNo>,
-    ) -> Result<(), AllocError>
-        requires key { IsKeyOf key m.now }
-        requires quiet { IsQuiet self.old.base (progress self.old).lists }
-        requires left { LeftAsMarked self.old.base.marks self.old.base.takes }
-        ensures base { self.new.base ≡ self.old.base }
-        ensures ok { OnOk result (progress self.new ≡ on_forward tables.now node (view tables.now node self.old.base) m.now (source_of source) (find (view tables.now node self.old.base).is_up (route_links tables.now node (card_of m.now))) (progress self.old)) }
-    {
-        match self.way_of(tables, node, m) {
-            Some(link) => {
-                let forward = forwarded(key, m)?;
-                self.put_on(link, key, forward)
-            }
-            None => self.stand_in(tables, node, key, m, source),
+/// A request of a card whose home is elsewhere is put on the first link of its route that is up. Where none is, the node answers it
+/// by its own limits.
+fn forward(
+    draft: &mut Draft,
+    tables: &Tables,
+    node: NodeNo,
+    key: Key,
+    m: &Message,
+    source: Option<LinkNo>,
+) -> Result<(), AllocError>
+    requires key { IsKeyOf key m.now }
+    requires quiet { IsQuiet draft.old.base (progress draft.old).lists }
+    requires left { LeftAsMarked draft.old.base.marks draft.old.base.takes }
+    ensures base { draft.new.base ≡ draft.old.base }
+    ensures ok { OnOk result (progress draft.new ≡ on_forward tables.now node (view tables.now node draft.old.base) m.now (source_of source) (find (view tables.now node draft.old.base).is_up (route_links tables.now node (card_of m.now))) (progress draft.old)) }
+{
+    match way_of(draft, tables, node, m) {
+        Some(link) => {
+            let forward = forwarded(key, m)?;
+            draft.put_on(link, key, forward)
         }
+        None => draft.stand_in(tables, node, key, m, source),
     }
+}
 
-    /// A request of a card with an issuer, of a key that has none yet.
-    fn take_request(
-        &mut self,
-        tables: &Tables,
-        node: NodeNo,
-        key: Key,
-        m: &Message,
-        source: Option<LinkNo>,
-    ) -> Result<(), AllocError>
-        requires key { IsKeyOf key m.now }
-        requires quiet { IsQuiet self.old.base (progress self.old).lists }
-        requires left { LeftAsMarked self.old.base.marks self.old.base.takes }
-        ensures base { self.new.base ≡ self.old.base }
-        ensures ok { OnOk result (progress self.new ≡ on_issuer tables.now node (view tables.now node self.old.base) m.now (source_of source) (issuer tables.now (card_of m.now)) (progress self.old)) }
-    {
-        let Some(issuer) = issuer_of(tables, m) else {
-            return self.respond(source, key, m, Code::new(*b"92"));
-        };
-        let home = is_home(issuer, node);
-        if self.is_full() {
-            return self.respond(source, key, m, Code::new(*b"96"));
-        }
-        if home {
-            return self.ask(key, m);
-        }
-        self.forward(tables, node, key, m, source)
+/// A request of a card with an issuer, of a key that has none yet.
+fn take_request(
+    draft: &mut Draft,
+    tables: &Tables,
+    node: NodeNo,
+    key: Key,
+    m: &Message,
+    source: Option<LinkNo>,
+) -> Result<(), AllocError>
+    requires key { IsKeyOf key m.now }
+    requires quiet { IsQuiet draft.old.base (progress draft.old).lists }
+    requires left { LeftAsMarked draft.old.base.marks draft.old.base.takes }
+    ensures base { draft.new.base ≡ draft.old.base }
+    ensures ok { OnOk result (progress draft.new ≡ on_issuer tables.now node (view tables.now node draft.old.base) m.now (source_of source) (issuer tables.now (card_of m.now)) (progress draft.old)) }
+{
+    let Some(issuer) = issuer_of(tables, m) else {
+        return draft.respond(source, key, m, Code::new(*b"92"));
+    };
+    let home = is_home(issuer, node);
+    if is_full(draft) {
+        return draft.respond(source, key, m, Code::new(*b"96"));
     }
-
-    /// A request of a key that has none yet.
-    fn on_new_request(
-        &mut self,
-        tables: &Tables,
-        node: NodeNo,
-        key: Key,
-        m: &Message,
-        source: Option<LinkNo>,
-    ) -> Result<(), AllocError>
-        requires key { IsKeyOf key m.now }
-        requires quiet { IsQuiet self.old.base (progress self.old).lists }
-        requires left { LeftAsMarked self.old.base.marks self.old.base.takes }
-        ensures base { self.new.base ≡ self.old.base }
-        ensures ok { OnOk result (progress self.new ≡ on_request tables.now node (view tables.now node self.old.base) m.now (source_of source) None (progress self.old)) }
-    {
-        if self.books.is_marked(key) {
-            return self.respond(source, key, m, Code::new(*b"68"));
-        }
-        if !has_good_card(m) {
-            return self.respond(source, key, m, Code::new(*b"14"));
-        }
-        self.take_request(tables, node, key, m, source)
+    if home {
+        return ask(draft, key, m);
     }
+    forward(draft, tables, node, key, m, source)
+}
 
-    /// A request of a key that has one: the same is answered again, where it was answered, and another is a duplicate.
-    fn on_repeat(
-        &mut self,
-        tables: &Tables,
-        node: NodeNo,
-        key: Key,
-        m: &Message,
-        source: Option<LinkNo>,
-    ) -> Result<(), AllocError>
-        requires key { IsKeyOf key m.now }
-        requires there { is_some (of_key key self.old.base.rows) ≡ true }
-        ensures base { self.new.base ≡ self.old.base }
-        ensures ok { OnOk result (progress self.new ≡ on_request tables.now node (view tables.now node self.old.base) m.now (source_of source) ((view tables.now node self.old.base).opening (key_of m.now)) (progress self.old)) }
-    {
-        let Some(row) = self.books.of_key(key) else {
-            return Ok(());
-        };
-        let same = is_same(row, &source, m);
-        let own = row.key();
-        let answer = copy_of_answer(row)?;
-        self.repeat(same, own, m, source, answer)
+/// A request of a key that has none yet.
+fn on_new_request(
+    draft: &mut Draft,
+    tables: &Tables,
+    node: NodeNo,
+    key: Key,
+    m: &Message,
+    source: Option<LinkNo>,
+) -> Result<(), AllocError>
+    requires key { IsKeyOf key m.now }
+    requires quiet { IsQuiet draft.old.base (progress draft.old).lists }
+    requires left { LeftAsMarked draft.old.base.marks draft.old.base.takes }
+    ensures base { draft.new.base ≡ draft.old.base }
+    ensures ok { OnOk result (progress draft.new ≡ on_request tables.now node (view tables.now node draft.old.base) m.now (source_of source) None (progress draft.old)) }
+{
+    if draft.books().is_marked(key) {
+        return draft.respond(source, key, m, Code::new(*b"68"));
     }
-
-    /// The same request is answered again, where it was answered, and another is a duplicate.
-    #[tactic(auto, using(crate::proofs::Requested::plain_answer))]
-    fn repeat(
-        &mut self,
-        same: bool,
-        key: Key,
-        m: &Message,
-        source: Option<LinkNo>,
-        answer: Option<Message>,
-    ) -> Result<(), AllocError>
-        requires key { key ≡ key_of m.now }
-        requires answer { IsAnswerOf key answer }
-        ensures base { self.new.base ≡ self.old.base }
-        ensures same { OnOk result ((t : Network) (n : ℕ) → same ≡ true → progress self.new ≡ on_repeat t n (source_of source) answer (progress self.old)) }
-        ensures other { OnOk result ((t : Network) (n : ℕ) → same ≡ false → progress self.new ≡ reply t n (source_of source) (response m.now code_94) (progress self.old)) }
-    {
-        if !same {
-            return self.respond(source, key, m, Code::new(*b"94"));
-        }
-        match answer {
-            Some(again) => self.reply(source, key, again),
-            None => Ok(()),
-        }
+    if !has_good_card(m) {
+        return draft.respond(source, key, m, Code::new(*b"14"));
     }
+    take_request(draft, tables, node, key, m, source)
+}
 
-    /// A request.
-    pub(crate) fn on_request(
-        &mut self,
-        tables: &Tables,
-        node: NodeNo,
-        key: Key,
-        m: &Message,
-        source: Option<LinkNo>,
-    ) -> Result<(), AllocError>
-        requires key { IsKeyOf key m.now }
-        requires quiet { IsQuiet self.old.base (progress self.old).lists }
-        requires left { LeftAsMarked self.old.base.marks self.old.base.takes }
-        ensures base { self.new.base ≡ self.old.base }
-        ensures ok { OnOk result (progress self.new ≡ on_request tables.now node (view tables.now node self.old.base) m.now (source_of source) ((view tables.now node self.old.base).opening (key_of m.now)) (progress self.old)) }
-    {
-        if self.books.has_key(key) {
-            self.on_repeat(tables, node, key, m, source)
-        } else {
-            self.on_new_request(tables, node, key, m, source)
-        }
+/// A request of a key that has one: the same is answered again, where it was answered, and another is a duplicate.
+fn on_repeat(
+    draft: &mut Draft,
+    tables: &Tables,
+    node: NodeNo,
+    key: Key,
+    m: &Message,
+    source: Option<LinkNo>,
+) -> Result<(), AllocError>
+    requires key { IsKeyOf key m.now }
+    requires there { is_some (of_key key draft.old.base.rows) ≡ true }
+    ensures base { draft.new.base ≡ draft.old.base }
+    ensures ok { OnOk result (progress draft.new ≡ on_request tables.now node (view tables.now node draft.old.base) m.now (source_of source) ((view tables.now node draft.old.base).opening (key_of m.now)) (progress draft.old)) }
+{
+    let Some(row) = draft.books().of_key(key) else {
+        return Ok(());
+    };
+    let same = is_same(row, &source, m);
+    let own = row.key();
+    let answer = copy_of_answer(row)?;
+    repeat(draft, same, own, m, source, answer)
+}
+
+/// The same request is answered again, where it was answered, and another is a duplicate.
+#[tactic(auto, using(crate::proofs::Requested::plain_answer))]
+fn repeat(
+    draft: &mut Draft,
+    same: bool,
+    key: Key,
+    m: &Message,
+    source: Option<LinkNo>,
+    answer: Option<Message>,
+) -> Result<(), AllocError>
+    requires key { key ≡ key_of m.now }
+    requires answer { IsAnswerOf key answer }
+    ensures base { draft.new.base ≡ draft.old.base }
+    ensures same { OnOk result ((t : Network) (n : ℕ) → same ≡ true → progress draft.new ≡ on_repeat t n (source_of source) answer (progress draft.old)) }
+    ensures other { OnOk result ((t : Network) (n : ℕ) → same ≡ false → progress draft.new ≡ reply t n (source_of source) (response m.now code_94) (progress draft.old)) }
+{
+    if !same {
+        return draft.respond(source, key, m, Code::new(*b"94"));
+    }
+    match answer {
+        Some(again) => draft.reply(source, key, again),
+        None => Ok(()),
+    }
+}
+
+/// A request.
+pub(crate) fn on_request(
+    draft: &mut Draft,
+    tables: &Tables,
+    node: NodeNo,
+    key: Key,
+    m: &Message,
+    source: Option<LinkNo>,
+) -> Result<(), AllocError>
+    requires key { IsKeyOf key m.now }
+    requires quiet { IsQuiet draft.old.base (progress draft.old).lists }
+    requires left { LeftAsMarked draft.old.base.marks draft.old.base.takes }
+    ensures base { draft.new.base ≡ draft.old.base }
+    ensures ok { OnOk result (progress draft.new ≡ on_request tables.now node (view tables.now node draft.old.base) m.now (source_of source) ((view tables.now node draft.old.base).opening (key_of m.now)) (progress draft.old)) }
+{
+    if draft.books().has_key(key) {
+        on_repeat(draft, tables, node, key, m, source)
+    } else {
+        on_new_request(draft, tables, node, key, m, source)
     }
 }

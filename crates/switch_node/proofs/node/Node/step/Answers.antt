@@ -10,15 +10,15 @@ use Rattle.switch_node.proofs.node.Node.step.Goals as goal
 not_full : (entries : List Entry) → length entries < 1000000 → nat_le 1000000 (length (reverse entries)) ≡ false
 not_full entries p = rw (length-reverse entries) (elim (cases_Bool (nat_le 1000000 (length entries))) [ inl t ↦ absurd (omega (arith, leb-true 1000000 (length entries) t, p)) | inr f ↦ f ])
 
-made : (c : goal.After-push_reserved) → Stepped c.self.inside.tables.now c.self.inside.node (reverse c.self.inside.trace.items) (record { input = c.args.input; outputs = c.in-Ok.outs.items }) (progress c.step.new.self).lists
+made : (c : goal.After-push_reserved) → Stepped c.self.inside.tables.now c.self.inside.node (reverse c.self.inside.trace.items) (record { input = c.args.input; outputs = c.in-Ok.outs.items }) (progress c.step.new.draft).lists
 made c =
     let t = c.self.inside.tables.now in
     let n = c.self.inside.node in
     let trace : List Entry = reverse c.self.inside.trace.items in
-    let does : Does t n c.args.input c.self.inside.draft c.step.new.self = c.in_default.ensures.ok in
+    let does : Does t n c.args.input c.self.inside.draft c.step.new.draft = c.in_default.ensures.ok in
     let room : nat_le 1000000 (length trace) ≡ false = not_full c.self.inside.trace.items (omega (arith, ap length c.as_slice.ensures.value)) in
     let own = rw (← c.self.view_is) at c.requires.own in
-    stepped t n trace c.self.inside.draft.base (record { input = c.args.input; outputs = c.in-Ok.outs.items }) (Does.read does) (progress c.step.new.self) c.self.invariant.given own c.requires.typed (Does.reads does) room (Does.accepted does) (Does.done does) (c.in-Ok.ensures.outs ∙ ap (map spelled) (sym (reverse-reverse (sent_in c.step.new.self.effects))))
+    stepped t n trace c.self.inside.draft.base (record { input = c.args.input; outputs = c.in-Ok.outs.items }) (Does.read does) (progress c.step.new.draft) c.self.invariant.given own c.requires.typed (Does.reads does) room (Does.accepted does) (Does.done does) (c.in-Ok.ensures.outs ∙ ap (map spelled) (sym (reverse-reverse (sent_in c.step.new.draft.effects))))
 
 pub invariant_of-self-2 : goal.invariant_of-self-2
 invariant_of-self-2 c = rw (c.push_reserved.ensures.items, c.reserve.ensures.items, c.new.ensures, c.from_vec-2.ensures, reverse-append c.self.inside.trace.items (record { input = c.args.input; outputs = c.in-Ok.outs.items } ∷ []), c.in-Ok.ensures.done) (record { given = Stepped.given (made c); empty = refl })

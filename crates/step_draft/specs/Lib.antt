@@ -1,0 +1,4 @@
+pub mod Outputs
+pub mod SoFar
+pub mod Used
+pub mod Failures

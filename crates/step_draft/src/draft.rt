@@ -1,0 +1,224 @@
+//! The books before an entry, and what the entry did so far.
+ghost use Rattle.std.specs.Prelude.{◌≡◌, ◌≤◌, ◌<◌, [], ◌∷◌, OnOk, OnErr, IfOk, length};
+ghost use Rattle.network_law.specs.Entries.{spelled};
+ghost use Rattle.network_law.specs.Traces.{PutPacket};
+ghost use Rattle.node_machine.specs.Steps.{emit};
+ghost use Rattle.node_books.specs.Effects.{progress, with_effect, applied, sent_in};
+ghost use Rattle.node_books.specs.declared.effect.Effect.TheVariants.{Approved, Sent};
+ghost use Rattle.entry_changes.specs.Late.{few};
+ghost use Rattle.step_draft.specs.Outputs.{spelled_in};
+ghost use Rattle.step_draft.specs.SoFar.{approved_in};
+
+use crate::output::Output;
+use book_index::Sums;
+use card_digits::LinkNo;
+use entry_changes::Changes;
+use iso_message::encode;
+use network_law::{GrantPacket, packet_bytes};
+use node_books::{Books, Effect, OwnApproval};
+use request_book::{PreparedOutput, Way};
+use std::alloc::{AllocError, Global};
+use std::marker::Model;
+use std::mem::replace;
+
+/// The books as they were before the entry, which nothing changes until the entry is whole; and its changes, with its outputs twice, for
+/// the trace and for the caller.
+#[derive(Drop)]
+pub struct Draft {
+    pub(crate) alloc: Global,
+    pub(crate) books: Books,
+    pub(crate) effects: Changes,
+    /// What the own approvals among the later changes count for.
+    pub(crate) late_uses: Sums,
+    pub(crate) outs: Vec<Output>,
+    pub(crate) lent: Vec<Output>,
+}
+
+impl Model for Draft {
+    ghost use Rattle.std.specs.Prelude.{◌≡◌};
+    ghost use Rattle.node_books.specs.Effects.{Drafted};
+    ghost use Rattle.step_draft.specs.Outputs.{spelled_in};
+    ghost use Rattle.step_draft.specs.Used.{AreLateUses};
+
+    ghost Value = { Drafted };
+
+    ghost view = { λ d. record { base = d.books.lists; effects = d.effects } };
+
+    ghost invariant = { λ d. (d.outs.items ≡ spelled_in d.effects) × (d.lent.items ≡ spelled_in d.effects) × AreLateUses d.books.lists.marks d.effects d.late_uses.amounts.entries };
+}
+
+fn apply_all(books: &mut Books, effects: Vec<Effect>)
+    requires { length effects.items ≤ books.old.room }
+    ensures { books.new.lists ≡ applied effects.items books.old.lists }
+{
+    for effect in effects {
+        books.apply(effect);
+    }
+}
+
+#[tactic(auto, using(crate::proofs::Drafts::way_spelled))]
+fn spelled(alloc: Global, output: &PreparedOutput) -> Result<Output, AllocError>
+    ensures { IfOk result (λ o. o ≡ spelled output.now) }
+{
+    let bytes = encode(alloc, output.message())?;
+    Ok(Output::new(output.way(), bytes))
+}
+
+#[tactic(auto, using(crate::proofs::Drafts::packet_spelled))]
+fn spelled_packet(
+    alloc: Global,
+    link: LinkNo,
+    serial: u64,
+    packet: &GrantPacket,
+) -> Result<Output, AllocError>
+    ensures { IfOk result (λ o. o ≡ spelled (PutPacket link serial packet.now)) }
+{
+    let bytes = packet_bytes(alloc, packet)?;
+    Ok(Output::new(Way::Put(link, serial), bytes))
+}
+
+impl Draft {
+    /// Nothing was done to these books.
+    pub fn new(alloc: Global, books: Books) -> Draft
+        ensures { result ≡ record { base = books.lists; effects = [] } }
+    {
+        Draft {
+            alloc,
+            books,
+            effects: Changes::new(alloc),
+            late_uses: Sums::new(alloc),
+            outs: Vec::new(alloc),
+            lent: Vec::new(alloc),
+        }
+    }
+
+    /// The books as they were before the entry.
+    pub fn books(&self) -> &Books
+        ensures { result.now.lists ≡ self.now.base }
+    {
+        &self.books
+    }
+
+    /// What the entry's memory comes from.
+    pub fn alloc(&self) -> Global {
+        self.alloc
+    }
+
+    /// An output goes out.
+    #[tactic(auto, using(crate::proofs::Drafts::spelled_more, crate::proofs::Drafts::emitted, crate::proofs::LateUses::uses_same))]
+    pub fn emit(&mut self, output: PreparedOutput) -> Result<(), AllocError>
+        ensures base { self.new.base ≡ self.old.base }
+        ensures ok { OnOk result (self.new ≡ with_effect (Sent output) self.old) }
+        ensures emitted { OnOk result (progress self.new ≡ emit output (progress self.old)) }
+        ensures err { OnErr result (self.new ≡ self.old) }
+    {
+        let lent = spelled(self.alloc, &output)?;
+        let kept = lent.copy()?;
+        self.outs.reserve(1)?;
+        self.lent.reserve(1)?;
+        self.effects.push(Effect::Sent(output))?;
+        self.outs.push_reserved(kept);
+        self.lent.push_reserved(lent);
+        Ok(())
+    }
+
+    /// A packet goes out on a link, with this serial.
+    #[tactic(auto, using(crate::proofs::Drafts::packet_spelled_more, crate::proofs::Drafts::packet_emitted, crate::proofs::LateUses::uses_same))]
+    pub fn emit_packet(
+        &mut self,
+        link: LinkNo,
+        serial: u64,
+        packet: GrantPacket,
+    ) -> Result<(), AllocError>
+        ensures base { self.new.base ≡ self.old.base }
+        ensures emitted { OnOk result (progress self.new ≡ emit (PutPacket link serial packet) (progress self.old)) }
+    {
+        let lent = spelled_packet(self.alloc, link, serial, &packet)?;
+        let kept = lent.copy()?;
+        self.outs.reserve(1)?;
+        self.lent.reserve(1)?;
+        self.effects.push(Effect::PacketSent(link, serial, packet))?;
+        self.outs.push_reserved(kept);
+        self.lent.push_reserved(lent);
+        Ok(())
+    }
+
+    /// The node approved by itself, in one of the first few changes.
+    #[tactic(auto, using(crate::proofs::Drafts::quiet_more, crate::proofs::LateUses::uses_early))]
+    fn approve_early(&mut self, approval: OwnApproval) -> Result<(), AllocError>
+        requires { length self.old.effects < few }
+        ensures ok { OnOk result (self.new ≡ with_effect (Approved approval) self.old) }
+        ensures err { OnErr result (self.new ≡ self.old) }
+    {
+        self.effects.push(Effect::Approved(approval))?;
+        Ok(())
+    }
+
+    /// The node approved by itself, in a later change.
+    #[tactic(auto, using(crate::proofs::Drafts::quiet_more))]
+    fn approve_late(&mut self, approval: OwnApproval) -> Result<(), AllocError>
+        requires { few ≤ length self.old.effects }
+        ensures ok { OnOk result (self.new ≡ with_effect (Approved approval) self.old) }
+        ensures err { OnErr result (self.new ≡ self.old) }
+    {
+        let day = approval.day();
+        let left = self.books.left_of(approval.key(), approval.amount());
+        // So many changes fit a `usize`, which bounds the sum.
+        let _ = self.effects.len();
+        self.late_uses.reserve(1)?;
+        self.effects.push(Effect::Approved(approval))?;
+        self.late_uses.add(day, left.value());
+        Ok(())
+    }
+
+    /// The node approved by itself.
+    pub(crate) fn approve(&mut self, approval: OwnApproval) -> Result<(), AllocError>
+        ensures ok { OnOk result (self.new ≡ with_effect (Approved approval) self.old) }
+        ensures err { OnErr result (self.new ≡ self.old) }
+    {
+        if self.effects.is_next_late() {
+            self.approve_late(approval)
+        } else {
+            self.approve_early(approval)
+        }
+    }
+
+    /// Another change.
+    #[tactic(auto, using(crate::proofs::Drafts::quiet_more, crate::proofs::LateUses::uses_same))]
+    pub fn change(&mut self, effect: Effect) -> Result<(), AllocError>
+        requires sent { sent_in (effect ∷ []) ≡ [] }
+        requires approved { approved_in (effect ∷ []) ≡ [] }
+        ensures ok { OnOk result (self.new ≡ with_effect effect self.old) }
+        ensures err { OnErr result (self.new ≡ self.old) }
+    {
+        self.effects.push(effect)
+    }
+
+    /// All that was done is done to the books, and its outputs are handed out; or it is as before.
+    pub fn commit(&mut self) -> Result<(Vec<Output>, Vec<Output>), AllocError>
+        ensures outs { IfOk result (λ o. o.0.items ≡ spelled_in self.old.effects) }
+        ensures lent { IfOk result (λ o. o.1.items ≡ spelled_in self.old.effects) }
+        ensures done { OnOk result (self.new ≡ record { base = (progress self.old).lists; effects = [] }) }
+        ensures err { OnErr result (self.new ≡ self.old) }
+    {
+        self.books.reserve(self.effects.len())?;
+        let effects = self.effects.take();
+        self.late_uses = Sums::new(self.alloc);
+        apply_all(&mut self.books, effects);
+        let mut outs = replace(&mut self.outs, Vec::new(self.alloc));
+        // The trace keeps them, and most entries have one output.
+        outs.shrink_to_fit();
+        let lent = replace(&mut self.lent, Vec::new(self.alloc));
+        Ok((outs, lent))
+    }
+
+    /// Nothing was done.
+    pub fn rollback(&mut self)
+        ensures { self.new ≡ record { base = self.old.base; effects = [] } }
+    {
+        self.effects.clear();
+        self.late_uses = Sums::new(self.alloc);
+        self.outs.clear();
+        self.lent.clear();
+    }
+}

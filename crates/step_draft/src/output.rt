@@ -1,0 +1,57 @@
+//! Outputs with their bytes.
+ghost use Rattle.std.specs.Prelude.{◌≡◌, IfOk};
+
+use request_book::Way;
+use std::alloc::AllocError;
+use std::marker::Model;
+
+/// An output.
+#[derive(Drop)]
+pub struct Output {
+    way: Way,
+    bytes: Vec<u8>,
+}
+
+impl Model for Output {
+    ghost use Rattle.network_law.specs.Entries.{Output};
+    ghost use Rattle.step_draft.specs.Outputs.{put_out};
+
+    ghost Value = { Output };
+
+    ghost view = { λ o. put_out o.way o.bytes.items };
+}
+
+impl Output {
+    ghost use Rattle.step_draft.specs.Outputs.{put_out, bytes_of};
+
+    pub fn new(way: Way, bytes: Vec<u8>) -> Output
+        ensures { result ≡ put_out way bytes.items }
+    {
+        Output { way, bytes }
+    }
+
+    /// Where it goes.
+    pub fn way(&self) -> Way
+        ensures { put_out result (bytes_of self.now) ≡ self.now }
+    {
+        self.way
+    }
+
+    /// The same in memory of its own, with no room to spare.
+    pub(crate) fn copy(&self) -> Result<Output, AllocError>
+        ensures { IfOk result (λ o. o ≡ self.now) }
+    {
+        let bytes = Vec::from_slice(*self.bytes.allocator(), &self.bytes)?;
+        Ok(Output {
+            way: self.way,
+            bytes,
+        })
+    }
+
+    /// The message, or the packet of a grant.
+    pub fn bytes(&self) -> &[u8]
+        ensures { result.now ≡ bytes_of self.now }
+    {
+        self.bytes.as_slice()
+    }
+}

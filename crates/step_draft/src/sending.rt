@@ -1,0 +1,184 @@
+//! What goes out.
+ghost use Rattle.std.specs.Prelude.{◌≡◌, ℕ, false, true, OnOk};
+ghost use Rattle.iso_message.specs.Groups.{group};
+ghost use Rattle.iso_message.specs.Keys.{key_of, identity_of};
+ghost use Rattle.iso_message.specs.Made.{response};
+ghost use Rattle.net_rows.specs.Network.{Network};
+ghost use Rattle.network_law.specs.Traces.{is_advice_group, Post};
+ghost use Rattle.node_machine.specs.Lists.{view, leaves};
+ghost use Rattle.node_machine.specs.Steps.{emit, keep, is_sent, put_on, reply, send, store};
+ghost use Rattle.node_books.specs.Effects.{progress};
+ghost use Rattle.request_book.specs.Values.{source_of};
+
+use crate::advice::Advice;
+use crate::draft::Draft;
+use card_digits::{Amount, Key, LinkNo, NodeNo};
+use iso_message::{AdviceId, Code, Message};
+use net_rows::Tables;
+use node_books::{Effect, NewAdvice};
+use request_book::{PreparedOutput, Way};
+use std::alloc::AllocError;
+use step_rules::{is_at_home, sent_kind};
+
+impl Draft {
+    /// A message that is no advice goes out on a link.
+    pub fn put_on(&mut self, link: LinkNo, key: Key, m: Message) -> Result<(), AllocError>
+        requires key { key ≡ key_of m }
+        requires plain { is_advice_group (group m.kind) ≡ false }
+        ensures base { self.new.base ≡ self.old.base }
+        ensures ok { OnOk result ((t : Network) (n : ℕ) → progress self.new ≡ put_on t n link m (progress self.old)) }
+    {
+        let serial = self.next_serial(link);
+        self.emit(PreparedOutput::of_message(Way::Put(link, serial), key, m))
+    }
+
+    /// An advice goes out on a link.
+    fn put_advice(&mut self, link: LinkNo, id: AdviceId, m: Message) -> Result<(), AllocError>
+        requires id { id ≡ identity_of m }
+        requires advice { is_advice_group (group m.kind) ≡ true }
+        ensures base { self.new.base ≡ self.old.base }
+        ensures ok { OnOk result ((t : Network) (n : ℕ) → progress self.new ≡ put_on t n link m (progress self.old)) }
+    {
+        let serial = self.next_serial(link);
+        self.emit(PreparedOutput::of_advice(Way::Put(link, serial), id, m))
+    }
+
+    /// A message goes out to where a request came from.
+    pub fn reply(&mut self, source: Option<LinkNo>, key: Key, m: Message) -> Result<(), AllocError>
+        requires key { key ≡ key_of m }
+        requires plain { is_advice_group (group m.kind) ≡ false }
+        ensures base { self.new.base ≡ self.old.base }
+        ensures ok { OnOk result ((t : Network) (n : ℕ) → progress self.new ≡ reply t n (source_of source) m (progress self.old)) }
+    {
+        match source {
+            Some(link) => self.put_on(link, key, m),
+            None => self.emit(PreparedOutput::of_message(Way::Answer, key, m)),
+        }
+    }
+
+    /// The response to a message with a code goes out to where that came from.
+    #[tactic(auto, using(crate::proofs::Messages::response_key, crate::proofs::Messages::response_plain))]
+    pub fn respond(
+        &mut self,
+        source: Option<LinkNo>,
+        key: Key,
+        m: &Message,
+        code: Code,
+    ) -> Result<(), AllocError>
+        requires { key ≡ key_of m.now }
+        ensures base { self.new.base ≡ self.old.base }
+        ensures ok { OnOk result ((t : Network) (n : ℕ) → progress self.new ≡ reply t n (source_of source) (response m.now code) (progress self.old)) }
+    {
+        let response = m.response(code)?;
+        self.reply(source, key, response)
+    }
+
+    /// An advice goes out, where a link is up.
+    pub(crate) fn send(
+        &mut self,
+        tables: &Tables,
+        node: NodeNo,
+        advice: Advice,
+    ) -> Result<(), AllocError>
+        ensures base { self.new.base ≡ self.old.base }
+        ensures ok { OnOk result (progress self.new ≡ send tables.now node advice.message (progress self.old)) }
+    {
+        let Advice { id, message } = advice;
+        self.send_message(tables, node, id, message)
+    }
+
+    /// The advice of this identity goes out, where a link is up.
+    #[tactic(auto, using(crate::proofs::Messages::sent_identity, crate::proofs::Messages::sent_is_advice, crate::proofs::Messages::advice_key))]
+    pub(crate) fn send_message(
+        &mut self,
+        tables: &Tables,
+        node: NodeNo,
+        id: AdviceId,
+        message: Message,
+    ) -> Result<(), AllocError>
+        requires { id ≡ identity_of message }
+        ensures base { self.new.base ≡ self.old.base }
+        ensures ok { OnOk result (progress self.new ≡ send tables.now node message (progress self.old)) }
+    {
+        let Some(link) = self.own_way(tables, node, id.key, &message) else {
+            return Ok(());
+        };
+        let kind = sent_kind(message.kind().is_04xx(), self.was_put(id));
+        let mut sent = message;
+        sent.set_kind(kind);
+        self.put_advice(link, id, sent)
+    }
+
+    /// An advice that wasn't known before the entry is posted at the home of its card, and elsewhere sent.
+    pub fn keep(&mut self, tables: &Tables, node: NodeNo, advice: &Advice) -> Result<(), AllocError>
+        ensures base { self.new.base ≡ self.old.base }
+        ensures ok { OnOk result (progress self.new ≡ keep tables.now node (view tables.now node self.old.base) advice.now.message (progress self.old)) }
+    {
+        if self.books.is_known(advice.id) {
+            return Ok(());
+        }
+        let copy = advice.copy()?;
+        if is_at_home(tables, node, &advice.message) {
+            return self.post(copy);
+        }
+        self.send(tables, node, copy)
+    }
+
+    /// An advice goes to the host's books.
+    fn post(&mut self, advice: Advice) -> Result<(), AllocError>
+        ensures base { self.new.base ≡ self.old.base }
+        ensures ok { OnOk result (progress self.new ≡ emit (Post advice.message) (progress self.old)) }
+    {
+        let Advice { id, message } = advice;
+        self.emit(PreparedOutput::of_advice(Way::Post, id, message))
+    }
+
+    /// Whether `keep` puts the advice on a link.
+    #[tactic(auto, using(crate::proofs::Messages::advice_key))]
+    pub(crate) fn is_sent(&self, tables: &Tables, node: NodeNo, advice: &Advice) -> bool
+        ensures { result ≡ is_sent tables.now node (view tables.now node self.now.base) advice.now.message (progress self.now) }
+    {
+        !self.books.is_known(advice.id)
+            && !is_at_home(tables, node, &advice.message)
+            && self
+                .own_way(tables, node, advice.id.key, &advice.message)
+                .is_some()
+    }
+
+    /// An advice that the node made is stored.
+    #[tactic(auto, using(crate::proofs::Drafts::kept_is))]
+    pub fn store_made(
+        &mut self,
+        tables: &Tables,
+        node: NodeNo,
+        advice: Advice,
+        count: u64,
+        put: bool,
+    ) -> Result<(), AllocError>
+        ensures base { self.new.base ≡ self.old.base }
+        ensures ok { OnOk result (progress self.new ≡ store tables.now node true advice.message count put (progress self.old)) }
+    {
+        let home = is_at_home(tables, node, &advice.message);
+        let Advice { id, message } = advice;
+        self.change(Effect::Kept(NewAdvice::made(id, message, count, home, put)))
+    }
+
+    /// An advice that the node accepted is stored.
+    #[tactic(auto, using(crate::proofs::Drafts::kept_is))]
+    pub fn store_accepted(
+        &mut self,
+        tables: &Tables,
+        node: NodeNo,
+        advice: Advice,
+        actual: Amount,
+        count: u64,
+    ) -> Result<(), AllocError>
+        requires { actual ≡ leaves advice.message }
+        ensures base { self.new.base ≡ self.old.base }
+        ensures ok { OnOk result (progress self.new ≡ store tables.now node false advice.message count false (progress self.old)) }
+    {
+        let home = is_at_home(tables, node, &advice.message);
+        let Advice { id, message } = advice;
+        self.change(Effect::Kept(NewAdvice::accepted(id, message, actual, count, home)))
+    }
+}

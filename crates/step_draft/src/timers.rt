@@ -1,0 +1,203 @@
+//! What ticks and links that go down do.
+ghost use Rattle.std.specs.Prelude.{◌≡◌, ◌≤◌, ◌<◌, ◌+◌, ◌==◌, ◌^◌, IfOk, OnOk, length, drop, suc};
+ghost use Rattle.network_law.specs.Traces.{LinkDown, Tick};
+ghost use Rattle.node_machine.specs.Lists.{LeftAsMarked, row_fails, view};
+ghost use Rattle.node_machine.specs.Machine.{due, failing};
+ghost use Rattle.node_machine.specs.Steps.{fail_all, send_all, send_due, send_grant};
+ghost use Rattle.node_books.specs.Effects.{progress};
+ghost use Rattle.step_draft.specs.Used.{IsQuiet};
+ghost use Rattle.step_draft.specs.Failures.{cause_of, fail_next, head_key, key_from, next_from};
+ghost use Rattle.request_book.specs.Values.{IsUnique};
+
+use crate::draft::Draft;
+use card_digits::{Key, LinkNo, NodeNo};
+use net_rows::Tables;
+use network_law::{Grant, GrantPacket};
+use node_books::{StoredCase, StoredItem};
+use request_book::Row;
+use std::alloc::AllocError;
+use step_rules::{first_up_between, ticks_by};
+
+/// What makes pending requests fail.
+#[derive(Drop)]
+pub enum Cause {
+    /// The link on which they were put goes down.
+    LinkDown(LinkNo),
+    /// Their time is over.
+    Tick,
+}
+
+/// Whether so many ticks went by since a count.
+fn is_over(now: u64, count: u64, ticks: u16) -> bool
+    ensures { result ≡ (count + ticks == now) }
+{
+    let ticks = ticks as u64;
+    ticks <= now && now - ticks == count
+}
+
+/// Whether a request fails.
+pub(crate) fn row_fails(tables: &Tables, count: u64, cause: &Cause, row: &Row) -> bool
+    requires { count ≤ 2 ^ 62 }
+    ensures { result ≡ row_fails tables.now count (cause_of cause.now) row.now }
+{
+    if !row.is_open() {
+        return false;
+    }
+    match cause {
+        Cause::LinkDown(link) => match row.link() {
+            Some(own) => own == *link,
+            None => false,
+        },
+        Cause::Tick => match ticks_by(tables, row.link(), row.asked()) {
+            Some(ticks) => is_over(count + 1, row.count(), ticks),
+            None => false,
+        },
+    }
+}
+
+impl Draft {
+    /// The key of the request at this place, if it fails.
+    fn failing_at(&self, tables: &Tables, cause: &Cause, place: usize) -> Option<Key>
+        requires { place < length self.now.base.rows }
+        ensures { result ≡ head_key (row_fails tables.now self.now.base.count (cause_of cause.now)) (drop place self.now.base.rows) }
+    {
+        let row = &self.books.rows()[place];
+        if row_fails(tables, self.books.count(), cause, row) {
+            Some(row.key())
+        } else {
+            None
+        }
+    }
+
+    /// The request at this place fails, if it does.
+    #[tactic(auto, using(crate::proofs::Parts::next_quiet))]
+    fn fail_at(
+        &mut self,
+        tables: &Tables,
+        node: NodeNo,
+        cause: &Cause,
+        place: usize,
+    ) -> Result<(), AllocError>
+        requires place { place < length self.old.base.rows }
+        requires quiet { IsQuiet self.old.base (progress self.old).lists }
+        requires left { LeftAsMarked self.old.base.marks self.old.base.takes }
+        ensures base { self.new.base ≡ self.old.base }
+        ensures ok { OnOk result (progress self.new ≡ fail_next tables.now node (view tables.now node self.old.base) (head_key (row_fails tables.now self.old.base.count (cause_of cause.now)) (drop place self.old.base.rows)) (progress self.old)) }
+    {
+        match self.failing_at(tables, cause, place) {
+            Some(key) => self.fail(tables, node, key),
+            None => Ok(()),
+        }
+    }
+
+    /// The request at this place fails, if it does and stands among those that are left; and from where on they are left then.
+    fn fail_from(
+        &mut self,
+        tables: &Tables,
+        node: NodeNo,
+        cause: &Cause,
+        from: usize,
+        place: usize,
+    ) -> Result<usize, AllocError>
+        requires quiet { IsQuiet self.old.base (progress self.old).lists }
+        requires left { LeftAsMarked self.old.base.marks self.old.base.takes }
+        ensures base { self.new.base ≡ self.old.base }
+        ensures next { IfOk result (λ next. next ≡ next_from from place (length self.old.base.rows)) }
+        ensures ok { OnOk result (progress self.new ≡ fail_next tables.now node (view tables.now node self.old.base) (key_from (row_fails tables.now self.old.base.count (cause_of cause.now)) from place self.old.base.rows) (progress self.old)) }
+    {
+        if from <= place && place < self.row_count() {
+            self.fail_at(tables, node, cause, place)?;
+            Ok(place + 1)
+        } else {
+            Ok(from)
+        }
+    }
+
+    /// The requests that fail do so one after another, in the order in which they came.
+    pub fn fail_all(
+        &mut self,
+        tables: &Tables,
+        node: NodeNo,
+        cause: &Cause,
+    ) -> Result<(), AllocError>
+        requires quiet { IsQuiet self.old.base (progress self.old).lists }
+        requires left { LeftAsMarked self.old.base.marks self.old.base.takes }
+        ensures base { self.new.base ≡ self.old.base }
+        ensures ok { OnOk result (progress self.new ≡ fail_all tables.now node (view tables.now node self.old.base) (failing tables.now (view tables.now node self.old.base) (cause_of cause.now)) (progress self.old)) }
+    {
+        let places = self.failing_places(tables, cause)?;
+        let _ = self.row_count();
+        let mut from = 0;
+        for i in 0..places.len() {
+            from = self.fail_from(tables, node, cause, from, places[i])?;
+        }
+        Ok(())
+    }
+
+    /// The number of requests, each of which has a key of its own.
+    fn row_count(&self) -> usize
+        ensures count { result ≡ length self.now.base.rows }
+        ensures unique { IsUnique self.now.base.rows }
+    {
+        self.books.rows().len()
+    }
+
+    /// A grant goes out on the first link in the order of the tables that joins the two nodes and is up.
+    pub fn send_grant(
+        &mut self,
+        tables: &Tables,
+        node: NodeNo,
+        borrower: NodeNo,
+        grant: Grant,
+    ) -> Result<(), AllocError>
+        ensures base { self.new.base ≡ self.old.base }
+        ensures ok { OnOk result (progress self.new ≡ send_grant tables.now node borrower grant (progress self.old)) }
+    {
+        match first_up_between(self, tables, node, borrower) {
+            Some(link) => {
+                let serial = self.next_serial(link);
+                self.emit_packet(link, serial, GrantPacket::Grant(grant))
+            }
+            None => Ok(()),
+        }
+    }
+
+    /// What was stored is sent again.
+    fn send_item(
+        &mut self,
+        tables: &Tables,
+        node: NodeNo,
+        item: StoredItem,
+    ) -> Result<(), AllocError>
+        ensures base { self.new.base ≡ self.old.base }
+        ensures ok { OnOk result (progress self.new ≡ send_due tables.now node item (progress self.old)) }
+    {
+        match item.into_case() {
+            StoredCase::Advice(advice) => {
+                let id = advice.id();
+                let message = advice.into_message();
+                self.send_message(tables, node, id, message)
+            }
+            StoredCase::Grant(grant) => {
+                let borrower = grant.borrower();
+                let lent = grant.grant();
+                self.send_grant(tables, node, borrower, lent)
+            }
+        }
+    }
+
+    /// What is stored and due is sent again, in the order in which it was stored.
+    pub fn send_all(&mut self, tables: &Tables, node: NodeNo) -> Result<(), AllocError>
+        requires { IsQuiet self.old.base (progress self.old).lists }
+        ensures base { self.new.base ≡ self.old.base }
+        ensures quiet { OnOk result (IsQuiet self.old.base (progress self.new).lists) }
+        ensures ok { OnOk result (progress self.new ≡ send_all tables.now node (due tables.now (view tables.now node self.old.base)) (progress self.old)) }
+    {
+        let now = self.books.count() + 1;
+        let items = self.books.due(tables.settings().advice_ticks, now)?;
+        for item in items {
+            self.send_item(tables, node, item)?;
+        }
+        Ok(())
+    }
+}

@@ -1,6 +1,0 @@
-use Rattle.std.proofs.Common.{◌<◌, ℕ}
-use Rattle.switch_node.specs.Failures.{AreDue, delay}
-use Rattle.switch_node.proofs.draft.Draft.due_places.Given as goal
-
-abbrev pub invariant-loop-i : goal.invariant-loop-i
-invariant-loop-i l = (j : ℕ) → j < l.i → AreDue l.tables l.self.base.count (delay l.tables j) l.self.base.rows l.places.items
