@@ -1,32 +1,18 @@
 -- One row more, in the rows and in the map.
 use Rattle.std.proofs.Common.{◌≡◌, ℕ, ◌==◌, ◌&&◌, ◌++◌, Bool, true, false, cond, List, [], ◌∷◌, Option, Some, None, is_some, is_none, refl, sym, ◌∙◌, append_assoc, append-nil}
-use Rattle.std.specs.declared.cmp.Ordering.{Ordering}
-use Rattle.std.specs.declared.cmp.Ordering.TheVariants.{Less, Equal, Greater}
-use Rattle.std.specs.Ordering.{nat_cmp, ordering_then, is_eq}
 use Rattle.std.specs.Option.{option_or}
-use Rattle.std.specs.Cmp.Lexicographic.{slice_cmp, pointwise, texts_ties}
-use Rattle.std.specs.BTreeMap.{BTreeMap, Updates}
+use Rattle.std.specs.Cmp.Lexicographic.{pointwise}
+use Rattle.std.specs.HashMap.{HashMap, Updates}
 use Rattle.std.specs.Prelude.{All}
 use Rattle.std.proofs.lemmas.List.Elements.{All-nil, All-cons}
 use Rattle.std.proofs.lemmas.Bool.{and_parts, eqb-true}
 use Rattle.rank_cert.specs.declared.cert.Rank.{Rank}
 use Rattle.rank_cert.specs.declared.cert.Pair.{Pair}
 use Rattle.rank_cert.specs.Ranks.{is_of, rank_of, IsRow, AddsRows, IsCert}
-use Rattle.rank_cert.specs.Index.{pair_cmp, IsIndex}
-
-is_eq-then : (a b : Ordering) → is_eq (ordering_then a b) ≡ (is_eq a && is_eq b)
-is_eq-then Less b = refl
-is_eq-then Equal b = refl
-is_eq-then Greater b = refl
+use Rattle.rank_cert.specs.Index.{pair_eq, IsIndex}
 
 abbrev pub pair_of : Rank → Pair
 pair_of r = record { node = r.node; prefix = r.prefix }
-
--- the map compares pairs as the rows do
-is_eq-pair : (r : Rank) (q : Pair) → is_eq (pair_cmp (pair_of r) q) ≡ is_of r q.node q.prefix
-is_eq-pair r q =
-    is_eq-then (slice_cmp nat_cmp r.node q.node) (slice_cmp nat_cmp r.prefix q.prefix)
-    ∙ rw (texts_ties r.node q.node, texts_ties r.prefix q.prefix) refl
 
 pub same_text : (xs ys : List ℕ) → pointwise ◌==◌ xs ys ≡ true → xs ≡ ys
 same_text [] [] h = refl
@@ -57,11 +43,11 @@ pushed rows r q true is new =
 pushed rows r q false is new = sym (option_or-none (rank_of rows q.node q.prefix))
 
 -- the map has the new row at its pair, and the others as before
-pub IsIndex-push : (rows : List Rank) (r : Rank) (old new : BTreeMap Pair ℕ) → IsIndex rows old → rank_of rows r.node r.prefix ≡ None
-    → Updates pair_cmp old new (pair_of r) (Some r.rank) → IsIndex (rows ++ r ∷ []) new
+pub IsIndex-push : {S : Type 0} (rows : List Rank) (r : Rank) (old new : HashMap Pair ℕ S) → IsIndex rows old → rank_of rows r.node r.prefix ≡ None
+    → Updates pair_eq old new (pair_of r) (Some r.rank) → IsIndex (rows ++ r ∷ []) new
 IsIndex-push rows r old new index fresh updates = λ q.
     updates.0 q
-    ∙ rw (is_eq-pair r q, index q) (pushed rows r q (is_of r q.node q.prefix) refl fresh)
+    ∙ rw (index q) (pushed rows r q (is_of r q.node q.prefix) refl fresh)
     ∙ sym (rank_of-push rows r q.node q.prefix)
 
 adds-push : (done rows : List Rank) (r : Rank) → AddsRows done rows → IsRow r → rank_of (done ++ rows) r.node r.prefix ≡ None → AddsRows done (rows ++ r ∷ [])

@@ -4,7 +4,8 @@ ghost use Rattle.rank_cert.specs.Ranks.{rank_of, is_new, IsRow, IsCert};
 
 use card_digits::{Name, Prefix};
 use std::alloc::{AllocError, Global};
-use std::collections::BTreeMap;
+use std::collections::HashMap;
+use std::hash::{Hash, Hasher};
 use std::marker::Model;
 
 /// The rank of the node of that name at a prefix.
@@ -16,17 +17,33 @@ pub struct Rank {
 }
 
 /// What has one rank.
-#[derive(Clone, Copy, Debug, PartialEq, Eq, PartialOrd, Ord)]
+#[derive(Clone, Copy, Debug, PartialEq, Eq)]
 pub(crate) struct Pair {
     node: Name,
     prefix: Prefix,
+}
+
+// The letters at once and the digits at once.
+impl Hash for Pair {
+    ghost use Rattle.std.specs.Prelude.{[], ◌∷◌};
+    ghost use Rattle.std.proofs.Common.{rules};
+    ghost use Rattle.std.specs.Cmp.Rules.{hashing};
+
+    ghost hash_input = { λ p. p.node ∷ p.prefix ∷ [] };
+
+    ghost respects_eq = { Prim.search (hashing, rules) };
+
+    fn hash<H: Hasher>(&self, state: &mut H) {
+        state.write(self.node.as_slice());
+        state.write(self.prefix.digits());
+    }
 }
 
 /// Ranks in the order in which they were added, at most one for a pair of a name and a prefix.
 #[derive(Debug, Drop)]
 pub struct Cert {
     rows: Vec<Rank>,
-    ranks: BTreeMap<Pair, u16>,
+    ranks: HashMap<Pair, u16>,
 }
 
 impl Model for Cert {
@@ -48,7 +65,7 @@ impl Cert {
     {
         Cert {
             rows: Vec::new(alloc),
-            ranks: BTreeMap::new(alloc),
+            ranks: HashMap::new(alloc),
         }
     }
 
