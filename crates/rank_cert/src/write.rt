@@ -7,6 +7,7 @@ ghost use Rattle.rank_cert.specs.Writing.{digits_text, line_of, lines_of, text_o
 
 use crate::cert::{Cert, Rank};
 use card_digits::Prefix;
+use itoa::Buffer;
 use std::alloc::{AllocError, Global};
 
 /// The text of a certificate.
@@ -18,22 +19,22 @@ pub fn write_cert(alloc: Global, cert: &Cert) -> Result<Vec<u8>, AllocError>
 {
     let mut text = Vec::new(alloc);
     text.extend_from_slice(b"RANKS 1\n")?;
-    write_rows(alloc, cert.rows(), &mut text)?;
+    write_rows(cert.rows(), &mut text)?;
     text.extend_from_slice(b"END\n")?;
     Ok(text)
 }
 
-fn write_rows(alloc: Global, rows: &[Rank], text: &mut Vec<u8>) -> Result<(), AllocError>
+fn write_rows(rows: &[Rank], text: &mut Vec<u8>) -> Result<(), AllocError>
     requires { All IsRow rows.now }
     ensures { OnOk result (text.new.items ≡ text.old.items ++ lines_of rows.now) }
 {
     for row in rows {
-        write_row(alloc, row, text)?;
+        write_row(row, text)?;
     }
     Ok(())
 }
 
-fn write_row(alloc: Global, row: &Rank, text: &mut Vec<u8>) -> Result<(), AllocError>
+fn write_row(row: &Rank, text: &mut Vec<u8>) -> Result<(), AllocError>
     requires { IsRow row.now }
     ensures { OnOk result (text.new.items ≡ text.old.items ++ (line_of row.now ++ 10 ∷ [])) }
 {
@@ -41,7 +42,7 @@ fn write_row(alloc: Global, row: &Rank, text: &mut Vec<u8>) -> Result<(), AllocE
     text.push(b' ')?;
     write_digits(&row.prefix, text)?;
     text.push(b' ')?;
-    write_number(alloc, row.rank, text)?;
+    write_number(row.rank, text)?;
     text.push(b'\n')?;
     Ok(())
 }
@@ -56,11 +57,11 @@ fn write_digits(prefix: &Prefix, text: &mut Vec<u8>) -> Result<(), AllocError>
     Ok(())
 }
 
-fn write_number(alloc: Global, number: u16, text: &mut Vec<u8>) -> Result<(), AllocError>
+fn write_number(number: u16, text: &mut Vec<u8>) -> Result<(), AllocError>
     ensures { OnOk result (text.new.items ≡ text.old.items ++ decimal number) }
 {
-    let digits = format!(in alloc; "{number}")?;
-    text.extend_from_slice(digits.as_bytes())?;
+    let mut buffer = Buffer::new();
+    text.extend_from_slice(buffer.format(number).as_bytes())?;
     Ok(())
 }
 
