@@ -1,0 +1,105 @@
+//! The first refusal of each kind.
+ghost use Rattle.std.specs.Prelude.{◌≡◌, None};
+ghost use Rattle.std.specs.Option.{option_or};
+ghost use Rattle.table_checker.specs.Firsts.{of_kind};
+ghost use Rattle.table_checker.specs.Rules.{refusal_at, kind_refusal, kinds};
+ghost use Rattle.table_checker.specs.Search.{first_some};
+
+use crate::class::At;
+use crate::refusal::{Kind, Refusal};
+use net_rows::Issuer;
+
+/// The first refusal of each kind at the classes so far.
+#[derive(Clone, Copy, Debug)]
+pub(crate) struct Firsts {
+    pub no_rank: Option<Refusal>,
+    pub not_less: Option<Refusal>,
+    pub not_named: Option<Refusal>,
+    pub over_ceiling: Option<Refusal>,
+    pub no_issuer: Option<Refusal>,
+}
+
+impl Firsts {
+    pub fn new() -> Firsts
+        ensures { (kind : Kind) → of_kind result kind ≡ None }
+    {
+        Firsts {
+            no_rank: None,
+            not_less: None,
+            not_named: None,
+            over_ceiling: None,
+            no_issuer: None,
+        }
+    }
+
+    fn of_kind(&self, kind: Kind) -> Option<Refusal>
+        ensures { result ≡ of_kind self.now kind }
+    {
+        match kind {
+            Kind::NoRank => self.no_rank,
+            Kind::NotLess => self.not_less,
+            Kind::NotNamed => self.not_named,
+            Kind::OverCeiling => self.over_ceiling,
+            Kind::NoIssuer => self.no_issuer,
+        }
+    }
+
+    /// The first by kind.
+    pub fn first(&self) -> Option<Refusal>
+        ensures { result ≡ first_some (of_kind self.now) kinds }
+    {
+        for kind in [
+            Kind::NoRank,
+            Kind::NotLess,
+            Kind::NotNamed,
+            Kind::OverCeiling,
+            Kind::NoIssuer,
+        ] {
+            let found = self.of_kind(kind);
+            if found.is_some() {
+                return found;
+            }
+        }
+        None
+    }
+
+    /// Adds the refusals at the next class.
+    pub fn add(&mut self, at: &At)
+        ensures { (kind : Kind) → of_kind self.new kind ≡ option_or (of_kind self.old kind) (refusal_at at.now.tables.now at.now.cert.now kind at.now.class) }
+    {
+        match at.tables.issuer_at(&at.class) {
+            Some(issuer) => self.add_with_issuer(at, issuer),
+            None => self.add_without_issuer(at),
+        }
+    }
+
+    fn add_with_issuer(&mut self, at: &At, issuer: &Issuer)
+        ensures no_rank { self.new.no_rank ≡ option_or self.old.no_rank (kind_refusal at.now.tables.now at.now.cert.now at.now.class Kind.NoRank (Some issuer.now)) }
+        ensures not_less { self.new.not_less ≡ option_or self.old.not_less (kind_refusal at.now.tables.now at.now.cert.now at.now.class Kind.NotLess (Some issuer.now)) }
+        ensures not_named { self.new.not_named ≡ option_or self.old.not_named (kind_refusal at.now.tables.now at.now.cert.now at.now.class Kind.NotNamed (Some issuer.now)) }
+        ensures over_ceiling { self.new.over_ceiling ≡ option_or self.old.over_ceiling (kind_refusal at.now.tables.now at.now.cert.now at.now.class Kind.OverCeiling (Some issuer.now)) }
+        ensures no_issuer { self.new.no_issuer ≡ self.old.no_issuer }
+    {
+        let by_rank = at.by_rank(issuer);
+        self.no_rank = self.no_rank.or(by_rank.no_rank);
+        self.not_less = self.not_less.or(by_rank.not_less);
+        let by_day = at.by_day(issuer);
+        self.not_named = self.not_named.or(by_day.not_named);
+        self.over_ceiling = self.over_ceiling.or(by_day.over_ceiling);
+    }
+
+    // All rows are walked for it, and so only at the first such class.
+    fn add_without_issuer(&mut self, at: &At)
+        ensures no_issuer { self.new.no_issuer ≡ option_or self.old.no_issuer (kind_refusal at.now.tables.now at.now.cert.now at.now.class Kind.NoIssuer None) }
+        ensures no_rank { self.new.no_rank ≡ self.old.no_rank }
+        ensures not_less { self.new.not_less ≡ self.old.not_less }
+        ensures not_named { self.new.not_named ≡ self.old.not_named }
+        ensures over_ceiling { self.new.over_ceiling ≡ self.old.over_ceiling }
+    {
+        if self.no_issuer.is_none() {
+            self.no_issuer = at.first_without_issuer();
+        }
+    }
+}
+
+ghost use Rattle.std.specs.Prelude.{Some};
