@@ -69,6 +69,16 @@ impl Cert {
         }
     }
 
+    /// The same, with memory for so many rows at least.
+    pub fn with_room(alloc: Global, rows: usize) -> Result<Cert, AllocError>
+        ensures { IfOk result (λ cert. cert ≡ []) }
+    {
+        Ok(Cert {
+            rows: Vec::with_capacity(alloc, rows)?,
+            ranks: HashMap::with_capacity(alloc, rows)?,
+        })
+    }
+
     /// Adds a row at the end, but not where the pair is there or the bytes are no name.
     pub fn add(&mut self, name: &[u8], prefix: Prefix, rank: u16) -> Result<bool, AllocError>
         ensures added { IfOk result (λ added. added ≡ is_new self.old name.now prefix) }

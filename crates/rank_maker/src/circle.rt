@@ -47,7 +47,7 @@ fn leads_to(tables: &Tables, class: &Prefix, node: NodeNo, next: NodeNo) -> bool
 }
 
 /// The links of the node's route row for the class.
-pub(crate) fn route_links<'t>(tables: &'t Tables, class: &Prefix, node: NodeNo) -> &'t [LinkNo]
+fn route_links<'t>(tables: &'t Tables, class: &Prefix, node: NodeNo) -> &'t [LinkNo]
     ensures { result.now ≡ route_links tables.now class.now node }
 {
     match tables.route_at(node, class) {

@@ -2,6 +2,7 @@
 #![tactic(auto)]
 
 mod circle;
+mod in_force;
 mod maker;
 mod walk;
 

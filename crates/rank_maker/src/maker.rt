@@ -1,5 +1,6 @@
 //! Ranks for all classes.
-use crate::walk::{MOST_NODES, Routes, Stop, Walk};
+use crate::in_force::{InForce, MOST_NODES};
+use crate::walk::{Routes, Stop, Walk};
 use card_digits::{NodeNo, Prefix};
 use net_rows::{Tables, classes};
 use rank_cert::Cert;
@@ -28,17 +29,20 @@ pub fn make(alloc: Global, tables: &Tables) -> Made {
 }
 
 fn ranks(alloc: Global, tables: &Tables) -> Result<Made, AllocError> {
-    let mut cert = Cert::new(alloc);
-    for class in &classes(alloc, tables)? {
+    let classes = classes(alloc, tables)?;
+    let mut cert = Cert::with_room(alloc, count(tables, &classes))?;
+    let mut in_force = InForce::new(alloc, tables)?;
+    for class in &classes {
+        in_force.enter(*class)?;
         let Some(issuer) = tables.issuer_at(class) else {
             continue;
         };
         let routes = Routes {
             tables,
-            class: *class,
+            in_force: &in_force,
             home: issuer.home,
         };
-        match add_ranks(alloc, &routes, &mut cert) {
+        match add_ranks(alloc, &routes, class, &mut cert) {
             Ok(()) => {}
             Err(Stop::Circle(nodes)) => return Ok(Made::Circle(*class, nodes)),
             Err(Stop::GaveUp) => return Ok(Made::GaveUp),
@@ -47,12 +51,23 @@ fn ranks(alloc: Global, tables: &Tables) -> Result<Made, AllocError> {
     Ok(Made::Ranks(cert))
 }
 
+/// How many ranks there will be.
+fn count(tables: &Tables, classes: &[Prefix]) -> usize {
+    let mut count = 0usize;
+    for class in classes {
+        if tables.issuer_at(class).is_some() {
+            count = count.saturating_add(tables.nodes().len());
+        }
+    }
+    count
+}
+
 /// Adds the ranks of a class.
-fn add_ranks(alloc: Global, routes: &Routes, cert: &mut Cert) -> Result<(), Stop> {
+fn add_ranks(alloc: Global, routes: &Routes, class: &Prefix, cert: &mut Cert) -> Result<(), Stop> {
     let mut walk = Walk::new(alloc);
     for (i, row) in routes.tables.nodes().iter().enumerate() {
         let rank = walk.rank(routes, NodeNo::new(i), MOST_NODES)?;
-        if !cert.add(row.name.as_slice(), routes.class, rank)? {
+        if !cert.add(row.name.as_slice(), *class, rank)? {
             return Err(Stop::GaveUp);
         }
     }

@@ -1,12 +1,10 @@
 //! Longest walks along the routes for a class.
 ghost use Rattle.std.specs.Prelude.{◌≤◌, length};
 
-use crate::circle::route_links;
-use card_digits::{LinkNo, NodeNo, Prefix};
+use crate::in_force::{InForce, MOST_NODES};
+use card_digits::{LinkNo, NodeNo};
 use net_rows::Tables;
 use std::alloc::{AllocError, AllocFailed, Global};
-
-pub(crate) const MOST_NODES: usize = 64;
 
 /// What is known of a node.
 #[derive(Clone, Copy, Debug)]
@@ -36,11 +34,11 @@ impl<T: Drop> From<AllocFailed<T>> for Stop {
     }
 }
 
-/// The routes for a class, but not those of its home.
+/// The routes in force at a class, but not those of its home.
 #[derive(Clone, Copy, Debug)]
 pub(crate) struct Routes<'t> {
     pub(crate) tables: &'t Tables,
-    pub(crate) class: Prefix,
+    pub(crate) in_force: &'t InForce,
     pub(crate) home: NodeNo,
 }
 
@@ -49,7 +47,7 @@ impl<'t> Routes<'t> {
         if node == self.home {
             return &[];
         }
-        route_links(self.tables, &self.class, node)
+        self.in_force.links(self.tables, node)
     }
 }
 
