@@ -31,11 +31,24 @@ pub fn read_cert(alloc: Global, text: &[u8]) -> Result<Cert, CertFault>
     }
 }
 
+/// A line as long as most, in bytes.
+const USUAL_LINE: usize = 12;
+
+/// A certificate with room for so many rows, where memory is given for them.
+fn empty_cert(alloc: Global, rows: usize) -> Cert
+    ensures { result ≡ [] }
+{
+    match Cert::with_room(alloc, rows) {
+        Ok(cert) => cert,
+        Err(_) => Cert::new(alloc),
+    }
+}
+
 /// The rows of the lines behind the header.
 fn read_rows(alloc: Global, text: &[u8]) -> Result<Cert, CertFault>
     ensures { Gives result (rows_in [] (lines text.now)) }
 {
-    let mut cert = Cert::new(alloc);
+    let mut cert = empty_cert(alloc, text.len() / USUAL_LINE);
     let mut rest = text;
     while let Some((line, behind)) = first_line(rest) {
         if is_end(line) {
