@@ -2,16 +2,16 @@
 use Rattle.std.proofs.Common.{◌≡◌, ℕ, zero, suc, ◌+◌, ◌<◌, ◌≤◌, true, false, ltb, eqb, List, [], ◌∷◌, ◌++◌, length, get_or, take, drop, Some, None, refl, sym, ap, subst, ◌∙◌, append_assoc, add-one, drop-cons, arith, inl, inr}
 use Rattle.std.proofs.lemmas.Bool.{lt-ltb, le-ltb, eq-eqb, ne_eqb, cases_lt, cases_eq}
 use Rattle.std.proofs.Math.Seq.{take-suc}
-use Rattle.std.proofs.lemmas.List.{take_all, length-append}
+use Rattle.std.proofs.lemmas.List.{take_all}
 use Rattle.std.proofs.Math.ListN.{drop_of_length-le}
 use Rattle.std.specs.Prelude.{slice_set, slice_range, insert}
 use Rattle.iso_message.specs.declared.elements.Span.{Span}
 use Rattle.iso_message.specs.Finding.{find_element, put}
 use Rattle.iso_message.proofs.SpansMore.{seen_more, within_more}
-use Rattle.iso_message.specs.Spans.{shown, seen, IsWithin, AreWithin, IsLonger, placed}
+use Rattle.iso_message.specs.Spans.{start_of, end_of, shown, seen, IsWithin, AreWithin, IsLonger, placed}
 
 abbrev any : Span
-any = record { number = 0; text = 0; start = 0; end = 0 }
+any = record { text = 0; len = 0; digits = 0; number = 0 }
 
 drop_past : (i : ℕ) (spans : List Span) → length spans ≤ i → drop i spans ≡ []
 drop_past i spans h = drop_of_length-le spans h
@@ -96,7 +96,7 @@ within_placed values s (x ∷ xs) h w =
     ]
 
 -- an element that stands behind the others is put in its place
-pub put_behind : (old new : List ℕ) (spans : List Span) (s : Span) (n : ℕ) (value : List ℕ) → IsLonger old new → AreWithin old spans → s.number ≡ n → slice_range new s.start s.end ≡ value
+pub put_behind : (old new : List ℕ) (spans : List Span) (s : Span) (n : ℕ) (value : List ℕ) → IsLonger old new → AreWithin old spans → s.number ≡ n → slice_range new (start_of s) (end_of s) ≡ value
     → seen new (placed s spans) ≡ put n value (seen old spans)
 put_behind old new spans s n value l h at is =
     let longer : seen new spans ≡ seen old spans = ap (λ v. seen v spans) (IsLonger.is l) ∙ seen_more old (IsLonger.more l) spans h in

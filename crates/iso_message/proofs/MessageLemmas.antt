@@ -32,7 +32,7 @@ use Rattle.iso_message.proofs.Canonical.{weaker}
 -- ---- the table
 
 abbrev is_bounded : Form → Bool
-is_bounded (Fixed class size) = true
+is_bounded (Fixed class size) = ltb size 1000
 is_bounded (Llvar class most) = ltb most 100
 is_bounded (Lllvar class most) = ltb most 1000
 is_bounded Binary = true
@@ -67,6 +67,35 @@ in_rows (r ∷ rs) n form h e =
 listed : (n : ℕ) (form : Form) → form_of n ≡ Some form → IsListed n form
 unfolding form_of table
 listed n form e = in_rows table n form refl e
+
+abbrev pub most_of : Form → ℕ
+most_of (Fixed class size) = size
+most_of (Llvar class most) = most
+most_of (Lllvar class most) = most
+most_of Binary = 8
+
+few_bounded : (form : Form) → is_bounded form ≡ true → most_of form < 1000
+few_bounded (Fixed class size) b = ltb-true size 1000 b
+few_bounded (Llvar class most) b = omega (arith, ltb-true most 100 b)
+few_bounded (Lllvar class most) b = ltb-true most 1000 b
+few_bounded Binary b = omega arith
+
+-- no element has a thousand bytes
+pub few_listed : (n : ℕ) (form : Form) → form_of n ≡ Some form → most_of form < 1000
+few_listed n form e = few_bounded form (listed n form e).bounded
+
+good_most : (form : Form) (value : List ℕ) → IsGood (Some form) value → length value ≤ most_of form
+good_most (Fixed class size) value g = omega (arith, g.0)
+good_most (Llvar class most) value g = g.0
+good_most (Lllvar class most) value g = g.0
+good_most Binary value g = omega (arith, g.0)
+
+pub few_good : (n : ℕ) (value : List ℕ) → IsGood (form_of n) value → length value < 1000
+few_good n value g = go (form_of n) refl g
+  where
+    go : (form : Option Form) → form_of n ≡ form → IsGood form value → length value < 1000
+    go None e g = absurd g
+    go (Some form) e g = omega (arith, good_most form value g, few_listed n form e)
 
 -- ---- values
 
@@ -174,7 +203,7 @@ good_put n value (e ∷ es) v g =
 -- ---- spans
 
 abbrev pub any : Span
-any = record { number = 0; text = 0; start = 0; end = 0 }
+any = record { text = 0; len = 0; digits = 0; number = 0 }
 
 pub within_kept : (keeps : Span → Bool) (values : List ℕ) (spans : List Span) → AreWithin values spans → AreWithin values (filter keeps spans)
 within_kept keeps values [] h = tt

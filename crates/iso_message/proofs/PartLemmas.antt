@@ -11,9 +11,10 @@ use Rattle.iso_message.specs.Elements.{fits, content_at, counted_at, binary_at}
 use Rattle.iso_message.specs.Grammar.{Writes}
 use Rattle.iso_message.specs.Table.{form_of}
 use Rattle.iso_message.specs.Spelling.{two_digits, three_digits, piece}
-use Rattle.iso_message.specs.Spans.{seen, AreWithin}
+use Rattle.iso_message.specs.Spans.{start_of, end_of, seen, AreWithin}
 use Rattle.iso_message.specs.Parts.{Body, IsEnd, IsPart}
 use Rattle.iso_message.proofs.SpansMore.{range_more, within_push, seen_push}
+use Rattle.iso_message.proofs.MessageLemmas.{few_listed}
 use Rattle.iso_message.proofs.Pieces.{content_takes, counted_takes, binary_takes}
 
 abbrev the_body : List ℕ → List (ℕ × List ℕ) → Body
@@ -31,7 +32,7 @@ part_at values a b c k i j le e at to =
 -- the span of a part of the body, behind those that are there
 module _ (values : List ℕ) (spans : List Span) (s : Span) (k : ℕ) (body bytes content rest : List ℕ)
     (le : k ≤ length values) (is : take k values ≡ body) (end : IsEnd bytes body) (part : IsPart s.number bytes content rest)
-    (text : s.text ≡ k - length bytes) (to : s.end ≡ k - length rest) (from : s.start ≡ k - length rest - length content) where
+    (text : s.text ≡ k - length bytes) (before : s.digits ≡ length bytes - length rest - length content) (len : s.len ≡ length content) where
   whole : body ≡ end.0 ++ (part.head ++ (content ++ rest))
   whole = end.1 ∙ ap (λ bs. end.0 ++ bs) part.whole
 
@@ -41,18 +42,18 @@ module _ (values : List ℕ) (spans : List Span) (s : Span) (k : ℕ) (body byte
   bytes_long : length bytes ≡ length part.head + (length content + length rest)
   bytes_long = ap length part.whole ∙ length-append part.head (content ++ rest) ∙ ap (λ n. length part.head + n) (length-append content rest)
 
-  shows : slice_range values s.start s.end ≡ content
+  shows : slice_range values (start_of s) (end_of s) ≡ content
   shows =
       let parts : take k values ≡ (end.0 ++ part.head) ++ (content ++ rest) = is ∙ whole ∙ sym (append_assoc end.0 part.head (content ++ rest)) in
-      part_at values (end.0 ++ part.head) content rest k s.start s.end le parts (omega (arith, lengths, length-append end.0 part.head)) (omega (arith, lengths, length-append end.0 part.head))
+      part_at values (end.0 ++ part.head) content rest k (start_of s) (end_of s) le parts (omega (arith, lengths, bytes_long, text, before, length-append end.0 part.head)) (omega (arith, lengths, bytes_long, text, before, len, length-append end.0 part.head))
 
-  spells : slice_range values s.text s.end ≡ piece (form_of s.number) (slice_range values s.start s.end)
+  spells : slice_range values s.text (end_of s) ≡ piece (form_of s.number) (slice_range values (start_of s) (end_of s))
   spells =
       let parts : take k values ≡ end.0 ++ ((part.head ++ content) ++ rest) = is ∙ whole ∙ ap (λ bs. end.0 ++ bs) (sym (append_assoc part.head content rest)) in
-      part_at values end.0 (part.head ++ content) rest k s.text s.end le parts (omega (arith, lengths, bytes_long)) (omega (arith, lengths, length-append part.head content)) ∙ part.spelled ∙ ap (piece (form_of s.number)) (sym shows)
+      part_at values end.0 (part.head ++ content) rest k s.text (end_of s) le parts (omega (arith, lengths, bytes_long, text)) (omega (arith, lengths, bytes_long, text, before, len, length-append part.head content)) ∙ part.spelled ∙ ap (piece (form_of s.number)) (sym shows)
 
   pub within_part : AreWithin values spans → AreWithin values (spans ++ s ∷ [])
-  within_part h = within_push values spans s h (record { order = omega arith; inside = omega arith; spelled = λ lt. spells })
+  within_part h = within_push values spans s h (record { inside = omega (arith, lengths, bytes_long, text, before, len); spelled = λ other. spells })
 
   pub seen_part : seen values (spans ++ s ∷ []) ≡ seen values spans ++ (s.number, content) ∷ []
   seen_part = seen_push values spans s ∙ ap (λ (v : List ℕ). seen values spans ++ (s.number, v) ∷ []) shows
@@ -70,7 +71,7 @@ end_of_binary n body bytes v rest e b =
 pub fixed_part : (class : Class) (size n : ℕ) (bytes v rest : List ℕ) → form_of n ≡ Some (forms.Fixed class size) → content_at class size n bytes ≡ Ok (v, rest) → IsPart n bytes v rest
 fixed_part class size n bytes v rest f e =
     let c = content_takes class size n bytes v rest e in
-    record { head = []; whole = c.0; spelled = ap (λ form. piece form v) (sym f) }
+    record { head = []; whole = c.0; spelled = ap (λ form. piece form v) (sym f); digits = omega arith; few = omega (arith, c.1, few_listed n (forms.Fixed class size) f) }
 
 digit : (b : ℕ) → fits Digits b ≡ true → (48 ≤ b) × (b ≤ 57)
 digit b h = let p = and_parts _ _ h in (leb-true 48 b p.0, leb-true b 57 p.1)
@@ -108,6 +109,8 @@ two_part class most n bytes v rest f e =
       head = p.0;
       whole = t.1 ∙ ap (λ bs. bs ++ rest) p.1 ∙ append_assoc p.0 v rest;
       spelled = ap (λ ds. ds ++ v) (two_spelled (length v) p.0 p.2) ∙ ap (λ form. piece form v) (sym f);
+      digits = omega (arith, p.2.0);
+      few = omega (arith, p.3, few_listed n (forms.Llvar class most) f);
     }
 
 pub three_part : (class : Class) (most n : ℕ) (bytes v rest : List ℕ) → form_of n ≡ Some (forms.Lllvar class most) → counted_at 3 class most n bytes ≡ Ok (v, rest) → IsPart n bytes v rest
@@ -118,6 +121,8 @@ three_part class most n bytes v rest f e =
       head = p.0;
       whole = t.1 ∙ ap (λ bs. bs ++ rest) p.1 ∙ append_assoc p.0 v rest;
       spelled = ap (λ ds. ds ++ v) (three_spelled (length v) p.0 p.2) ∙ ap (λ form. piece form v) (sym f);
+      digits = omega (arith, p.2.0);
+      few = omega (arith, p.3, few_listed n (forms.Lllvar class most) f);
     }
 
 -- the view with one element more

@@ -1,13 +1,12 @@
 -- Elements in a copied part of a buffer.
-use Rattle.std.proofs.Common.{◌≡◌, ℕ, zero, suc, Some, None, ◌+◌, ◌-◌, ◌≤◌, ◌<◌, List, [], ◌∷◌, ◌++◌, length, take, drop, true, false, ltb, refl, sym, ap, subst, ◌∙◌, arith, inl, inr}
+use Rattle.std.proofs.Common.{◌≡◌, ℕ, zero, suc, Some, None, ◌+◌, ◌-◌, ◌≤◌, List, [], ◌∷◌, take, drop, sym, ap, subst, ◌∙◌, arith}
 use Rattle.std.specs.Prelude.{slice_range, slice_get}
-use Rattle.std.proofs.lemmas.Bool.{cases_Bool, ltb-true, ltb-false}
 use Rattle.std.proofs.lemmas.List.{drop-drop, take-take, drop-take}
 use Rattle.iso_message.specs.declared.elements.Span.{Span}
 use Rattle.iso_message.specs.declared.elements.Run.{Run}
 use Rattle.iso_message.specs.Table.{form_of}
 use Rattle.iso_message.specs.Spelling.{piece}
-use Rattle.iso_message.specs.Spans.{shown, seen, IsWithin, AreWithin, IsInRun, moved, moved_place, IsCopied}
+use Rattle.iso_message.specs.Spans.{start_of, end_of, shown, IsWithin, AreWithin, IsInRun, moved, moved_place, IsCopied}
 
 -- a part of a part is a part
 part_of_part : (xs : List ℕ) (k n a m : ℕ) → a + m ≤ n → take m (drop a (take n (drop k xs))) ≡ take m (drop (k + a) xs)
@@ -34,20 +33,25 @@ moved_range values copies run i j c at order to =
     ∙ part_of_part values run.from n a m few
     ∙ ap (λ z. take m (drop z values)) back
 
-pub moved_shows : (values copies : List ℕ) (run : Run) (s : Span) → IsCopied values copies run → IsInRun run s → IsWithin values s → shown copies (moved run s) ≡ shown values s
-moved_shows values copies run s c r w = ap (λ (v : List ℕ). (s.number, v)) (moved_range values copies run s.start s.end c (IsInRun.start r) (IsWithin.order w) (IsInRun.end r))
+-- the copy of what stands from a place of an element to its end
+moved_from : (values copies : List ℕ) (run : Run) (s : Span) (i : ℕ) → IsCopied values copies run → IsInRun run s → run.from ≤ i → i ≤ end_of s → slice_range copies (moved_place run i) (end_of (moved run s)) ≡ slice_range values i (end_of s)
+moved_from values copies run s i c r at order =
+    let to : end_of (moved run s) ≡ moved_place run (end_of s) = omega (arith, IsInRun.text r) in
+    ap (slice_range copies (moved_place run i)) to ∙ moved_range values copies run i (end_of s) c at order (IsInRun.end r)
+
+moved_bytes : (values copies : List ℕ) (run : Run) (s : Span) → IsCopied values copies run → IsInRun run s → slice_range copies (start_of (moved run s)) (end_of (moved run s)) ≡ slice_range values (start_of s) (end_of s)
+moved_bytes values copies run s c r =
+    let from : start_of (moved run s) ≡ moved_place run (start_of s) = omega (arith, IsInRun.text r) in
+    ap (λ i. slice_range copies i (end_of (moved run s))) from ∙ moved_from values copies run s (start_of s) c r (omega (arith, IsInRun.text r)) (omega arith)
+
+pub moved_shows : (values copies : List ℕ) (run : Run) (s : Span) → IsCopied values copies run → IsInRun run s → shown copies (moved run s) ≡ shown values s
+moved_shows values copies run s c r = ap (λ (v : List ℕ). (s.number, v)) (moved_bytes values copies run s c r)
 
 pub moved_within : (values copies : List ℕ) (run : Run) (s : Span) → IsCopied values copies run → IsInRun run s → IsWithin values s → IsWithin copies (moved run s)
-moved_within values copies run s c r w =
-    let bytes = moved_range values copies run s.start s.end c (IsInRun.start r) (IsWithin.order w) (IsInRun.end r) in
-    record {
-      order = omega (arith, IsInRun.start r, IsWithin.order w);
-      inside = omega (arith, IsInRun.end r, IsInRun.start r, IsWithin.order w, IsCopied.there c, IsCopied.order c);
-      spelled = elim (cases_Bool (ltb s.text s.end)) [
-        | inl t ↦ rw t (λ lt. moved_range values copies run s.text s.end c (IsInRun.text r) (omega (arith, ltb-true s.text s.end t)) (IsInRun.end r) ∙ IsWithin.spelled w (ltb-true s.text s.end t) ∙ ap (piece (form_of s.number)) (sym bytes))
-        | inr f ↦ rw f (λ lt. absurd (omega (arith, lt)))
-      ];
-    }
+moved_within values copies run s c r w = record {
+  inside = omega (arith, IsInRun.end r, IsInRun.text r, IsCopied.there c, IsCopied.order c);
+  spelled = λ other. moved_from values copies run s s.text c r (IsInRun.text r) (omega arith) ∙ IsWithin.spelled w other ∙ ap (piece (form_of s.number)) (sym (moved_bytes values copies run s c r));
+}
 
 pub within_drop : (values : List ℕ) (spans : List Span) (i : ℕ) → AreWithin values spans → AreWithin values (drop i spans)
 within_drop values spans zero w = w

@@ -1,21 +1,21 @@
 -- Pieces that stand in the buffer one behind the other are written together.
-use Rattle.std.proofs.Common.{◌≡◌, ℕ, ◌+◌, ◌-◌, ◌<◌, ◌≤◌, List, [], ◌∷◌, ◌++◌, length, get_or, take, drop, refl, sym, ap, subst, ◌∙◌, append_assoc, arith}
+use Rattle.std.proofs.Common.{◌≡◌, ℕ, ◌+◌, ◌-◌, ◌<◌, ◌≤◌, false, List, [], ◌∷◌, ◌++◌, length, get_or, take, drop, refl, sym, ap, subst, ◌∙◌, append_assoc, arith}
 use Rattle.std.specs.Prelude.{slice_range}
 use Rattle.std.proofs.lemmas.List.{take-append-drop, take-take, drop-take, drop-drop, drop_more}
 use Rattle.iso_message.specs.declared.elements.Span.{Span}
 use Rattle.iso_message.specs.Table.{form_of}
-use Rattle.iso_message.specs.Spans.{seen, IsWithin}
-use Rattle.iso_message.specs.Spelling.{IsGood, AreGood, piece, pieces}
+use Rattle.iso_message.specs.Spans.{start_of, end_of, seen, IsWithin}
+use Rattle.iso_message.specs.Spelling.{IsGood, AreGood, is_binary, piece, pieces}
 use Rattle.iso_message.proofs.MessageLemmas.{any}
 
 abbrev pub piece_of : List ℕ → Span → List ℕ
-piece_of values s = piece (form_of s.number) (slice_range values s.start s.end)
+piece_of values s = piece (form_of s.number) (slice_range values (start_of s) (end_of s))
 
 pub pieces_at : (values : List ℕ) (spans : List Span) (i : ℕ) → i < length spans → pieces (seen values (drop i spans)) ≡ piece_of values (get_or spans i any) ++ pieces (seen values (drop (i + 1) spans))
 pieces_at values spans i h = rw (drop_more spans i any h) refl
 
 pub good_at : (values : List ℕ) (spans : List Span) (i : ℕ) → i < length spans → AreGood (seen values (drop i spans))
-    → IsGood (form_of (get_or spans i any).number) (slice_range values (get_or spans i any).start (get_or spans i any).end) × AreGood (seen values (drop (i + 1) spans))
+    → IsGood (form_of (get_or spans i any).number) (slice_range values (start_of (get_or spans i any)) (end_of (get_or spans i any))) × AreGood (seen values (drop (i + 1) spans))
 good_at values spans i h g =
     let both : AreGood (seen values (get_or spans i any ∷ drop (i + 1) spans)) = subst (λ (ss : List Span). AreGood (seen values ss)) (drop_more spans i any h) g in
     (both.0, both.1)
@@ -42,18 +42,18 @@ written_alone values out from to at p later all e =
     ∙ e
 
 -- the bytes that wait are written, and a piece waits
-pub waits_anew : (values out : List ℕ) (from to : ℕ) (s : Span) (later all : List ℕ) → IsWithin values s → s.text < s.end → out ++ (slice_range values from to ++ (piece_of values s ++ later)) ≡ all
-    → (out ++ slice_range values from to) ++ (slice_range values s.text s.end ++ later) ≡ all
-waits_anew values out from to s later all w lt e =
-    append_assoc out (slice_range values from to) (slice_range values s.text s.end ++ later)
-    ∙ ap (λ p. out ++ (slice_range values from to ++ (p ++ later))) (w.spelled lt)
+pub waits_anew : (values out : List ℕ) (from to : ℕ) (s : Span) (later all : List ℕ) → IsWithin values s → is_binary (form_of s.number) ≡ false → out ++ (slice_range values from to ++ (piece_of values s ++ later)) ≡ all
+    → (out ++ slice_range values from to) ++ (slice_range values s.text (end_of s) ++ later) ≡ all
+waits_anew values out from to s later all w other e =
+    append_assoc out (slice_range values from to) (slice_range values s.text (end_of s) ++ later)
+    ∙ ap (λ p. out ++ (slice_range values from to ++ (p ++ later))) (w.spelled other)
     ∙ e
 
 -- a piece waits behind others
-pub waits_too : (values out : List ℕ) (from : ℕ) (s : Span) (later all : List ℕ) → IsWithin values s → s.text < s.end → from ≤ s.text → out ++ (slice_range values from s.text ++ (piece_of values s ++ later)) ≡ all
-    → out ++ (slice_range values from s.end ++ later) ≡ all
-waits_too values out from s later all w lt le e =
-    ap (λ xs. out ++ (xs ++ later)) (sym (ranges_join values from s.text s.end le (omega arith)))
-    ∙ ap (λ xs. out ++ xs) (append_assoc (slice_range values from s.text) (slice_range values s.text s.end) later)
-    ∙ ap (λ p. out ++ (slice_range values from s.text ++ (p ++ later))) (w.spelled lt)
+pub waits_too : (values out : List ℕ) (from : ℕ) (s : Span) (later all : List ℕ) → IsWithin values s → is_binary (form_of s.number) ≡ false → from ≤ s.text → out ++ (slice_range values from s.text ++ (piece_of values s ++ later)) ≡ all
+    → out ++ (slice_range values from (end_of s) ++ later) ≡ all
+waits_too values out from s later all w other le e =
+    ap (λ xs. out ++ (xs ++ later)) (sym (ranges_join values from s.text (end_of s) le (omega arith)))
+    ∙ ap (λ xs. out ++ xs) (append_assoc (slice_range values from s.text) (slice_range values s.text (end_of s)) later)
+    ∙ ap (λ p. out ++ (slice_range values from s.text ++ (p ++ later))) (w.spelled other)
     ∙ e

@@ -14,8 +14,11 @@ pub(crate) enum Carried {
 fn is_in_response(number: u8) -> bool
     ensures { result ≡ is_one_of response_numbers number }
 {
+    if number >= 64 {
+        return number == 90;
+    }
     match number {
-        2 | 3 | 4 | 7 | 11 | 15 | 32 | 33 | 37 | 41 | 49 | 90 => true,
+        2 | 3 | 4 | 7 | 11 | 15 | 32 | 33 | 37 | 41 | 49 => true,
         _ => false,
     }
 }
@@ -40,6 +43,30 @@ impl Carried {
         match self {
             Carried::Response => is_in_response(number),
             Carried::Advice => is_in_advice(number),
+        }
+    }
+
+    /// At most so many elements are carried on.
+    pub(crate) fn count(self) -> usize {
+        match self {
+            Carried::Response => 12,
+            Carried::Advice => 10,
+        }
+    }
+
+    /// How many elements are added to them: 39, and of an advice 33 and 90 too.
+    pub(crate) fn more_elements(self) -> usize {
+        match self {
+            Carried::Response => 1,
+            Carried::Advice => 3,
+        }
+    }
+
+    /// The bytes of the pieces that are added.
+    pub(crate) fn more_bytes(self) -> usize {
+        match self {
+            Carried::Response => 2,
+            Carried::Advice => 2 + 13 + 42,
         }
     }
 }

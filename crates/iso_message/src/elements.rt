@@ -3,9 +3,9 @@ ghost use Rattle.std.specs.Prelude.{◌≡◌, ◌≤◌, [], ◌∷◌, ◌++�
 ghost use Rattle.iso_message.specs.Finding.{find_element, put, without};
 ghost use Rattle.iso_message.specs.Made.{kept};
 ghost use Rattle.iso_message.specs.Carried.{carried_numbers};
-ghost use Rattle.iso_message.specs.Spelling.{Ascends, IsGood, AreGood, bits, low_numbers, high_numbers, pieces, is_binary};
+ghost use Rattle.iso_message.specs.Spelling.{Ascends, IsGood, AreGood, bits, low_numbers, high_numbers, pieces};
 ghost use Rattle.iso_message.specs.Table.{form_of};
-ghost use Rattle.iso_message.specs.Spans.{seen, IsWithin, AreWithin, IsLonger, placed, numbers, IsInRun, moved, moved_place, IsCopied};
+ghost use Rattle.iso_message.specs.Spans.{start_of, end_of, seen, IsWithin, AreWithin, IsLonger, placed, numbers, IsInRun, moved, moved_place, IsCopied};
 ghost use Rattle.iso_message.specs.declared.elements.Span.{Span};
 
 mod parts;
@@ -17,69 +17,66 @@ use std::alloc::{AllocError, Global};
 use std::marker::Model;
 use std::mem;
 
-/// Where an element's bytes stand.
+/// Where an element stands in the buffer: its piece as it is spelled, or the eight bytes of a binary element.
 #[derive(Clone, Copy, Debug)]
 pub(crate) struct Span {
-    number: u8,
-    /// Where its piece begins as it is spelled, before the end of its bytes. The end itself where it doesn't stand there.
     text: u32,
-    start: u32,
-    end: u32,
+    /// The number of its bytes, which end its piece.
+    len: u16,
+    /// How many digits of its length stand before its bytes.
+    digits: u8,
+    number: u8,
 }
 
-/// The span of so many bytes from a place on. There is none where the buffer would have 4 GiB.
-fn span_after(number: u8, start: usize, len: usize) -> Result<Span, AllocError>
-    ensures { IfOk result (λ s. s ≡ record { number = number; text = start + len; start = start; end = start + len }) }
-{
-    let most = u32::MAX as usize;
-    if start > most || len > most - start {
-        return Err(AllocError);
+impl Span {
+    /// The span of an element that stands from a place on. There is none where the place is 4 GiB or more.
+    fn at(number: u8, text: usize, digits: usize, len: usize) -> Result<Span, AllocError>
+        requires digits { digits < 4 }
+        requires len { len < 1_000 }
+        ensures { IfOk result (λ s. s ≡ record { text = text; len = len; digits = digits; number = number }) }
+    {
+        if text > u32::MAX as usize {
+            return Err(AllocError);
+        }
+        Ok(Span {
+            text: text as u32,
+            len: len as u16,
+            digits: digits as u8,
+            number,
+        })
     }
-    let end = (start + len) as u32;
-    Ok(Span {
-        number,
-        text: end,
-        start: start as u32,
-        end,
-    })
-}
 
-/// The span of an element whose piece stands from a place on, and its bytes, of which there are so many, from a later one on. The
-/// bytes of a binary element aren't its piece.
-fn piece_span(number: u8, text: usize, start: usize, len: usize) -> Result<Span, AllocError>
-    requires { text ≤ start }
-    ensures { IfOk result (λ s. s ≡ record { number = number; text = if is_binary (form_of number) then start + len else text; start = start; end = start + len }) }
-{
-    let span = span_after(number, start, len)?;
-    if is_binary(number) {
-        return Ok(span);
+    /// Where its bytes begin.
+    #[inline(always)]
+    fn start(self) -> usize
+        ensures { result ≡ start_of self }
+    {
+        self.text as usize + self.digits as usize
     }
-    Ok(Span {
-        text: text as u32,
-        ..span
-    })
+
+    /// Where its bytes end.
+    #[inline(always)]
+    fn end(self) -> usize
+        ensures { result ≡ end_of self }
+    {
+        self.start() + self.len as usize
+    }
 }
 
 /// Adds an element's piece behind the bytes of a buffer, of a binary element its bytes alone.
 fn append(values: &mut Vec<u8>, number: u8, content: &[u8]) -> Result<Span, AllocError>
     requires good { IsGood (form_of number) content.now }
     ensures number { IfOk result (λ s. s.number ≡ number) }
-    ensures shows { IfOk result (λ s. slice_range values.new.items s.start s.end ≡ content.now) }
+    ensures shows { IfOk result (λ s. slice_range values.new.items (start_of s) (end_of s) ≡ content.now) }
     ensures within { IfOk result (IsWithin values.new.items) }
     ensures more { IsLonger values.old.items values.new.items }
 {
     let text = values.len();
     push_length(values, number, content.len())?;
-    let span = piece_span(number, text, values.len(), content.len())?;
+    let span = Span::at(number, text, values.len() - text, content.len())?;
     values.extend_from_slice(content)?;
     Ok(span)
 }
-
-/// The elements that are added to the ones that a message keeps of another: 33, 39 and 90.
-const MORE_ELEMENTS: usize = 3;
-
-/// The bytes of their pieces.
-const MORE_BYTES: usize = 13 + 2 + 42;
 
 /// The bytes of a buffer that is copied whole sooner than piece by piece.
 const SMALL: usize = 512;
@@ -191,8 +188,10 @@ impl Elements {
         ensures { IfOk result (λ es. es ≡ kept (carried_numbers carried) self.now) }
     {
         let alloc = self.allocator();
-        let mut spans = Vec::with_capacity(alloc, self.spans.len().saturating_add(MORE_ELEMENTS))?;
-        let mut values = Vec::with_capacity(alloc, self.values.len().saturating_add(MORE_BYTES))?;
+        let count = self.spans.len().min(carried.count());
+        let mut spans = Vec::with_capacity(alloc, count.saturating_add(carried.more_elements()))?;
+        let room = self.values.len().saturating_add(carried.more_bytes());
+        let mut values = Vec::with_capacity(alloc, room)?;
         if self.values.len() <= SMALL {
             values.extend_from_slice(&self.values)?;
             keep_spans(&self.spans, &self.values, carried, &mut spans)?;
@@ -257,7 +256,7 @@ fn value_of<'a>(spans: &[Span], values: &'a [u8], number: u8) -> Option<&'a [u8]
 {
     for span in spans {
         if span.number == number {
-            return Some(&values[span.start as usize..span.end as usize]);
+            return Some(&values[span.start()..span.end()]);
         }
     }
     None
@@ -270,7 +269,7 @@ fn element_at<'a>(spans: &[Span], values: &'a [u8], place: usize) -> (u8, &'a [u
     ensures { drop place (seen values.now spans.now) ≡ (result.0, result.1.now) ∷ drop (place + 1) (seen values.now spans.now) }
 {
     let span = spans[place];
-    (span.number, &values[span.start as usize..span.end as usize])
+    (span.number, &values[span.start()..span.end()])
 }
 
 /// Adds the spans of the elements that are carried on to none.
@@ -302,60 +301,49 @@ struct Run {
 }
 
 impl Run {
-    /// Whether an element's bytes stand in the part, its piece with them where it has one.
+    /// Whether an element stands in the part.
     fn has(self, span: Span) -> bool
         ensures { IsTrue result ↔ IsInRun self span }
     {
-        self.from <= span.text as usize
-            && self.from <= span.start as usize
-            && span.end as usize <= self.to
+        self.from <= span.text as usize && span.end() <= self.to
     }
 
     /// The span of the same element in the copy.
     fn moved(self, span: Span) -> Result<Span, AllocError>
         requires inside { IsInRun self span }
-        requires order { span.start ≤ span.end }
         requires there { moved_place self self.to < 2 ^ 64 }
         ensures { IfOk result (λ s. s ≡ moved self span) }
     {
-        let end = self.copy + (span.end as usize - self.from);
-        if end > u32::MAX as usize {
+        let text = self.copy + (span.text as usize - self.from);
+        if text > u32::MAX as usize {
             return Err(AllocError);
         }
-        let start = self.copy + (span.start as usize - self.from);
-        let mut text = end;
-        if span.text < span.end {
-            text = self.copy + (span.text as usize - self.from);
-        }
         Ok(Span {
-            number: span.number,
             text: text as u32,
-            start: start as u32,
-            end: end as u32,
+            ..span
         })
     }
 }
 
-/// Where the pieces that are carried on end that stand one behind the other, of which an element's is the first.
+/// Where the elements that are carried on end that stand one behind the other, of which this is the first.
 fn run_end(spans: &[Span], values: &[u8], carried: Carried, place: usize, first: Span) -> usize
     requires within { AreWithin values.now spans.now }
     requires at { slice_get spans.now place ≡ Some first }
-    ensures end { first.end ≤ result }
+    ensures end { end_of first ≤ result }
     ensures inside { result ≤ length values.now }
 {
-    let mut end = first.end;
+    let mut end = first.end();
     for i in place + 1..spans.len() {
         let next = spans[i];
-        let touches = next.text == end && next.text < next.end;
-        if !touches || !carried.has(next.number) {
-            return end as usize;
+        if next.text as usize != end || !carried.has(next.number) {
+            return end;
         }
-        end = next.end;
+        end = next.end();
     }
-    end as usize
+    end
 }
 
-/// Copies the part of a buffer that begins with an element and goes as far as the pieces that are carried on touch.
+/// Copies the part of a buffer that begins with an element and goes as far as those that are carried on touch.
 fn copy_run(
     spans: &[Span],
     values: &[u8],
@@ -370,7 +358,7 @@ fn copy_run(
     ensures has { IfOk result (λ run. IsInRun run first) }
     ensures more { OnOk result (IsLonger copies.old.items copies.new.items) }
 {
-    let from = first.text.min(first.start) as usize;
+    let from = first.text as usize;
     let to = run_end(spans, values, carried, place, first);
     let copy = copies.len();
     copies.extend_from_slice(&values[from..to])?;
@@ -471,10 +459,10 @@ fn push_pieces(out: &mut Vec<u8>, spans: &[Span], values: &[u8]) -> Result<(), A
     let mut to: usize = 0;
     for span in spans {
         let text = span.text as usize;
-        let end = span.end as usize;
-        if text >= end {
+        let end = span.end();
+        if is_binary(span.number) {
             push_part(out, values, from, to)?;
-            push_piece(out, span.number, &values[span.start as usize..end])?;
+            push_piece(out, span.number, &values[span.start()..end])?;
             from = end;
         } else if text != to {
             push_part(out, values, from, to)?;

@@ -245,6 +245,11 @@ fn second_map(first: u64, bytes: &[u8]) -> Result<(u64, &[u8]), DecodeFault>
     bit_map(bytes)
 }
 
+/// The bits of the binary elements in the maps: 52 and 64, and 128.
+const BINARY_LOW: u64 = 1 << 12 | 1;
+
+const BINARY_HIGH: u64 = 1;
+
 /// Puts the elements that the bytes spell in the place and the memory of older ones, and returns the type. After a fault there
 /// are none.
 #[tactic(auto, unfolding(crate::specs::Messages::read))]
@@ -258,7 +263,8 @@ pub(crate) fn read_into(elements: &mut Elements, bytes: &[u8]) -> Result<Kind, D
     let (second, body) = second_map(first, rest)?;
     let low = first % (1 << 63);
     let count = low.count_ones() + second.count_ones();
-    let mut parts = Parts::of(old, count as usize, body)?;
+    let binary = (low & BINARY_LOW).count_ones() + (second & BINARY_HIGH).count_ones();
+    let mut parts = Parts::of(old, count as usize, binary as usize, body)?;
     let mut known = Known::of(body);
     let rest = add_all(&mut parts, 64, low, body, &mut known)?;
     let rest = add_all(&mut parts, 128, second, rest, &mut known)?;

@@ -1,8 +1,10 @@
 //! Elements as they are read.
-ghost use Rattle.std.specs.Prelude.{◌≡◌, [], ◌∷◌, ◌++◌, OnOk, IfOk};
+ghost use Rattle.std.specs.Prelude.{◌≡◌, true, [], ◌∷◌, ◌++◌, OnOk, IfOk};
+ghost use Rattle.iso_message.specs.Table.{form_of};
+ghost use Rattle.iso_message.specs.Spelling.{is_binary};
 ghost use Rattle.iso_message.specs.Parts.{IsEnd, IsPart};
 
-use super::{Elements, Span, span_after};
+use super::{Elements, Span};
 use std::alloc::AllocError;
 use std::marker::Model;
 
@@ -26,12 +28,14 @@ impl Model for Parts {
     ghost invariant = { λ a. (a.size ≤ length a.values.items) × (a.size < 2 ^ 32) × AreWithin a.values.items a.spans.items };
 }
 
-/// The bytes of the three binary elements.
-const BINARY_ROOM: usize = 3 * 8;
-
 impl Parts {
-    /// No elements yet of a body, in the memory of older elements.
-    pub(crate) fn of(old: Elements, count: usize, body: &[u8]) -> Result<Parts, AllocError>
+    /// No elements yet of a body, in the memory of older elements, with room for so many, of which some are binary.
+    pub(crate) fn of(
+        old: Elements,
+        count: usize,
+        binary: usize,
+        body: &[u8],
+    ) -> Result<Parts, AllocError>
         ensures { IfOk result (λ p. p ≡ record { body = body.now; elements = [] }) }
     {
         let Elements {
@@ -44,7 +48,7 @@ impl Parts {
             return Err(AllocError);
         }
         spans.reserve(count)?;
-        values.reserve(body.len().saturating_add(BINARY_ROOM))?;
+        values.reserve(body.len().saturating_add(binary.saturating_mul(8)))?;
         values.extend_from_slice(body)?;
         let size = body.len();
         Ok(Parts {
@@ -68,22 +72,22 @@ impl Parts {
         ensures { OnOk result (self.new ≡ record { body = self.old.body; elements = self.old.elements ++ (number, content.now) ∷ [] }) }
     {
         let text = self.size - bytes.len();
-        let end = self.size - rest.len();
-        let start = end - content.len();
+        let digits = bytes.len() - rest.len() - content.len();
         self.spans.push(Span {
-            number,
             text: text as u32,
-            start: start as u32,
-            end: end as u32,
+            len: content.len() as u16,
+            digits: digits as u8,
+            number,
         })?;
         Ok(())
     }
 
     /// Adds an element whose bytes don't stand in the body.
-    pub(crate) fn add_binary(&mut self, number: u8, value: &[u8]) -> Result<(), AllocError>
+    pub(crate) fn add_binary(&mut self, number: u8, value: &[u8; 8]) -> Result<(), AllocError>
+        requires { is_binary (form_of number) ≡ true }
         ensures { OnOk result (self.new ≡ record { body = self.old.body; elements = self.old.elements ++ (number, value.now) ∷ [] }) }
     {
-        let span = span_after(number, self.values.len(), value.len())?;
+        let span = Span::at(number, self.values.len(), 0, value.len())?;
         self.values.extend_from_slice(value)?;
         self.spans.push(span)?;
         Ok(())

@@ -1,5 +1,5 @@
 use Rattle.std.proofs.Common.{◌≡◌, [], ◌∷◌, ◌++◌, ◌+◌, sym, ap, ◌∙◌, append_assoc, get_or, drop, rules}
-use Rattle.iso_message.specs.Spans.{shown, seen, AreWithin, IsLonger, moved}
+use Rattle.iso_message.specs.Spans.{shown, seen, moved}
 use Rattle.iso_message.specs.Made.{kept}
 use Rattle.iso_message.specs.Carried.{carried_numbers}
 use Rattle.iso_message.proofs.Finding.{within_at, longer_within, longer_seen}
@@ -28,7 +28,7 @@ loop-place-preserved c =
           let longer = w.in_ok-found.ensures.more in
           let at = kept_at numbers values spans i c.loop-place-test.true (sym c.has.ensures ∙ w.if-has.true) in
           let pushed : w.push.new.self.items ≡ so_far ++ moved run s ∷ [] = search rules in
-          let shows = moved_shows values new run s copied w.in_ok-found.ensures.has within.0 in
+          let shows = moved_shows values new run s copied w.in_ok-found.ensures.has in
           let inside = moved_within values new run s copied w.in_ok-found.ensures.has within.0 in
           let stays : seen new so_far ≡ seen old so_far = longer_seen old new so_far longer c.loop-place.invariant.within in
           let now : seen new (so_far ++ moved run s ∷ []) ≡ seen old so_far ++ shown values s ∷ [] = seen_push new so_far (moved run s) ∙ ap (λ x. seen new so_far ++ x ∷ []) shows ∙ ap (λ xs. xs ++ shown values s ∷ []) stays in

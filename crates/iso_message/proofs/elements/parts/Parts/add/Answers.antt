@@ -8,14 +8,14 @@ use Rattle.iso_message.proofs.elements.parts.Parts.add.Goals as goal
 pub invariant_of-self-2 : goal.invariant_of-self-2
 invariant_of-self-2 c =
     let k = c.self.inside.size in
-    let s : Span = record { number = c.args.number; text = k - length c.args.bytes.now; start = k - length c.args.rest.now - length c.args.content.now; end = k - length c.args.rest.now } in
+    let s : Span = record { text = k - length c.args.bytes.now; len = length c.args.content.now; digits = length c.args.bytes.now - length c.args.rest.now - length c.args.content.now; number = c.args.number } in
     let spans : c.push.new.self.items ≡ c.self.inside.spans.items ++ s ∷ [] = search rules in
     (c.self.invariant.0, c.self.invariant.1, rw spans (within_part c.self.inside.values.items c.self.inside.spans.items s k c.args.self.now.body c.args.bytes.now c.args.content.now c.args.rest.now c.self.invariant.0 (ap (λ (b : Body). b.body) c.self.view_is) c.requires.end c.requires.part refl refl refl c.self.invariant.2))
 
 pub returns : goal.returns
 returns c =
     let k = c.self.inside.size in
-    let s : Span = record { number = c.args.number; text = k - length c.args.bytes.now; start = k - length c.args.rest.now - length c.args.content.now; end = k - length c.args.rest.now } in
+    let s : Span = record { text = k - length c.args.bytes.now; len = length c.args.content.now; digits = length c.args.bytes.now - length c.args.rest.now - length c.args.content.now; number = c.args.number } in
     let spans : c.push.new.self.items ≡ c.self.inside.spans.items ++ s ∷ [] = search rules in
     let body = ap (λ (b : Body). b.body) c.self.view_is in
     let shown : seen c.self.inside.values.items (c.self.inside.spans.items ++ s ∷ []) ≡ seen c.self.inside.values.items c.self.inside.spans.items ++ (c.args.number, c.args.content.now) ∷ [] =
