@@ -3,6 +3,7 @@ ghost use Rattle.std.specs.Prelude.{◌≡◌, ◌≤◌, ◌<◌, ◌^◌, ◌+
 ghost use Rattle.card_digits.specs.declared.key.Key.{Key};
 ghost use Rattle.entry_changes.specs.SoFar.{link_from, forward_from, advice_from, count_from};
 ghost use Rattle.entry_changes.specs.Late.{few};
+ghost use Rattle.node_books.specs.Effects.{applied};
 ghost use Rattle.entry_changes.specs.declared.so_far.Forwarding.{Forwarding};
 
 use crate::late::{FEW, LateChanges};
@@ -13,10 +14,9 @@ use crate::so_far::{
 use book_index::Place;
 use card_digits::{Key, LinkNo};
 use iso_message::AdviceId;
-use node_books::Effect;
+use node_books::{Books, Effect};
 use std::alloc::{AllocError, Global};
 use std::marker::Model;
-use std::mem::replace;
 
 /// The changes of an entry, in their order. What a look costs doesn't grow with their number, except where two of the later ones speak of
 /// the same advice, or one of them opens or forwards a request or is a tick: then all are gone through.
@@ -37,6 +37,17 @@ impl Model for Changes {
     ghost view = { λ c. c.effects.items };
 
     ghost invariant = { λ c. AreLate (drop few c.effects.items) c.late };
+}
+
+/// Does the changes to the books, in their order.
+fn apply_each(effects: &mut Vec<Effect>, books: &mut Books)
+    requires room { length effects.old.items ≤ books.old.room }
+    ensures books { books.new.lists ≡ applied effects.old.items books.old.lists }
+    ensures none { effects.new.items ≡ [] }
+{
+    for effect in effects.drain(..) {
+        books.apply(effect);
+    }
 }
 
 impl Changes {
@@ -70,6 +81,14 @@ impl Changes {
         }
     }
 
+    /// Whether there are none after the first few.
+    #[tactic(auto, using(std::proofs::lemmas::List::drop_all))]
+    fn are_few(&self) -> bool
+        ensures { result ≡ true → drop few self.now ≡ [] }
+    {
+        self.effects.len() <= FEW
+    }
+
     /// Whether the next change is none of the first few.
     pub fn is_next_late(&self) -> bool
         ensures late { result ≡ true → few ≤ length self.now }
@@ -97,23 +116,26 @@ impl Changes {
         Ok(())
     }
 
-    /// Hands the changes out, and none are left.
-    pub fn take(&mut self) -> Vec<Effect>
-        ensures taken { result.items ≡ self.old }
-        ensures left { self.new ≡ [] }
+    /// Does the changes to the books, in their order, and none are left. The memory of a short list is kept for the next entry.
+    pub fn apply_to(&mut self, books: &mut Books)
+        requires room { length self.old ≤ books.old.room }
+        ensures books { books.new.lists ≡ applied self.old books.old.lists }
+        ensures none { self.new ≡ [] }
     {
-        let effects = replace(&mut self.effects, Vec::new(self.alloc));
-        if FEW < effects.len() {
+        let none_late = self.are_few();
+        apply_each(&mut self.effects, books);
+        if !none_late {
+            self.effects = Vec::new(self.alloc);
             self.late = LateChanges::new(self.alloc);
         }
-        effects
     }
 
     /// None are left.
     pub fn clear(&mut self)
         ensures { self.new ≡ [] }
     {
-        let _ = self.take();
+        self.effects.clear();
+        self.late = LateChanges::new(self.alloc);
     }
 
     /// A link after the changes.

@@ -1,9 +1,9 @@
 //! Looks at links, requests, advices and ticks after few changes and after many.
 
-use card_digits::{Key, LinkNo};
+use card_digits::{DateLabel, Key, LinkNo};
 use entry_changes::{AdviceState, Changes, Forwarding, LinkAfter};
 use iso_message::{AdviceId, AdviceKind};
-use node_books::Effect;
+use node_books::{Books, Effect};
 use std::alloc::Global;
 use std::test::*;
 
@@ -95,10 +95,14 @@ fn after_many_changes(rt: HostRuntime) -> Result<(), Fail> {
 }
 
 #[test]
-fn taken_and_cleared(rt: HostRuntime) -> Result<(), Fail> {
-    let mut changes = changed(rt.alloc(), 20)?;
-    let effects = changes.take();
-    assert!(rt; effects.len() == 22);
+fn applied_and_cleared(rt: HostRuntime) -> Result<(), Fail> {
+    let alloc = rt.alloc();
+    let date = DateLabel::read(b"0314").ok().ok_or("date")?;
+    let mut books = Books::new(alloc, date, 2, 5)?;
+    let mut changes = changed(alloc, 20)?;
+    books.reserve(changes.len())?;
+    changes.apply_to(&mut books);
+    assert!(rt; books.count() == 20);
     assert!(rt; changes.len() == 0);
     assert!(rt; link_seen(&changes, LinkNo::new(1)) == (true, true));
     changes.push(Effect::Ticked)?;
