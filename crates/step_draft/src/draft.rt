@@ -1,9 +1,9 @@
 //! The books before an entry, and what the entry did so far.
-ghost use Rattle.std.specs.Prelude.{◌≡◌, ◌≤◌, ◌<◌, [], ◌∷◌, OnOk, OnErr, IfOk, length};
+ghost use Rattle.std.specs.Prelude.{◌≡◌, ◌≤◌, ◌<◌, [], ◌∷◌, OnOk, OnErr, IfOk, length, vec_len, vec_capacity};
 ghost use Rattle.network_law.specs.Entries.{spelled};
 ghost use Rattle.network_law.specs.Traces.{PutPacket};
 ghost use Rattle.node_machine.specs.Steps.{emit};
-ghost use Rattle.node_books.specs.Effects.{progress, with_effect, applied, sent_in};
+ghost use Rattle.node_books.specs.Effects.{progress, with_effect, sent_in};
 ghost use Rattle.node_books.specs.declared.effect.Effect.TheVariants.{Approved, Sent};
 ghost use Rattle.entry_changes.specs.Late.{few};
 ghost use Rattle.step_draft.specs.Outputs.{spelled_in};
@@ -19,7 +19,7 @@ use node_books::{Books, Effect, OwnApproval};
 use request_book::{PreparedOutput, Way};
 use std::alloc::{AllocError, Global};
 use std::marker::Model;
-use std::mem::replace;
+use std::mem::{replace, swap};
 
 /// The books as they were before the entry, which nothing changes until the entry is whole; and its changes, with its outputs twice, for
 /// the trace and for the caller.
@@ -47,12 +47,15 @@ impl Model for Draft {
     ghost invariant = { λ d. (d.outs.items ≡ spelled_in d.effects) × (d.lent.items ≡ spelled_in d.effects) × AreLateUses d.books.lists.marks d.effects d.late_uses.amounts.entries };
 }
 
-fn apply_all(books: &mut Books, effects: Vec<Effect>)
-    requires { length effects.items ≤ books.old.room }
-    ensures { books.new.lists ≡ applied effects.items books.old.lists }
+/// Room for one output more. Most entries have one, and the trace keeps no room to spare.
+fn make_room(outputs: &mut Vec<Output>) -> Result<(), AllocError>
+    ensures same { outputs.new.items ≡ outputs.old.items }
+    ensures room { OnOk result (vec_len outputs.new < vec_capacity outputs.new) }
 {
-    for effect in effects {
-        books.apply(effect);
+    if outputs.is_empty() {
+        outputs.reserve_exact(1)
+    } else {
+        outputs.reserve(1)
     }
 }
 
@@ -114,7 +117,7 @@ impl Draft {
     {
         let lent = spelled(self.alloc, &output)?;
         let kept = lent.copy()?;
-        self.outs.reserve(1)?;
+        make_room(&mut self.outs)?;
         self.lent.reserve(1)?;
         self.effects.push(Effect::Sent(output))?;
         self.outs.push_reserved(kept);
@@ -135,7 +138,7 @@ impl Draft {
     {
         let lent = spelled_packet(self.alloc, link, serial, &packet)?;
         let kept = lent.copy()?;
-        self.outs.reserve(1)?;
+        make_room(&mut self.outs)?;
         self.lent.reserve(1)?;
         self.effects.push(Effect::PacketSent(link, serial, packet))?;
         self.outs.push_reserved(kept);
@@ -194,22 +197,22 @@ impl Draft {
         self.effects.push(effect)
     }
 
-    /// All that was done is done to the books, and its outputs are handed out; or it is as before.
-    pub fn commit(&mut self) -> Result<(Vec<Output>, Vec<Output>), AllocError>
-        ensures outs { IfOk result (λ o. o.0.items ≡ spelled_in self.old.effects) }
-        ensures lent { IfOk result (λ o. o.1.items ≡ spelled_in self.old.effects) }
+    /// All that was done is done to the books, and its outputs are handed out for the trace, and lent to an empty list, whose memory serves
+    /// the next entry; or it is as before.
+    pub fn commit(&mut self, lent: &mut Vec<Output>) -> Result<Vec<Output>, AllocError>
+        requires none { lent.old.items ≡ [] }
+        ensures outs { IfOk result (λ outs. outs.items ≡ spelled_in self.old.effects) }
+        ensures lent { OnOk result (lent.new.items ≡ spelled_in self.old.effects) }
         ensures done { OnOk result (self.new ≡ record { base = (progress self.old).lists; effects = [] }) }
-        ensures err { OnErr result (self.new ≡ self.old) }
+        ensures err { OnErr result ((self.new ≡ self.old) × (lent.new.items ≡ [])) }
     {
         self.books.reserve(self.effects.len())?;
-        let effects = self.effects.take();
+        self.effects.apply_to(&mut self.books);
         self.late_uses = Sums::new(self.alloc);
-        apply_all(&mut self.books, effects);
         let mut outs = replace(&mut self.outs, Vec::new(self.alloc));
-        // The trace keeps them, and most entries have one output.
         outs.shrink_to_fit();
-        let lent = replace(&mut self.lent, Vec::new(self.alloc));
-        Ok((outs, lent))
+        swap(&mut self.lent, lent);
+        Ok(outs)
     }
 
     /// Nothing was done.

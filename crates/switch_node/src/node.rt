@@ -103,11 +103,10 @@ impl<'a> Node<'a> {
             self.draft.rollback();
             return Err(fault);
         }
-        let Ok((outs, lent)) = self.draft.commit() else {
+        let Ok(outs) = self.draft.commit(&mut out.items) else {
             self.draft.rollback();
             return Err(StepFault::Memory);
         };
-        *out = Outputs::from_vec(lent);
         self.trace
             .push_reserved(Entry::new(input, Outputs::from_vec(outs)));
         Ok(())

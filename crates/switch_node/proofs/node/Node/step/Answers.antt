@@ -21,13 +21,13 @@ made c =
     stepped t n trace c.self.inside.draft.base (record { input = c.args.input; outputs = c.in-Ok.outs.items }) (Does.read does) (progress c.step.new.draft) c.self.invariant.given own c.requires.typed (Does.reads does) room (Does.accepted does) (Does.done does) (c.in-Ok.ensures.outs ∙ ap (map spelled) (sym (reverse-reverse (sent_in c.step.new.draft.effects))))
 
 pub invariant_of-self-2 : goal.invariant_of-self-2
-invariant_of-self-2 c = rw (c.push_reserved.ensures.items, c.reserve.ensures.items, c.new.ensures, c.from_vec-2.ensures, reverse-append c.self.inside.trace.items (record { input = c.args.input; outputs = c.in-Ok.outs.items } ∷ []), c.in-Ok.ensures.done) (record { given = Stepped.given (made c); empty = refl })
+invariant_of-self-2 c = rw (c.push_reserved.ensures.items, c.reserve.ensures.items, c.new.ensures, c.from_vec.ensures, reverse-append c.self.inside.trace.items (record { input = c.args.input; outputs = c.in-Ok.outs.items } ∷ []), c.in-Ok.ensures.done) (record { given = Stepped.given (made c); empty = refl })
 
 pub returns-clause-accepted : goal.returns-clause-accepted
 returns-clause-accepted c = rw (← c.self.view_is) (Stepped.accepted (made c))
 
 pub returns-clause-decided : goal.returns-clause-decided
-returns-clause-decided c = rw (← c.self.view_is) (c.from_vec.ensures ∙ (c.in-Ok.ensures.lent ∙ (sym c.in-Ok.ensures.outs ∙ Stepped.outputs (made c))))
+returns-clause-decided c = rw (← c.self.view_is) (c.in-Ok.ensures.lent ∙ (sym c.in-Ok.ensures.outs ∙ Stepped.outputs (made c)))
 
 pub returns-in-Err-clause-fault : goal.returns-in-Err-clause-fault
 returns-in-Err-clause-fault c =
