@@ -64,6 +64,7 @@ impl Span {
 }
 
 /// Adds an element's piece behind the bytes of a buffer, of a binary element its bytes alone.
+#[inline(always)]
 fn append(values: &mut Vec<u8>, number: u8, content: &[u8]) -> Result<Span, AllocError>
     requires good { IsGood (form_of number) content.now }
     ensures number { IfOk result (λ s. s.number ≡ number) }
@@ -145,6 +146,7 @@ impl Elements {
     }
 
     /// Adds the element in its place, instead of one of its number.
+    #[inline(always)]
     pub(crate) fn put(&mut self, number: u8, content: &[u8]) -> Result<(), AllocError>
         requires good { IsGood (form_of number) content.now }
         ensures ok { OnOk result (self.new ≡ put number content.now self.old) }

@@ -118,6 +118,7 @@ impl Message {
     }
 
     /// Sets an element to a value that it takes.
+    #[inline(always)]
     pub(crate) fn put(&mut self, number: u8, value: &[u8]) -> Result<(), AllocError>
         requires { set_fault (form_of number) number value.now ≡ None }
         ensures { OnOk result (self.new ≡ set_element self.old number value.now) }
