@@ -2,3 +2,4 @@ pub mod PartLemmas
 pub mod PrintLemmas
 pub mod FrontLemmas
 pub mod WrittenLemmas
+pub mod LabelLemmas

@@ -1,9 +1,8 @@
 -- One more block.
-use Rattle.std.proofs.Common.{◌≡◌, ℕ, suc, ◌+◌, Bool, true, false, ◌&&◌, List, [], ◌∷◌, ◌++◌, map, Option, Some, refl, sym, ap, ◌∙◌, append_assoc, append-nil, subst, ◌<◌, ◌≤◌, arith, length-append, length, inl, Err, None}
-use Rattle.iso_message.specs.declared.fault.DecodeFault.TheVariants.{Short}
+use Rattle.std.proofs.Common.{◌≡◌, ℕ, suc, Bool, true, false, ◌&&◌, List, [], ◌∷◌, ◌++◌, map, Option, Some, refl, sym, ap, ◌∙◌, append_assoc, append-nil, subst, ◌<◌, ◌≤◌, arith, length-append, length, None}
 use Rattle.iso_message.specs.Frames.{frame, IsCut}
 use Rattle.message_text.specs.Parts.{lines_of, AreFrames}
-use Rattle.message_text.specs.Printed.{heading, fault_line, block, PrintsBlock, Printed}
+use Rattle.message_text.specs.Printed.{block, PrintsBlock, Printed}
 
 and_assoc : (a b c : Bool) → (a && (b && c)) ≡ ((a && b) && c)
 and_assoc true b c = refl

@@ -1,5 +1,5 @@
 -- Blocks that go out one after the other.
-use Rattle.std.proofs.Common.{◌≡◌, ℕ, zero, suc, ◌+◌, ◌<◌, ◌≤◌, Bool, true, ◌&&◌, List, [], ◌∷◌, ◌++◌, length, take, drop, map, get_or, Option, Some, None, Err, refl, sym, ap, subst, ◌∙◌, append_assoc, take-append-drop, inl, inr, arith}
+use Rattle.std.proofs.Common.{◌≡◌, ℕ, zero, suc, ◌<◌, ◌≤◌, Bool, true, ◌&&◌, List, [], ◌∷◌, ◌++◌, length, take, drop, get_or, Option, Some, None, refl, sym, ap, subst, ◌∙◌, append_assoc, take-append-drop, inl, inr, arith}
 use Rattle.std.specs.Prelude.{is_ok}
 use Rattle.std.specs.Int.{w16, to_be_bytes, from_be_bytes}
 use Rattle.std.specs.Io.KnownBytes.{Appends}
@@ -7,9 +7,9 @@ use Rattle.std.proofs.lemmas.Bool.{cases_lt}
 use Rattle.std.proofs.lemmas.List.{length-take-le, length-drop}
 use Rattle.std.proofs.lemmas.Nat.{be_bytes_2}
 use Rattle.card_digits.specs.Stream.{AppendsFront}
-use Rattle.iso_message.specs.Frames.{frame, IsCut}
+use Rattle.iso_message.specs.Frames.{frame}
 use Rattle.iso_message.proofs.FrameLemmas.{first_front, second_front}
-use Rattle.message_text.specs.Parts.{lines_of, AreFrames}
+use Rattle.message_text.specs.Parts.{AreFrames}
 use Rattle.message_text.specs.Printed.{block, reading, Printed, PrintsBlock, Sends, SendsBlock, SendsFront, WritesFront}
 
 -- a block went out or waits: the text so far is longer by it

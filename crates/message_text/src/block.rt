@@ -4,7 +4,7 @@ ghost use Rattle.std.specs.Option.{option_copied};
 ghost use Rattle.iso_message.specs.Fields.{Fields};
 ghost use Rattle.iso_message.specs.Types.{kind_text};
 ghost use Rattle.iso_message.specs.declared.fault.DecodeFault.{DecodeFault};
-ghost use Rattle.message_text.specs.Printed.{value_text, element_line, element_lines, message_lines, fault_words, fault_line, heading, PrintsBlock};
+ghost use Rattle.message_text.specs.Printed.{value_text, element_line, element_lines, message_lines, fault_line, heading, PrintsBlock};
 
 use iso_message::{DecodeFault, Kind, Message};
 use itoa::Buffer;
@@ -30,13 +30,28 @@ fn push_value(out: &mut Vec<u8>, number: u8, value: &[u8]) -> Result<(), AllocEr
     Ok(())
 }
 
+/// Writes the number of an element and a space.
+#[inline(always)]
+fn push_label(out: &mut Vec<u8>, number: u8) -> Result<(), AllocError>
+    ensures { OnOk result (out.new.items ≡ out.old.items ++ (decimal number ++ codes " ")) }
+{
+    let last = b'0' + number % 10;
+    if number < 10 {
+        return out.extend_from_slice(&[last, b' ']);
+    }
+    let middle = b'0' + number / 10 % 10;
+    if number < 100 {
+        return out.extend_from_slice(&[middle, last, b' ']);
+    }
+    out.extend_from_slice(&[b'0' + number / 100, middle, last, b' '])
+}
+
 /// Writes the line of an element.
 #[tactic(auto, unfolding(crate::specs::Printed::element_line))]
 fn push_element(out: &mut Vec<u8>, number: u8, value: &[u8]) -> Result<(), AllocError>
     ensures { OnOk result (out.new.items ≡ out.old.items ++ element_line (number, value.now)) }
 {
-    push_number(out, number as u64)?;
-    out.extend_from_slice(b" ")?;
+    push_label(out, number)?;
     push_value(out, number, value)?;
     out.extend_from_slice(b"\n")?;
     Ok(())
@@ -52,22 +67,23 @@ fn push_elements(out: &mut Vec<u8>, message: &Message) -> Result<(), AllocError>
     Ok(())
 }
 
-fn kind_text(kind: Kind) -> &'static [u8]
-    ensures { result.now ≡ kind_text kind }
+/// The line of a type.
+fn kind_line(kind: Kind) -> &'static [u8]
+    ensures { result.now ≡ codes "type " ++ (kind_text kind ++ codes "\n") }
 {
     match kind {
-        Kind::K0100 => b"0100",
-        Kind::K0101 => b"0101",
-        Kind::K0110 => b"0110",
-        Kind::K0120 => b"0120",
-        Kind::K0121 => b"0121",
-        Kind::K0130 => b"0130",
-        Kind::K0400 => b"0400",
-        Kind::K0401 => b"0401",
-        Kind::K0410 => b"0410",
-        Kind::K0420 => b"0420",
-        Kind::K0421 => b"0421",
-        Kind::K0430 => b"0430",
+        Kind::K0100 => b"type 0100\n",
+        Kind::K0101 => b"type 0101\n",
+        Kind::K0110 => b"type 0110\n",
+        Kind::K0120 => b"type 0120\n",
+        Kind::K0121 => b"type 0121\n",
+        Kind::K0130 => b"type 0130\n",
+        Kind::K0400 => b"type 0400\n",
+        Kind::K0401 => b"type 0401\n",
+        Kind::K0410 => b"type 0410\n",
+        Kind::K0420 => b"type 0420\n",
+        Kind::K0421 => b"type 0421\n",
+        Kind::K0430 => b"type 0430\n",
     }
 }
 
@@ -76,44 +92,34 @@ fn kind_text(kind: Kind) -> &'static [u8]
 fn push_message(out: &mut Vec<u8>, message: &Message) -> Result<(), AllocError>
     ensures { OnOk result (out.new.items ≡ out.old.items ++ message_lines message.now) }
 {
-    out.extend_from_slice(b"type ")?;
-    out.extend_from_slice(kind_text(message.kind()))?;
-    out.extend_from_slice(b"\n")?;
+    out.extend_from_slice(kind_line(message.kind()))?;
     push_elements(out, message)
 }
 
-/// Writes the number and words of a fault, with the element that it names.
-fn push_fault_words(out: &mut Vec<u8>, fault: DecodeFault) -> Result<(), AllocError>
-    ensures { OnOk result (out.new.items ≡ out.old.items ++ fault_words fault) }
-{
-    match fault {
-        DecodeFault::Short => out.extend_from_slice(b"1 short"),
-        DecodeFault::BadType => out.extend_from_slice(b"2 type"),
-        DecodeFault::BitMap => out.extend_from_slice(b"3 bit map"),
-        DecodeFault::Element(number) => push_named(out, b"4 element ", number),
-        DecodeFault::Length(number) => push_named(out, b"5 length ", number),
-        DecodeFault::Character(number) => push_named(out, b"6 character ", number),
-        DecodeFault::Trailing => out.extend_from_slice(b"7 trailing"),
-        DecodeFault::Memory => out.extend_from_slice(b"8 memory"),
-    }
-}
-
+/// Writes the line of a fault that names an element, of which these are the words before its number.
 fn push_named(out: &mut Vec<u8>, words: &[u8], number: u8) -> Result<(), AllocError>
-    ensures { OnOk result (out.new.items ≡ out.old.items ++ words.now ++ decimal number) }
+    ensures { OnOk result (out.new.items ≡ out.old.items ++ words.now ++ (decimal number ++ codes "\n")) }
 {
     out.extend_from_slice(words)?;
-    push_number(out, number as u64)
+    push_number(out, number as u64)?;
+    out.extend_from_slice(b"\n")
 }
 
-/// Writes the line of a fault.
+/// Writes the line of a fault: its number, its words and the element that it names.
 #[tactic(auto, unfolding(crate::specs::Printed::fault_line))]
 fn push_fault(out: &mut Vec<u8>, fault: DecodeFault) -> Result<(), AllocError>
     ensures { OnOk result (out.new.items ≡ out.old.items ++ fault_line fault) }
 {
-    out.extend_from_slice(b"fault message ")?;
-    push_fault_words(out, fault)?;
-    out.extend_from_slice(b"\n")?;
-    Ok(())
+    match fault {
+        DecodeFault::Short => out.extend_from_slice(b"fault message 1 short\n"),
+        DecodeFault::BadType => out.extend_from_slice(b"fault message 2 type\n"),
+        DecodeFault::BitMap => out.extend_from_slice(b"fault message 3 bit map\n"),
+        DecodeFault::Element(number) => push_named(out, b"fault message 4 element ", number),
+        DecodeFault::Length(number) => push_named(out, b"fault message 5 length ", number),
+        DecodeFault::Character(number) => push_named(out, b"fault message 6 character ", number),
+        DecodeFault::Trailing => out.extend_from_slice(b"fault message 7 trailing\n"),
+        DecodeFault::Memory => out.extend_from_slice(b"fault message 8 memory\n"),
+    }
 }
 
 /// Writes the line with a message's number.

@@ -1,4 +1,4 @@
-use Rattle.std.proofs.Common.{◌≡◌, ◌+◌, ◌++◌, suc, [], ◌∷◌, List, ℕ, length, Some, None, arith, sym}
+use Rattle.std.proofs.Common.{◌+◌, ◌++◌, suc, [], ◌∷◌, length, Some, None, arith, sym}
 use Rattle.std.proofs.KnownBytes.{Appends-trans}
 use Rattle.std.proofs.lemmas.Bool.{eqb-true}
 use Rattle.std.proofs.lemmas.List.{nil_from_length}

@@ -1,4 +1,4 @@
-use Rattle.std.proofs.Common.{◌≡◌, ◌++◌, Ok, Err, refl, sym, ap, ◌∙◌, append_assoc, inl}
+use Rattle.std.proofs.Common.{◌++◌, Ok, Err, refl, sym, ap, ◌∙◌, append_assoc, inl}
 use Rattle.message_text.specs.Printed.{heading, fault_line, message_lines}
 use Rattle.message_text.proofs.FrontLemmas.{fault_answers}
 use Rattle.message_text.proofs.block.push_block.Goals as goal
