@@ -1,8 +1,12 @@
-//! Decodes and encodes messages over and over. Without arguments it makes a short run and prints what it counted; the first
+//! Decodes, encodes, makes and prints messages over and over. Without arguments it makes a short run and prints what it counted; the first
 //! argument is the number of rounds of a thousand messages, and a second argument `time` prints the times as well.
 #![tactic(auto)]
 
-use iso_message::{Code, DecodeFault, Kind, Message, decode, encode, encode_into};
+use card_digits::Counted;
+use iso_message::{
+    Code, DecodeFault, Kind, Message, decode, encode, encode_into, has_own_key, value_fault,
+};
+use message_text::decode_lines;
 use std::alloc::{AllocError, Global};
 use std::io;
 use std::time::Instant;
@@ -160,6 +164,84 @@ fn answer_rounds(message: &Message, rounds: u32) -> Result<usize, AllocError> {
     Ok(elements)
 }
 
+/// The id of the node that makes reversals.
+const NODE_ID: &[u8] = b"1001";
+
+/// The elements of the reversals of so many rounds of a thousand messages, none where the message has no key.
+fn reverse_rounds(message: &Message, rounds: u32) -> Result<usize, AllocError> {
+    let mut elements: usize = 0;
+    if has_own_key(message) && value_fault(33, NODE_ID).is_none() {
+        for _ in 0..rounds {
+            for _ in 0..FRAMES {
+                elements = elements.wrapping_add(message.made_reversal(NODE_ID)?.len());
+            }
+        }
+    }
+    Ok(elements)
+}
+
+/// A thousand lines of the bytes.
+fn lines_of(alloc: Global, bytes: &[u8]) -> Result<Vec<u8>, AllocError> {
+    let mut lines = Vec::new(alloc);
+    for _ in 0..FRAMES {
+        lines.extend_from_slice(bytes)?;
+        lines.extend_from_slice(b"\n")?;
+    }
+    Ok(lines)
+}
+
+/// The bytes that are printed for so many rounds of the lines.
+fn print_rounds(alloc: Global, lines: &[u8], rounds: u32) -> usize {
+    let mut printed: usize = 0;
+    let mut text: Vec<u8> = Vec::new(alloc);
+    for _ in 0..rounds {
+        text.clear();
+        let mut writer = Counted::writer(&mut text);
+        if decode_lines(alloc, lines, &mut writer).is_ok() {
+            printed = printed.wrapping_add(text.len());
+        }
+    }
+    printed
+}
+
+/// Prints a line of the bytes over and over, and reports as the rest does.
+fn report_printed(
+    rt: &HostRuntime,
+    name: &str,
+    bytes: &[u8],
+    rounds: u32,
+    timed: bool,
+) -> io::Result<()> {
+    let alloc = rt.alloc();
+    let lines = lines_of(alloc, bytes)?;
+    let start = Instant::now(rt)?;
+    let printed = print_rounds(alloc, &lines, rounds);
+    let took = start.elapsed(rt)?.as_micros();
+    println!(rt; "{name}: {printed} bytes printed")?;
+    if timed {
+        println!(rt; "{name}, microseconds for {rounds} thousand lines: print {took}")?;
+    }
+    Ok(())
+}
+
+/// Makes reversals of a message, and prints its lines.
+fn report_made(
+    rt: &HostRuntime,
+    name: &str,
+    message: &Message,
+    rounds: u32,
+    timed: bool,
+) -> io::Result<()> {
+    let start = Instant::now(rt)?;
+    let reversed = reverse_rounds(message, rounds)?;
+    let took = start.elapsed(rt)?.as_micros();
+    println!(rt; "{name}: {reversed} elements of reversals")?;
+    if timed {
+        println!(rt; "{name}, microseconds for {rounds} thousand messages: reversal {took}")?;
+    }
+    report_printed(rt, name, &encode(rt.alloc(), message)?, rounds, timed)
+}
+
 /// Does all of it on a message that was made by setting its elements, and on its frames.
 fn measure(rt: &HostRuntime, message: &Message, rounds: u32) -> io::Result<(Counts, Times)> {
     let alloc = rt.alloc();
@@ -259,6 +341,9 @@ fn main(rt: HostRuntime) -> io::Result<()> {
     if let (Ok(short), Ok(mixed)) = (decode(alloc, SHORT), mixed(alloc)) {
         report(&rt, "short", &short, rounds, timed)?;
         report(&rt, "mixed", &mixed, rounds, timed)?;
+        report_made(&rt, "short", &short, rounds, timed)?;
+        report_made(&rt, "mixed", &mixed, rounds, timed)?;
     }
+    report_printed(&rt, "empty lines", b"", rounds, timed)?;
     Ok(())
 }
