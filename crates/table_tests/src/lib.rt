@@ -1,6 +1,8 @@
-//! Tests of digits, rows, tries, certificates and the making of ranks, by the calls that a program makes.
+//! Tests of digits, rows, tries, certificates, and the making and checking of ranks, by the calls that a program makes.
 #![tactic(auto)]
 
+#[cfg(test)]
+mod checker;
 #[cfg(test)]
 mod digits;
 #[cfg(test)]

@@ -8,7 +8,7 @@ use std::alloc::Global;
 use std::test::Fail;
 
 /// Four nodes, with a link between any two.
-const FOUR_NODES: &str = r#"
+pub(crate) const FOUR_NODES: &str = r#"
 [network]
 currency = "840"
 date = "0314"
@@ -170,6 +170,26 @@ fn ranks_each_class_with_an_issuer(rt: HostRuntime) -> Result<(), Fail> {
     let wanted =
         "RANKS 1\nA 4 1\nB 4 1\nC 4 0\nH 4 0\nA 41 1\nB 41 0\nC 41 0\nH 41 0\nA 42 1\nB 42 1\nC 42 0\nH 42 0\nEND\n";
     assert!(rt; are_made(rt.alloc(), &plan, STAND_IN_42, wanted)?);
+    Ok(())
+}
+
+#[test]
+fn ranks_by_the_row_in_force(rt: HostRuntime) -> Result<(), Fail> {
+    // The rows of 41 and 4155 don't count at 42, and the row of B at 4 does at both.
+    let plan = Plan {
+        issuers: &[("4", "H")],
+        routes: &[
+            ("B", "42", "\"BC\""),
+            ("A", "4155", "\"AH\""),
+            ("A", "41", "\"AB\""),
+            ("C", "4", "\"CH\""),
+            ("B", "4", "\"BH\""),
+            ("A", "4", "\"AH\""),
+        ],
+    };
+    let wanted =
+        "RANKS 1\nA 4 1\nB 4 1\nC 4 1\nH 4 0\nA 41 2\nB 41 1\nC 41 1\nH 41 0\nA 4155 1\nB 4155 1\nC 4155 1\nH 4155 0\nA 42 1\nB 42 2\nC 42 1\nH 42 0\nEND\n";
+    assert!(rt; are_made(rt.alloc(), &plan, "", wanted)?);
     Ok(())
 }
 
