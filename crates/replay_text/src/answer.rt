@@ -1,10 +1,15 @@
 //! The answer of `replay`.
-ghost use Rattle.std.specs.Prelude.{◌≡◌, ◌<◌, map, Err, IfOk};
+ghost use Rattle.std.specs.Prelude.{◌≡◌, ◌<◌, List, map, Err, IfOk, OnOk};
+ghost use Rattle.std.specs.Io.KnownBytes.{Appends};
+ghost use Rattle.card_digits.specs.Stream.{AppendsFront};
 ghost use Rattle.net_tables.specs.Reading.{tables_in};
 ghost use Rattle.rank_cert.specs.Reading.{cert_in};
 ghost use Rattle.card_digits.specs.Lines.{lines};
 ghost use Rattle.table_checker.specs.Rules.{first_refusal};
 ghost use Rattle.net_replay.specs.Outcome.{outcome};
+ghost use Rattle.net_replay.specs.Steps.{Step};
+ghost use Rattle.net_replay.specs.Traces.{AreTraces};
+ghost use Rattle.replay_text.specs.Lines.{steps_text};
 ghost use Rattle.bundle_text.specs.Answers.{Wrote, WroteFront, fault};
 ghost use Rattle.bundle_text.specs.Lines.{table_fault_line, cert_fault_line};
 ghost use Rattle.replay_text.specs.Lines.{script_fault_line};
@@ -18,7 +23,7 @@ use bundle_text::{
     parts_fault, refused_answer, table_fault_line, write_answer,
 };
 use card_digits::Sink;
-use net_replay::{ReplayFault, replay};
+use net_replay::{ReplayFault, Traces, replay};
 use net_rows::Tables;
 use net_tables::{TableFault, read_tables};
 use rank_cert::{Cert, CertFault, read_cert};
@@ -64,6 +69,23 @@ fn write_made<W: Sink>(
     }
 }
 
+/// Writes what the nodes put out. The memory of the traces is not given back: the program ends behind its answer, and giving back millions
+/// of small pieces one by one would take a third of its time.
+fn write_kept<W: Sink>(
+    alloc: Global,
+    tables: &Tables,
+    traces: Traces<'_>,
+    writer: &mut W,
+) -> Result<(), PrintFault>
+    ensures ok { OnOk result ((steps : List Step) → AreTraces tables.now steps traces.entry → Appends (W.written writer.old) (W.written writer.new) (steps_text tables.now steps)) }
+    ensures write { result ≡ Err PrintFault.Write → (steps : List Step) → AreTraces tables.now steps traces.entry → AppendsFront (W.written writer.old) (W.written writer.new) (steps_text tables.now steps) }
+    ensures failed { result ≡ Err PrintFault.Write → 0 < W.failures writer.new }
+    ensures memory { result ≡ Err PrintFault.Memory → W.written writer.new ≡ W.written writer.old }
+{
+    let kept = ManuallyDrop::new(traces);
+    write_traces(alloc, tables, &kept, writer)
+}
+
 /// Writes the answer to a script on accepted tables.
 fn write_script<W: Sink>(
     alloc: Global,
@@ -79,14 +101,10 @@ fn write_script<W: Sink>(
     ensures memory { result ≡ Err PrintFault.Memory → W.written writer.new ≡ W.written writer.old }
 {
     match replay(alloc, accepted, script) {
-        Ok(traces) => {
-            // The program ends behind this answer. To give millions of small pieces back one by one would take a third of its time.
-            let kept = ManuallyDrop::new(traces);
-            match write_traces(alloc, tables, &kept, writer) {
-                Ok(()) => Ok(Status::Done),
-                Err(fault) => Err(fault),
-            }
-        }
+        Ok(traces) => match write_kept(alloc, tables, traces, writer) {
+            Ok(()) => Ok(Status::Done),
+            Err(fault) => Err(fault),
+        },
         Err(fault) => write_made(writer, script_fault_answer(alloc, fault)),
     }
 }
