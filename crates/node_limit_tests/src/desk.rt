@@ -40,6 +40,10 @@ fn tables_of(alloc: Global, text: &[u8]) -> Result<Tables, Fail> {
     Ok(read_tables(alloc, text).ok().ok_or("tables")?)
 }
 
+fn tables(alloc: Global) -> Result<Tables, Fail> {
+    tables_of(alloc, Sample::LimitAtHome.tables(alloc)?.as_bytes())
+}
+
 fn ranks_of(alloc: Global, text: &[u8]) -> Result<Cert, Fail> {
     Ok(read_cert(alloc, text).ok().ok_or("ranks")?)
 }
@@ -360,8 +364,7 @@ pub(crate) fn first_wrong(
     name: &str,
     steps: &[Step],
 ) -> Result<Option<usize>, Fail> {
-    let text = Sample::LimitAtHome.tables(alloc)?;
-    let tables = tables_of(alloc, text.as_bytes())?;
+    let tables = tables(alloc)?;
     let mut desk = Desk::new(alloc, &tables, name)?;
     desk.first_wrong(steps)
 }

@@ -86,8 +86,12 @@ fn is_wanted(alloc: Global, output: &Output, wanted: Wanted) -> Result<bool, Fai
     Ok(goes && output.bytes() == text.as_bytes())
 }
 
-fn tables(alloc: Global, text: &[u8]) -> Result<Tables, Fail> {
+fn tables_in(alloc: Global, text: &[u8]) -> Result<Tables, Fail> {
     Ok(read_tables(alloc, text).ok().ok_or("tables")?)
+}
+
+fn tables(alloc: Global, sample: Sample) -> Result<Tables, Fail> {
+    tables_in(alloc, sample.tables(alloc)?.as_bytes())
 }
 
 fn ranks(alloc: Global, text: &[u8]) -> Result<Cert, Fail> {
@@ -282,7 +286,7 @@ pub(crate) fn first_wrong(
     name: &str,
     steps: &[Step],
 ) -> Result<Option<usize>, Fail> {
-    let tables = tables(alloc, sample.tables(alloc)?.as_bytes())?;
+    let tables = tables(alloc, sample)?;
     let mut desk = Desk::new(alloc, &tables, sample.ranks().as_bytes(), name)?;
     for (place, step) in steps.iter().enumerate() {
         if !desk.does(*step)? {
