@@ -15,7 +15,8 @@ use Rattle.rank_cert.specs.Writing.{text_of}
 use Rattle.rank_maker.specs.Circle.{IsCircle}
 use Rattle.std.specs.Io.KnownBytes.{Appends}
 use Rattle.card_digits.specs.Stream.{AppendsFront}
-use Rattle.message_text.specs.Parts.{lines_of, AreFrames}
+use Rattle.card_digits.specs.Lines.{lines}
+use Rattle.message_text.specs.Parts.{AreFrames}
 use Rattle.message_text.specs.Printed.{Printed}
 use Rattle.bundle_text.specs.Parts.{parts_of}
 
@@ -91,7 +92,7 @@ abbrev pub IsDecoded : List (Option (List ℕ)) → Said → Type 0
 IsDecoded items said = (good : Bool) × Printed 1 items said.text good × (said.status ≡ decode_status good)
 
 abbrev pub IsDecodedParts : List (List ℕ) → Said → Type 0
-IsDecodedParts (text ∷ []) said = IsDecoded (map (λ line. Some line) (lines_of text)) said
+IsDecodedParts (text ∷ []) said = IsDecoded (map (λ line. Some line) (lines text)) said
 IsDecodedParts _ said = said ≡ parts_fault
 
 -- an answer of `decode` to an input of lines, or of frames; where memory was refused for a message, its block says so

@@ -1,10 +1,10 @@
 //! The answer of `decode`.
 ghost use Rattle.std.specs.Prelude.{◌≡◌, ◌<◌, ℕ, List, Some, Err, true, false, IfOk, map};
-ghost use Rattle.message_text.specs.Parts.{lines_of};
+ghost use Rattle.card_digits.specs.Lines.{lines};
 ghost use Rattle.bundle_text.specs.Answers.{DecodeAnswers, IsDecoded, IsDecodedParts, Wrote, WroteFront, decode_status, parts_fault};
 
 use crate::answer::Status;
-use crate::input_parts::parts;
+use crate::input_parts::{is_one_part, parts};
 use card_digits::{Sink, write_all};
 use message_text::{PrintFault, decode_frames, decode_lines};
 use std::alloc::Global;
@@ -17,8 +17,8 @@ fn status(good: bool) -> Status
 
 /// Writes the blocks of a text of one message a line.
 fn write_lines<W: Sink>(alloc: Global, text: &[u8], writer: &mut W) -> Result<Status, PrintFault>
-    ensures ok { IfOk result (Wrote (IsDecoded (map (λ line. Some line) (lines_of text.now))) (W.written writer.old) (W.written writer.new)) }
-    ensures write { result ≡ Err PrintFault.Write → WroteFront (IsDecoded (map (λ line. Some line) (lines_of text.now))) (W.written writer.old) (W.written writer.new) }
+    ensures ok { IfOk result (Wrote (IsDecoded (map (λ line. Some line) (lines text.now))) (W.written writer.old) (W.written writer.new)) }
+    ensures write { result ≡ Err PrintFault.Write → WroteFront (IsDecoded (map (λ line. Some line) (lines text.now))) (W.written writer.old) (W.written writer.new) }
     ensures failed { result ≡ Err PrintFault.Write → 0 < W.failures writer.new }
     ensures memory { result ≡ Err PrintFault.Memory → W.written writer.new ≡ W.written writer.old }
 {
@@ -79,6 +79,9 @@ fn write_text<W: Sink>(alloc: Global, input: &[u8], writer: &mut W) -> Result<St
     ensures failed { result ≡ Err PrintFault.Write → 0 < W.failures writer.new }
     ensures memory { result ≡ Err PrintFault.Memory → W.written writer.new ≡ W.written writer.old }
 {
+    if is_one_part(input) {
+        return write_lines(alloc, input, writer);
+    }
     let Ok(parts) = parts(alloc, input) else {
         return Err(PrintFault::Memory);
     };

@@ -1,8 +1,9 @@
 //! The parts of an input.
-ghost use Rattle.std.specs.Prelude.{◌≡◌, [], map, OnOk, IfOk};
+ghost use Rattle.std.specs.Prelude.{◌≡◌, true, [], map, OnOk, IfOk};
 ghost use Rattle.bundle_text.specs.Parts.{separates, without_return, parts_of, IsGathered, Adds};
 
 use card_digits::cut;
+use memchr::memchr2;
 use std::alloc::{AllocError, Global};
 use std::mem;
 
@@ -72,6 +73,14 @@ fn without_return(line: &[u8]) -> &[u8]
         Some(b'\r') => &line[..line.len() - 1],
         _ => line,
     }
+}
+
+/// Whether the input is one part as it stands, which it surely is without carriage returns and without the sign of the line `%%`.
+#[tactic(auto, using(crate::proofs::OnePart::found_none))]
+pub(crate) fn is_one_part(input: &[u8]) -> bool
+    ensures { result ≡ true → parts_of input.now ≡ input.now ∷ [] }
+{
+    memchr2(b'\r', b'%', input).is_none()
 }
 
 /// The parts of an input, which lines `%%` separate. A carriage return before a line feed is dropped. The cost is one pass over the

@@ -102,28 +102,6 @@ fn read_frames(message: &mut Message, frames: &[u8]) -> usize {
     elements
 }
 
-/// What each kind of work took, in microseconds.
-#[derive(Drop)]
-struct Times {
-    decoded: u128,
-    decoded_in_place: u128,
-    encoded: u128,
-    encoded_in_place: u128,
-    made: u128,
-    answered: u128,
-}
-
-/// Bytes and elements that were counted, so that no work is left out.
-#[derive(Drop)]
-struct Counts {
-    elements: usize,
-    elements_in_place: usize,
-    written: usize,
-    written_in_place: usize,
-    made: usize,
-    answered: usize,
-}
-
 /// The bytes of so many rounds of a thousand messages, each in new memory.
 fn encode_rounds(alloc: Global, message: &Message, rounds: u32) -> Result<usize, AllocError> {
     let mut written: usize = 0;
@@ -204,132 +182,91 @@ fn print_rounds(alloc: Global, lines: &[u8], rounds: u32) -> usize {
     printed
 }
 
-/// Prints a line of the bytes over and over, and reports as the rest does.
-fn report_printed(
-    rt: &HostRuntime,
-    name: &str,
-    bytes: &[u8],
+/// What is measured, how often, and whether times are printed.
+#[derive(Drop)]
+struct Bench<'a> {
+    rt: &'a HostRuntime,
+    name: &'a str,
     rounds: u32,
     timed: bool,
-) -> io::Result<()> {
-    let alloc = rt.alloc();
-    let lines = lines_of(alloc, bytes)?;
-    let start = Instant::now(rt)?;
-    let printed = print_rounds(alloc, &lines, rounds);
-    let took = start.elapsed(rt)?.as_micros();
-    println!(rt; "{name}: {printed} bytes printed")?;
-    if timed {
-        println!(rt; "{name}, microseconds for {rounds} thousand lines: print {took}")?;
-    }
-    Ok(())
 }
 
-/// Makes reversals of a message, and prints its lines.
-fn report_made(
-    rt: &HostRuntime,
-    name: &str,
-    message: &Message,
-    rounds: u32,
-    timed: bool,
-) -> io::Result<()> {
-    let start = Instant::now(rt)?;
-    let reversed = reverse_rounds(message, rounds)?;
-    let took = start.elapsed(rt)?.as_micros();
-    println!(rt; "{name}: {reversed} elements of reversals")?;
-    if timed {
-        println!(rt; "{name}, microseconds for {rounds} thousand messages: reversal {took}")?;
+impl<'a> Bench<'a> {
+    /// Prints what a kind of work counted, and how long it took.
+    fn report(&self, work: &str, count: usize, start: Instant) -> io::Result<()> {
+        let took = start.elapsed(self.rt)?.as_micros();
+        let name = self.name;
+        if self.timed {
+            println!(self.rt; "{name}, {work}: {count} in {took} us")
+        } else {
+            println!(self.rt; "{name}, {work}: {count}")
+        }
     }
-    report_printed(rt, name, &encode(rt.alloc(), message)?, rounds, timed)
+
+    /// Reads the frames of a message, in new memory and in a message's own.
+    fn read(&self, message: &Message) -> io::Result<()> {
+        let alloc = self.rt.alloc();
+        let frames = frames_of(alloc, &encode(alloc, message)?)?;
+        let start = Instant::now(self.rt)?;
+        let mut elements: usize = 0;
+        for _ in 0..self.rounds {
+            elements = elements.wrapping_add(decode_frames(alloc, &frames));
+        }
+        self.report("elements decoded", elements, start)?;
+        let mut place = message.copy()?;
+        let start = Instant::now(self.rt)?;
+        let mut elements: usize = 0;
+        for _ in 0..self.rounds {
+            elements = elements.wrapping_add(read_frames(&mut place, &frames));
+        }
+        self.report("elements decoded in place", elements, start)?;
+        self.write("bytes encoded", &place)
+    }
+
+    /// Writes a message, in new memory and in a buffer's own.
+    fn write(&self, work: &str, message: &Message) -> io::Result<()> {
+        let alloc = self.rt.alloc();
+        let start = Instant::now(self.rt)?;
+        let written = encode_rounds(alloc, message, self.rounds)?;
+        self.report(work, written, start)?;
+        let start = Instant::now(self.rt)?;
+        let written = encode_rounds_in_place(alloc, message, self.rounds)?;
+        self.report("the same in place", written, start)
+    }
+
+    /// Makes messages of a message: responses and reversals.
+    fn make(&self, message: &Message) -> io::Result<()> {
+        let start = Instant::now(self.rt)?;
+        let elements = answer_rounds(message, self.rounds)?;
+        self.report("elements of responses", elements, start)?;
+        let start = Instant::now(self.rt)?;
+        let elements = reverse_rounds(message, self.rounds)?;
+        self.report("elements of reversals", elements, start)
+    }
+
+    /// Prints the blocks of lines of the bytes.
+    fn print(&self, bytes: &[u8]) -> io::Result<()> {
+        let alloc = self.rt.alloc();
+        let lines = lines_of(alloc, bytes)?;
+        let start = Instant::now(self.rt)?;
+        let printed = print_rounds(alloc, &lines, self.rounds);
+        self.report("bytes printed", printed, start)
+    }
+
+    /// All of it on a message that was made by setting its elements, and on its frames.
+    fn run(&self, message: &Message) -> io::Result<()> {
+        self.read(message)?;
+        self.write("bytes of a made message", message)?;
+        self.make(message)?;
+        self.print(&encode(self.rt.alloc(), message)?)
+    }
 }
 
-/// Does all of it on a message that was made by setting its elements, and on its frames.
-fn measure(rt: &HostRuntime, message: &Message, rounds: u32) -> io::Result<(Counts, Times)> {
-    let alloc = rt.alloc();
-    let frames = frames_of(alloc, &encode(alloc, message)?)?;
-    let start = Instant::now(rt)?;
-    let mut elements: usize = 0;
-    for _ in 0..rounds {
-        elements = elements.wrapping_add(decode_frames(alloc, &frames));
-    }
-    let decoded = start.elapsed(rt)?.as_micros();
-    let mut place = message.copy()?;
-    let start = Instant::now(rt)?;
-    let mut elements_in_place: usize = 0;
-    for _ in 0..rounds {
-        elements_in_place = elements_in_place.wrapping_add(read_frames(&mut place, &frames));
-    }
-    let decoded_in_place = start.elapsed(rt)?.as_micros();
-    let start = Instant::now(rt)?;
-    let written = encode_rounds(alloc, &place, rounds)?;
-    let encoded = start.elapsed(rt)?.as_micros();
-    let start = Instant::now(rt)?;
-    let written_in_place = encode_rounds_in_place(alloc, &place, rounds)?;
-    let encoded_in_place = start.elapsed(rt)?.as_micros();
-    let start = Instant::now(rt)?;
-    let made_bytes = encode_rounds(alloc, message, rounds)?;
-    let made = start.elapsed(rt)?.as_micros();
-    let start = Instant::now(rt)?;
-    let answers = answer_rounds(&place, rounds)?;
-    let answered = start.elapsed(rt)?.as_micros();
-    let counts = Counts {
-        elements,
-        elements_in_place,
-        written,
-        written_in_place,
-        made: made_bytes,
-        answered: answers,
-    };
-    let times = Times {
-        decoded,
-        decoded_in_place,
-        encoded,
-        encoded_in_place,
-        made,
-        answered,
-    };
-    Ok((counts, times))
-}
-
-/// Measures a message, and prints what was counted, and the times if they are asked for.
-fn report(
-    rt: &HostRuntime,
-    name: &str,
-    message: &Message,
-    rounds: u32,
-    timed: bool,
-) -> io::Result<()> {
-    let (counts, times) = measure(rt, message, rounds)?;
-    let Counts {
-        elements,
-        elements_in_place,
-        written,
-        written_in_place,
-        made,
-        answered,
-    } = counts;
-    println!(rt;
-        "{name}: {elements} elements read, {elements_in_place} in place; {written} bytes written, {written_in_place} in place, {made} of a made message; {answered} elements answered"
-    )?;
-    if timed {
-        let Times {
-            decoded,
-            decoded_in_place,
-            encoded,
-            encoded_in_place,
-            made,
-            answered,
-        } = times;
-        println!(rt;
-            "{name}, microseconds for {rounds} thousand messages: decode {decoded}, in place {decoded_in_place}, encode {encoded}, in place {encoded_in_place}, made {made}, response {answered}"
-        )?;
-    }
-    Ok(())
-}
-
-fn main(rt: HostRuntime) -> io::Result<()> {
+/// The rounds that the first argument names, and whether the second asks for times.
+fn arguments(rt: &HostRuntime) -> io::Result<(u32, bool)> {
     let mut rounds: u32 = 2;
     let mut timed = false;
-    for (place, word) in std::env::args(&rt)?.enumerate() {
+    for (place, word) in std::env::args(rt)?.enumerate() {
         if place == 1 {
             rounds = word.parse().unwrap_or(2);
         }
@@ -337,13 +274,28 @@ fn main(rt: HostRuntime) -> io::Result<()> {
             timed = word.as_str() == "time";
         }
     }
+    Ok((rounds, timed))
+}
+
+fn main(rt: HostRuntime) -> io::Result<()> {
     let alloc = rt.alloc();
+    let (rounds, timed) = arguments(&rt)?;
     if let (Ok(short), Ok(mixed)) = (decode(alloc, SHORT), mixed(alloc)) {
-        report(&rt, "short", &short, rounds, timed)?;
-        report(&rt, "mixed", &mixed, rounds, timed)?;
-        report_made(&rt, "short", &short, rounds, timed)?;
-        report_made(&rt, "mixed", &mixed, rounds, timed)?;
+        for (name, message) in [("short", &short), ("mixed", &mixed)] {
+            let bench = Bench {
+                rt: &rt,
+                name,
+                rounds,
+                timed,
+            };
+            bench.run(message)?;
+        }
     }
-    report_printed(&rt, "empty lines", b"", rounds, timed)?;
-    Ok(())
+    let bench = Bench {
+        rt: &rt,
+        name: "empty lines",
+        rounds,
+        timed,
+    };
+    bench.print(b"")
 }

@@ -184,23 +184,27 @@ impl Elements {
         self.spans.retain(|span| span.number != number);
     }
 
-    /// A copy of the elements that are carried on, with room for a few more. A small buffer is copied whole; of a large one only
-    /// what they need, and what touches in it together.
-    pub(crate) fn kept(&self, carried: Carried) -> Result<Elements, AllocError>
-        ensures { IfOk result (λ es. es ≡ kept (carried_numbers carried) self.now) }
+    /// Takes over a copy of those of other elements that are carried on, with room for a few more. A small buffer is copied whole; of
+    /// a large one only what they need, and what touches in it together.
+    #[inline(always)]
+    pub(crate) fn keep(&mut self, other: &Elements, carried: Carried) -> Result<(), AllocError>
+        ensures ok { OnOk result (self.new ≡ kept (carried_numbers carried) other.now) }
+        ensures err { OnErr result (self.new ≡ self.old) }
     {
-        let alloc = self.allocator();
-        let count = self.spans.len().min(carried.count());
+        let alloc = other.allocator();
+        let count = other.spans.len().min(carried.count());
         let mut spans = Vec::with_capacity(alloc, count.saturating_add(carried.more_elements()))?;
-        let room = self.values.len().saturating_add(carried.more_bytes());
+        let room = other.values.len().saturating_add(carried.more_bytes());
         let mut values = Vec::with_capacity(alloc, room)?;
-        if self.values.len() <= SMALL {
-            values.extend_from_slice(&self.values)?;
-            keep_spans(&self.spans, &self.values, carried, &mut spans)?;
+        if other.values.len() <= SMALL {
+            values.extend_from_slice(&other.values)?;
+            keep_spans(&other.spans, &other.values, carried, &mut spans)?;
         } else {
-            copy_kept(&self.spans, &self.values, carried, &mut spans, &mut values)?;
+            copy_kept(&other.spans, &other.values, carried, &mut spans, &mut values)?;
         }
-        Ok(Elements { spans, values })
+        self.spans = spans;
+        self.values = values;
+        Ok(())
     }
 
     /// Takes the elements out, and leaves none.

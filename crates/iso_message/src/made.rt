@@ -1,5 +1,5 @@
 //! Responses, and the advices that a node makes of a request.
-ghost use Rattle.std.specs.Prelude.{◌≡◌, ◌++◌, true, None, IfOk};
+ghost use Rattle.std.specs.Prelude.{◌≡◌, ◌++◌, true, None, IfOk, OnOk};
 ghost use Rattle.iso_message.specs.Table.{form_of};
 ghost use Rattle.iso_message.specs.Elements.{set_fault};
 ghost use Rattle.iso_message.specs.Keys.{has_own_key};
@@ -21,7 +21,8 @@ impl Message {
     pub fn response(&self, code: Code) -> Result<Message, AllocError>
         ensures { IfOk result (λ m. m ≡ response self.now code) }
     {
-        let mut response = self.kept(self.kind().response(), Carried::Response)?;
+        let mut response = Message::new(self.allocator(), self.kind().response());
+        response.keep(self, Carried::Response)?;
         response.put(39, code.as_slice())?;
         Ok(response)
     }
@@ -56,18 +57,19 @@ impl Message {
         requires { set_fault (form_of 33) 33 id.now ≡ None }
         ensures { IfOk result (λ m. m ≡ made_from kind self.now id.now code) }
     {
-        let mut advice = self.kept(kind, Carried::Advice)?;
+        let mut advice = Message::new(self.allocator(), kind);
+        advice.keep(self, Carried::Advice)?;
         advice.put(33, id)?;
         advice.put(39, code.as_slice())?;
         Ok(advice)
     }
 
-    /// A message of the type with those elements that are carried on.
-    fn kept(&self, kind: Kind, carried: Carried) -> Result<Message, AllocError>
-        ensures { IfOk result (λ m. m ≡ record { kind = kind; elements = kept (carried_numbers carried) self.now.elements }) }
+    /// Takes over those elements of a message that are carried on.
+    #[inline(always)]
+    fn keep(&mut self, message: &Message, carried: Carried) -> Result<(), AllocError>
+        ensures { OnOk result (self.new ≡ record { kind = self.old.kind; elements = kept (carried_numbers carried) message.now.elements }) }
     {
-        let elements = self.elements.kept(carried)?;
-        Ok(Message { kind, elements })
+        self.elements.keep(&message.elements, carried)
     }
 }
 

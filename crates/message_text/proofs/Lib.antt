@@ -1,4 +1,3 @@
-pub mod PartLemmas
 pub mod PrintLemmas
 pub mod FrontLemmas
 pub mod WrittenLemmas

@@ -1,7 +1,8 @@
 -- One more block.
 use Rattle.std.proofs.Common.{◌≡◌, ℕ, suc, Bool, true, false, ◌&&◌, List, [], ◌∷◌, ◌++◌, map, Option, Some, refl, sym, ap, ◌∙◌, append_assoc, append-nil, subst, ◌<◌, ◌≤◌, arith, length-append, length, None}
 use Rattle.iso_message.specs.Frames.{frame, IsCut}
-use Rattle.message_text.specs.Parts.{lines_of, AreFrames}
+use Rattle.card_digits.specs.Lines.{lines}
+use Rattle.message_text.specs.Parts.{AreFrames}
 use Rattle.message_text.specs.Printed.{block, PrintsBlock, Printed}
 
 and_assoc : (a b c : Bool) → (a && (b && c)) ≡ ((a && b) && c)
@@ -27,15 +28,15 @@ more_at whole items item m n old new good fine e so_far b text rest p =
     one_more whole items item (suc m) old new good fine so_far (subst (λ k. PrintsBlock k item old new fine) e b) text rest (subst (λ k. Printed (suc k) items text rest) e p)
 
 abbrev all_lines : List ℕ → List (Option (List ℕ))
-all_lines bytes = map (λ line. Some line) (lines_of bytes)
+all_lines bytes = map (λ line. Some line) (lines bytes)
 
-pub lines_step : (whole : List (Option (List ℕ))) (rest line later : List ℕ) (m n : ℕ) (old new : List ℕ) (good fine : Bool) → n ≡ suc m → lines_of rest ≡ line ∷ lines_of later
+pub lines_step : (whole : List (Option (List ℕ))) (rest line later : List ℕ) (m n : ℕ) (old new : List ℕ) (good fine : Bool) → n ≡ suc m → lines rest ≡ line ∷ lines later
     → ((text : List ℕ) (others : Bool) → Printed (suc m) (all_lines rest) text others → Printed 1 whole (old ++ text) (good && others))
     → PrintsBlock n (Some line) old new fine
     → (text : List ℕ) (others : Bool) → Printed (suc n) (all_lines later) text others → Printed 1 whole (new ++ text) ((good && fine) && others)
-lines_step whole rest line later m n old new good fine e lines so_far b =
+lines_step whole rest line later m n old new good fine e cut so_far b =
     more_at whole (all_lines later) (Some line) m n old new good fine e
-    (λ text others p. so_far text others (subst (λ (ls : List (List ℕ)). Printed (suc m) (map (λ l. Some l) ls) text others) (sym lines) p)) b
+    (λ text others p. so_far text others (subst (λ (ls : List (List ℕ)). Printed (suc m) (map (λ l. Some l) ls) text others) (sym cut) p)) b
 
 and_true : (b : Bool) → (b && true) ≡ b
 and_true true = refl
@@ -47,10 +48,10 @@ ended : (whole : List (Option (List ℕ))) (number : ℕ) (text : List ℕ) (goo
 ended whole number text good so_far =
     subst (λ (g : Bool). Printed 1 whole text g) (and_true good) (subst (λ (x : List ℕ). Printed 1 whole x (good && true)) (append-nil text) (so_far [] true (refl, refl)))
 
-pub lines_end : (whole : List (Option (List ℕ))) (rest : List ℕ) (number : ℕ) (text : List ℕ) (good : Bool) → rest ≡ []
+pub lines_end : (whole : List (Option (List ℕ))) (rest : List ℕ) (number : ℕ) (text : List ℕ) (good : Bool) → lines rest ≡ []
     → ((more : List ℕ) (others : Bool) → Printed number (all_lines rest) more others → Printed 1 whole (text ++ more) (good && others)) → Printed 1 whole text good
 lines_end whole rest number text good e so_far =
-    ended whole number text good (λ more others p. so_far more others (subst (λ (bytes : List ℕ). Printed number (all_lines bytes) more others) (sym e) p))
+    ended whole number text good (λ more others p. so_far more others (subst (λ (ls : List (List ℕ)). Printed number (map (λ l. Some l) ls) more others) (sym e) p))
 
 -- the items of what is left lead to items of the whole
 abbrev pub Leads : List ℕ → List ℕ → ℕ → List ℕ → Bool → Type 0

@@ -1,12 +1,13 @@
 //! The answer of a decode job.
 ghost use Rattle.std.specs.Prelude.{◌≡◌, ℕ, List, Some, Err, map, Option, IfOk, ◌<◌};
-ghost use Rattle.message_text.specs.Parts.{lines_of, AreFrames};
+ghost use Rattle.card_digits.specs.Lines.{lines};
+ghost use Rattle.message_text.specs.Parts.{AreFrames};
 ghost use Rattle.message_text.specs.Printed.{WritesBlocks, WritesFront};
 
 use crate::fault::PrintFault;
-use crate::parts::{first_frame, first_line};
+use crate::parts::first_frame;
 use crate::sending::{Buffers, send};
-use card_digits::Sink;
+use card_digits::{Sink, first_line};
 use std::alloc::Global;
 
 /// Writes the blocks of an input of one message a line, as they come, and says whether no message has a fault. The last line may lack
@@ -16,8 +17,8 @@ pub fn decode_lines<W: Sink>(
     input: &[u8],
     writer: &mut W,
 ) -> Result<bool, PrintFault>
-    ensures ok { IfOk result (WritesBlocks (map (λ line. Some line) (lines_of input.now)) (W.written writer.old) (W.written writer.new)) }
-    ensures write { result ≡ Err PrintFault.Write → WritesFront (map (λ line. Some line) (lines_of input.now)) (W.written writer.old) (W.written writer.new) }
+    ensures ok { IfOk result (WritesBlocks (map (λ line. Some line) (lines input.now)) (W.written writer.old) (W.written writer.new)) }
+    ensures write { result ≡ Err PrintFault.Write → WritesFront (map (λ line. Some line) (lines input.now)) (W.written writer.old) (W.written writer.new) }
     ensures failed { result ≡ Err PrintFault.Write → 0 < W.failures writer.new }
     ensures memory { result ≡ Err PrintFault.Memory → W.written writer.new ≡ W.written writer.old }
 {
@@ -27,8 +28,7 @@ pub fn decode_lines<W: Sink>(
     let mut good = true;
     let mut number: u64 = 0;
     let mut rest = input;
-    while !rest.is_empty() {
-        let (line, later) = first_line(rest);
+    while let Some((line, later)) = first_line(rest) {
         number += 1;
         let Ok(fine) = buffers.add(writer, number, Some(line)) else {
             return Err(PrintFault::Write);
