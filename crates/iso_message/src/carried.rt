@@ -77,14 +77,6 @@ impl Carried {
         }
     }
 
-    /// At most so many elements are carried on.
-    pub(crate) fn count(self) -> usize {
-        match self {
-            Carried::Response => 12,
-            Carried::Advice => 10,
-        }
-    }
-
     /// How many elements are added to them: 39, and of an advice 33 and 90 too.
     pub(crate) fn more_elements(self) -> usize {
         match self {

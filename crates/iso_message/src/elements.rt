@@ -1,5 +1,5 @@
 //! Elements, kept as places in one buffer.
-ghost use Rattle.std.specs.Prelude.{◌≡◌, ◌≤◌, [], ◌∷◌, ◌++◌, length, map, OnOk, OnErr, IfOk, IsTrue, ◌↔◌, MatchOption, MatchResult, Some, slice_set, slice_get, slice_range, insert, drop, ◌<◌, ◌+◌, ◌^◌, if◌then◌else◌};
+ghost use Rattle.std.specs.Prelude.{◌≡◌, ◌≤◌, [], ◌∷◌, ◌++◌, length, vec_capacity, map, OnOk, OnErr, IfOk, IsTrue, ◌↔◌, MatchOption, MatchResult, Some, slice_set, slice_get, slice_range, insert, drop, ◌<◌, ◌+◌, ◌^◌, if◌then◌else◌};
 ghost use Rattle.iso_message.specs.Finding.{find_element, put, without};
 ghost use Rattle.iso_message.specs.Made.{kept};
 ghost use Rattle.iso_message.specs.Carried.{carried_numbers};
@@ -192,15 +192,21 @@ impl Elements {
         ensures err { OnErr result (self.new ≡ self.old) }
     {
         let alloc = other.allocator();
-        let count = other.spans.len().min(carried.count());
-        let mut spans = Vec::with_capacity(alloc, count.saturating_add(carried.more_elements()))?;
+        let count = other.spans.len().saturating_add(carried.more_elements());
+        let mut spans = Vec::with_capacity(alloc, count)?;
         let room = other.values.len().saturating_add(carried.more_bytes());
         let mut values = Vec::with_capacity(alloc, room)?;
         if other.values.len() <= SMALL {
             values.extend_from_slice(&other.values)?;
-            keep_spans(&other.spans, &other.values, carried, &mut spans)?;
+            keep_spans(&other.spans, &other.values, carried, &mut spans);
         } else {
-            copy_kept(&other.spans, &other.values, carried, &mut spans, &mut values)?;
+            copy_kept(
+                &other.spans,
+                &other.values,
+                carried,
+                &mut spans,
+                &mut values,
+            )?;
         }
         self.spans = spans;
         self.values = values;
@@ -278,24 +284,20 @@ fn element_at<'a>(spans: &[Span], values: &'a [u8], place: usize) -> (u8, &'a [u
     (span.number, &values[span.start()..span.end()])
 }
 
-/// Adds the spans of the elements that are carried on to none.
-fn keep_spans(
-    spans: &[Span],
-    values: &[u8],
-    carried: Carried,
-    kept_spans: &mut Vec<Span>,
-) -> Result<(), AllocError>
+/// Adds the spans of the elements that are carried on to none, where there is room for all.
+#[inline(always)]
+fn keep_spans(spans: &[Span], values: &[u8], carried: Carried, kept_spans: &mut Vec<Span>)
     requires within { AreWithin values.now spans.now }
     requires none { kept_spans.old.items ≡ [] }
-    ensures within { OnOk result (AreWithin values.now kept_spans.new.items) }
-    ensures kept { OnOk result (seen values.now kept_spans.new.items ≡ kept (carried_numbers carried) (seen values.now spans.now)) }
+    requires room { length spans.now ≤ vec_capacity kept_spans.old }
+    ensures within { AreWithin values.now kept_spans.new.items }
+    ensures kept { seen values.now kept_spans.new.items ≡ kept (carried_numbers carried) (seen values.now spans.now) }
 {
     for span in spans {
         if carried.has(span.number) {
-            kept_spans.push(*span)?;
+            kept_spans.push_reserved(*span);
         }
     }
-    Ok(())
 }
 
 /// A part of a buffer, and where its copy stands in another.
