@@ -1,14 +1,14 @@
 //! What waits for its acknowledgement.
 ghost use Rattle.std.specs.Prelude.{◌≡◌, IfOk};
-ghost use Rattle.iso_message.specs.Keys.{identity_of, identity_eq, key_eq, same_kind};
+ghost use Rattle.iso_message.specs.Keys.{identity_of};
 ghost use Rattle.node_machine.specs.Books.{Advised, Granted};
 ghost use Rattle.node_machine.specs.Machine.{is_due, was_put};
 ghost use Rattle.advice_store.specs.Advices.{marked_by, stored_of};
 ghost use Rattle.advice_store.specs.Kept.{key_of, count_of};
 
 use crate::key::{GrantNumber, StoredKey};
-use card_digits::{Key, NodeNo};
-use iso_message::{AdviceId, AdviceKind, Message};
+use card_digits::NodeNo;
+use iso_message::{AdviceId, Message, same_identity};
 use network_law::Grant;
 use std::alloc::AllocError;
 use std::marker::Model;
@@ -269,32 +269,4 @@ impl StoredItem {
             StoredCase::Grant(_) => {}
         }
     }
-}
-
-fn same_kind(a: AdviceKind, b: AdviceKind) -> bool
-    ensures { result ≡ same_kind a b }
-{
-    match a {
-        AdviceKind::StandIn => match b {
-            AdviceKind::StandIn => true,
-            AdviceKind::Reversal => false,
-        },
-        AdviceKind::Reversal => match b {
-            AdviceKind::StandIn => false,
-            AdviceKind::Reversal => true,
-        },
-    }
-}
-
-fn same_key(a: Key, b: Key) -> bool
-    ensures { result ≡ key_eq a b }
-{
-    a.acquirer == b.acquirer && a.trace == b.trace && a.time == b.time
-}
-
-/// Whether two identities are one.
-pub fn same_identity(a: AdviceId, b: AdviceId) -> bool
-    ensures { result ≡ identity_eq a b }
-{
-    same_kind(a.kind, b.kind) && same_key(a.key, b.key) && a.forwarder == b.forwarder
 }

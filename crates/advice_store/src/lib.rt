@@ -9,5 +9,5 @@ mod places;
 mod slots;
 mod store;
 
-pub use item::{KeptAdvice, KeptGrant, StoredCase, StoredItem, same_identity};
+pub use item::{KeptAdvice, KeptGrant, StoredCase, StoredItem};
 pub use store::AdviceStore;

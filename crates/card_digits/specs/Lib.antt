@@ -6,3 +6,4 @@ pub mod Stream
 pub mod Numbers
 pub mod Cut
 pub mod Lines
+pub mod Steps

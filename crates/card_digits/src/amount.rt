@@ -61,6 +61,7 @@ impl Amount {
 }
 
 /// The number that at most 18 ASCII digits write.
+#[inline]
 pub fn decimal(text: &[u8]) -> u64
     requires digits { list_all is_ascii_digit text.now ≡ true }
     requires few { length text.now ≤ 18 }

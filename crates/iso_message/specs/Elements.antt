@@ -1,9 +1,10 @@
 -- The forms of elements, and what stands in an element's place.
-use Rattle.std.specs.Prelude.{ℕ, ◌+◌, ◌-◌, ◌*◌, Bool, ◌&&◌, ◌==◌, nat_lt, nat_le, List, [], ◌∷◌, ◌++◌, length, take, drop, fold, Option, Some, None, Result, Ok, Err, if◌then◌else◌}
+use Rattle.std.specs.Prelude.{ℕ, Bool, ◌&&◌, ◌==◌, nat_lt, nat_le, List, [], ◌∷◌, ◌++◌, length, take, drop, Option, Some, None, Result, Ok, Err, if◌then◌else◌}
 use Rattle.std.specs.Char.{is_ascii_digit}
 use Rattle.std.specs.List.{list_all}
 use Rattle.hex.specs.Hex.{decode_sized}
 use Rattle.hex.specs.declared.error.FromHexError.{FromHexError}
+use Rattle.card_digits.specs.Numbers.{decimal}
 use Rattle.iso_message.specs.Table.{form_of}
 use Rattle.iso_message.specs.declared.form.Class.{Class}
 use Rattle.iso_message.specs.declared.form.Class.TheVariants.{Digits, Text}
@@ -21,10 +22,6 @@ abbrev pub ◌>>=◌ : {A B : Type 0} → Result A DecodeFault → (A → Result
 abbrev pub fits : Class → ℕ → Bool
 fits Digits b = is_ascii_digit b
 fits Text b = nat_le 32 b && nat_le b 126
-
--- the number that digits write
-abbrev pub decimal : List ℕ → ℕ
-decimal digits = fold (λ n d. 10 * n + (d - 48)) 0 digits
 
 -- a content of so many bytes, and the bytes after it
 unfoldable pub content_at : Class → ℕ → ℕ → List ℕ → Result (List ℕ × List ℕ) DecodeFault

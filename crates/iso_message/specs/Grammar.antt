@@ -11,7 +11,8 @@ use Rattle.iso_message.specs.declared.kind.Kind.{Kind}
 use Rattle.iso_message.specs.declared.fault.DecodeFault.{DecodeFault}
 use Rattle.iso_message.specs.declared.fault.DecodeFault.TheVariants as faults
 use Rattle.iso_message.specs.Types.{kind_of}
-use Rattle.iso_message.specs.Elements.{fits, decimal, field_at}
+use Rattle.card_digits.specs.Numbers.{decimal}
+use Rattle.iso_message.specs.Elements.{fits, field_at}
 use Rattle.iso_message.specs.Table.{form_of}
 use Rattle.iso_message.specs.Fields.{Fields}
 use Rattle.iso_message.specs.Messages.{marks, kind_at, map_at}

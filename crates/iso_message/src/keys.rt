@@ -1,7 +1,7 @@
 //! What a message is known by.
 ghost use Rattle.std.specs.Prelude.{◌≡◌, ◌≤◌, ◌+◌, length, bytes_eq};
 ghost use Rattle.iso_message.specs.Groups.{group, is_04xx};
-ghost use Rattle.iso_message.specs.Keys.{part, when, has_key, key_of, has_own_key, own_key, has_identity, identity_of, content, content_eq, original_key, is_identified, advice_kind, padded_or_zeros};
+ghost use Rattle.iso_message.specs.Keys.{key_eq, identity_eq, part, when, has_key, key_of, has_own_key, own_key, has_identity, identity_of, content, content_eq, original_key, is_identified, advice_kind, padded_or_zeros};
 ghost use Rattle.iso_message.specs.Fields.{get, has, el};
 
 use crate::code::Code;
@@ -25,6 +25,20 @@ pub struct AdviceId {
     pub kind: AdviceKind,
     pub key: Key,
     pub forwarder: [u8; 11],
+}
+
+/// Whether two keys are one.
+pub fn same_key(a: Key, b: Key) -> bool
+    ensures { result ≡ key_eq a b }
+{
+    a == b
+}
+
+/// Whether two identities are one.
+pub fn same_identity(a: AdviceId, b: AdviceId) -> bool
+    ensures { result ≡ identity_eq a b }
+{
+    a == b
 }
 
 /// The bytes of an element, none where it is absent.

@@ -24,7 +24,9 @@ pub use form::{Class, Form};
 pub use frame::{FrameFault, read_frame, write_frame};
 pub use keys::{
     AdviceId, AdviceKind, advice_id, code_of, has_own_key, key_of, original_key, same_content,
+    same_identity, same_key,
 };
 pub use kind::{Group, Kind};
 pub use message::{Message, encode, encode_into, value_fault};
 pub use reading::decode;
+pub use writing::is_binary;

@@ -2,7 +2,7 @@
 ghost use Rattle.std.specs.Prelude.{◌≡◌, ◌<◌, ◌≤◌, ◌⊎◌, true, [], length, IfOk, IfErr, OnErr, Ok};
 ghost use Rattle.std.specs.List.{list_all};
 ghost use Rattle.iso_message.specs.Types.{kind_of};
-ghost use Rattle.iso_message.specs.Elements.{fits, decimal, content_at, length_at, counted_at, binary_at, field_at, with_next, with_all};
+ghost use Rattle.iso_message.specs.Elements.{fits, content_at, length_at, counted_at, binary_at, field_at, with_next, with_all};
 ghost use Rattle.iso_message.specs.Table.{form_of};
 ghost use Rattle.iso_message.specs.Known.{IsKnown};
 ghost use Rattle.iso_message.specs.Parts.{IsEnd};
@@ -19,6 +19,7 @@ use crate::form::{Class, Form, form_at};
 use crate::kind::Kind;
 use crate::message::Message;
 use crate::runs::Known;
+use card_digits::decimal;
 use std::alloc::Global;
 
 #[tactic(auto, unfolding(crate::specs::Elements::content_at))]
@@ -44,19 +45,6 @@ fn content_of<'a>(
     Ok((content, rest))
 }
 
-/// The number that at most three digits write.
-fn number_of(digits: &[u8]) -> usize
-    requires digits { list_all (fits Digits) digits.now ≡ true }
-    requires few { length digits.now < 4 }
-    ensures { result ≡ decimal digits.now }
-{
-    let mut number = 0;
-    for digit in digits {
-        number = 10 * number + (*digit - b'0') as usize;
-    }
-    number
-}
-
 #[tactic(auto, unfolding(crate::specs::Elements::length_at))]
 #[inline(always)]
 fn length_of<'a>(
@@ -78,7 +66,7 @@ fn length_of<'a>(
         return Err(DecodeFault::Length(number));
     }
     let (digits, rest) = bytes.split_at(width);
-    let len = number_of(digits);
+    let len = decimal(digits) as usize;
     if len > most {
         return Err(DecodeFault::Length(number));
     }

@@ -72,9 +72,9 @@ pub(crate) fn push_length(out: &mut Vec<u8>, number: u8, len: usize) -> Result<(
     }
 }
 
-/// Whether an element is one of eight binary bytes, which are spelled as sixteen digits.
+/// Whether an element is one of eight binary bytes (52, 64 and 128), which are spelled as sixteen digits.
 #[inline(always)]
-pub(crate) fn is_binary(number: u8) -> bool
+pub fn is_binary(number: u8) -> bool
     ensures { result ≡ is_binary (form_of number) }
 {
     match form_at(number) {

@@ -4,7 +4,7 @@ use crate::fixtures::{M, is_spelled, read};
 use card_digits::{Amount, Key};
 use iso_message::{
     AdviceId, AdviceKind, Code, Kind, actual_amount, advice_id, code_of, has_own_key, key_of,
-    original_key, same_content, value_fault,
+    original_key, same_content, same_identity, same_key, value_fault,
 };
 use std::test::*;
 
@@ -41,6 +41,12 @@ fn key_of_a_reversal(rt: HostRuntime) -> Result<(), Fail> {
         forwarder: *b"00000001001",
     };
     assert!(rt; advice_id(&message) == Some(id));
+    let other = AdviceId {
+        kind: AdviceKind::StandIn,
+        ..id
+    };
+    assert!(rt; same_identity(id, id) && !same_identity(id, other));
+    assert!(rt; same_key(id.key, other.key));
     Ok(())
 }
 

@@ -1,7 +1,7 @@
 //! Each element of the format's table, and each fault of it.
 
 use crate::fixtures::{fault_of, read};
-use iso_message::{DecodeFault, Kind, encode};
+use iso_message::{DecodeFault, Kind, encode, is_binary};
 use std::test::*;
 
 /// Elements from first to last, how many digits their length has, a byte of their class and one of another, and their length
@@ -167,7 +167,9 @@ fn elements(rt: HostRuntime) -> Result<(), Fail> {
 
 #[test]
 fn binary_elements(rt: HostRuntime) -> Result<(), Fail> {
+    assert!(rt; !is_binary(53) && !is_binary(65));
     for number in [52, 64, 128] {
+        assert!(rt; is_binary(number), "{number}");
         let bytes = message_of(&rt, number, 0, 16, b'B')?;
         assert!(rt; has_only(&rt, &bytes, number, 8, 0xBB)?, "{number}");
         let short = message_of(&rt, number, 0, 15, b'0')?;

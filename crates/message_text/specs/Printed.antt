@@ -1,5 +1,5 @@
 -- What is printed for a message, and for all messages of an input.
-use Rattle.std.specs.Prelude.{◌≡◌, ℕ, suc, ◌==◌, ◌||◌, ◌&&◌, ◌⊎◌, Bool, true, is_ok, if◌then◌else◌, List, [], ◌∷◌, ◌++◌, codes, decimal, Option, Some, None, Result, Ok, Err}
+use Rattle.std.specs.Prelude.{◌≡◌, ℕ, suc, ◌&&◌, ◌⊎◌, Bool, true, is_ok, if◌then◌else◌, List, [], ◌∷◌, ◌++◌, codes, decimal, Option, Some, None, Result, Ok, Err}
 use Rattle.std.specs.List.{flat_map}
 use Rattle.std.specs.Io.KnownBytes.{Appends}
 use Rattle.hex.specs.Hex.{encode_upper}
@@ -9,13 +9,12 @@ use Rattle.iso_message.specs.declared.fault.DecodeFault.TheVariants as faults
 use Rattle.iso_message.specs.Types.{kind_text}
 use Rattle.iso_message.specs.Fields.{Fields}
 use Rattle.iso_message.specs.Messages.{read}
+use Rattle.iso_message.specs.Table.{form_of}
+use Rattle.iso_message.specs.Spelling.{is_binary}
 
--- an element of eight bytes
-abbrev pub is_binary : ℕ → Bool
-is_binary n = n == 52 || n == 64 || n == 128
-
+-- an element of eight bytes is printed as hexadecimal digits
 abbrev pub value_text : ℕ → List ℕ → List ℕ
-value_text n value = if is_binary n then encode_upper value else value
+value_text n value = if is_binary (form_of n) then encode_upper value else value
 
 unfoldable pub element_line : ℕ × List ℕ → List ℕ
 element_line e = decimal e.0 ++ (codes " " ++ (value_text e.0 e.1 ++ codes "\n"))

@@ -6,7 +6,7 @@ ghost use Rattle.iso_message.specs.Types.{kind_text};
 ghost use Rattle.iso_message.specs.declared.fault.DecodeFault.{DecodeFault};
 ghost use Rattle.message_text.specs.Printed.{value_text, element_line, element_lines, message_lines, fault_line, heading, PrintsBlock};
 
-use iso_message::{DecodeFault, Kind, Message};
+use iso_message::{DecodeFault, Kind, Message, is_binary};
 use itoa::Buffer;
 use std::alloc::AllocError;
 
@@ -21,7 +21,7 @@ fn push_number(out: &mut Vec<u8>, number: u64) -> Result<(), AllocError>
 fn push_value(out: &mut Vec<u8>, number: u8, value: &[u8]) -> Result<(), AllocError>
     ensures { OnOk result (out.new.items ≡ out.old.items ++ value_text number value.now) }
 {
-    if number == 52 || number == 64 || number == 128 {
+    if is_binary(number) {
         let text = hex::encode_upper(*out.allocator(), value)?;
         out.extend_from_slice(text.as_bytes())?;
     } else {

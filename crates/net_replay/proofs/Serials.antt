@@ -11,11 +11,11 @@ use Rattle.network_law.specs.Traces as messages
 use Rattle.network_law.specs.Decision.{decide, reply_output}
 use Rattle.network_law.specs.Entries.{Input, Output, Put, Answer, Ask, Post, Entry, read_input, read_trace, history, read_history, spelled, newest_onto, newest_outputs}
 use Rattle.network_law.specs.Checked.{IsChecked}
-use Rattle.network_law.specs.Runs.{IsLegal, step_refusal, fault_of, step_outputs, outputs_of}
+use Rattle.network_law.specs.Runs.{IsLegal, step_refusal, fault_of, step_outputs, outputs_of, WasPut}
 use Rattle.network_law.proofs.Emits.{Allowed, forwarding, asking, standing_in, passing, declining, repeating, refusing, acking, sending, posting, putting_packet, decide_keeps}
 use Rattle.network_law.proofs.Node.{legal_facts, keeps_issuers}
 use Rattle.network_law.proofs.Reading.{Legible, legible, EntryRead, entry_read}
-use Rattle.net_replay.specs.Steps.{packets, packets_in, WasPut}
+use Rattle.net_replay.specs.Steps.{packets, packets_in}
 
 -- by the history
 

@@ -4,13 +4,13 @@ use Rattle.net_rows.specs.Network.{Network, other_end}
 use Rattle.network_law.specs.Cards.{Bytes}
 use Rattle.network_law.specs.Entries.{Input}
 use Rattle.network_law.specs.Entries as inputs
-use Rattle.network_law.specs.Runs.{IsStep, step_refusal}
+use Rattle.network_law.specs.Runs.{IsStep, step_refusal, WasPut}
 use Rattle.replay_script.specs.Lines.{Event, Said, Enter, Take, LinkUp, LinkDown, Tick, HostAnswer, NewDate, Lend, read_line}
 use Rattle.net_replay.specs.declared.fault.ReplayFault.{ReplayFault}
 use Rattle.net_replay.specs.declared.fault.ReplayFault.TheVariants.{Line, NoSuchPacket, Step as StepOf, Memory}
 use Rattle.network_law.specs.declared.fault.StepFault.{StepFault}
 use Rattle.network_law.specs.declared.fault.StepFault.TheVariants.{Memory as NoMemory}
-use Rattle.net_replay.specs.Steps.{Step, entries_at, WasPut}
+use Rattle.net_replay.specs.Steps.{Step, entries_at}
 
 -- the other end of the link put these bytes there with this serial
 abbrev pub WasSent : Network → List Step → ℕ → ℕ → ℕ → Bytes → Type 0

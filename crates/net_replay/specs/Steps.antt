@@ -14,10 +14,6 @@ abbrev pub entries_at : ℕ → List Step → List Entry
 entries_at n [] = []
 entries_at n (s ∷ steps) = if s.node == n then s.entry ∷ entries_at n steps else entries_at n steps
 
--- the node put these bytes on the link with this serial
-abbrev pub WasPut : List Entry → ℕ → ℕ → Bytes → Type 0
-WasPut trace l s bytes = (f : Entry) × IsIn f trace × IsIn (Put l s bytes) f.outputs
-
 -- the packets that a node put on a link, in order
 
 abbrev pub packets_in : ℕ → List Output → List Bytes

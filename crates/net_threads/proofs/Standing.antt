@@ -10,14 +10,14 @@ use Rattle.iso_message.proofs.Equality.{bytes_eq_is, bytes_eq_refl}
 use Rattle.network_law.specs.Cards.{Bytes}
 use Rattle.network_law.specs.Traces.{IsIn}
 use Rattle.network_law.specs.Entries.{Entry, Input, Take, Output, Put, Answer, Ask, Post}
-use Rattle.network_law.specs.Runs.{IsLegal, IsRun}
+use Rattle.network_law.specs.Runs.{IsLegal, IsRun, WasPut}
 use Rattle.net_rows.specs.Network.{Network, other_end}
 use Rattle.net_threads.specs.Found.{is_put, is_answer, entry_puts, entry_answers}
 use Rattle.net_threads.specs.Station.{StationView, given}
 use Rattle.net_threads.specs.declared.ended.Ended.{Ended}
 use Rattle.net_threads.specs.declared.ended.Verdict.{Verdict}
 use Rattle.net_threads.specs.declared.ended.Verdict.TheVariants.{Linked}
-use Rattle.net_threads.specs.Verdicts.{trace_of, trace_or_none, WasPut, WasAnswered, AreOf, AreLinked, IsLinked, Holds}
+use Rattle.net_threads.specs.Verdicts.{trace_of, trace_or_none, WasAnswered, AreOf, AreLinked, IsLinked, Holds}
 
 -- members
 

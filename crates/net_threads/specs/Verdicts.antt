@@ -4,7 +4,7 @@ use Rattle.net_rows.specs.Network.{Network, other_end}
 use Rattle.network_law.specs.Cards.{Bytes}
 use Rattle.network_law.specs.Traces.{IsIn}
 use Rattle.network_law.specs.Entries.{Entry, Input, Take, Put, Answer}
-use Rattle.network_law.specs.Runs.{IsRun}
+use Rattle.network_law.specs.Runs.{IsRun, WasPut}
 use Rattle.net_threads.specs.Station.{StationView, given}
 use Rattle.net_threads.specs.declared.ended.Ended.{Ended}
 use Rattle.net_threads.specs.declared.ended.SessionEnd.{SessionEnd}
@@ -20,10 +20,6 @@ trace_or_none (Some s) = s.trace
 -- the trace of each node
 abbrev pub trace_of : List StationView → ℕ → List Entry
 trace_of stations n = trace_or_none (slice_get stations n)
-
--- the trace put these bytes on the link with this serial
-abbrev pub WasPut : List Entry → ℕ → ℕ → Bytes → Type 0
-WasPut trace l s bytes = (f : Entry) × IsIn f trace × IsIn (Put l s bytes) f.outputs
 
 -- the trace gave this answer
 abbrev pub WasAnswered : List Entry → Bytes → Type 0

@@ -2,9 +2,9 @@
 ghost use Rattle.std.specs.Prelude.{◌≡◌, ◌≤◌, ℕ, All, IfOk, MatchBool, MatchOption, Some, slice_get, length};
 ghost use Rattle.net_rows.specs.Network.{other_end};
 ghost use Rattle.network_law.specs.Entries.{Input};
-ghost use Rattle.network_law.specs.Runs.{IsLegal};
+ghost use Rattle.network_law.specs.Runs.{IsLegal, WasPut};
 ghost use Rattle.network_law.specs.Traces.{IsIn};
-ghost use Rattle.net_threads.specs.Verdicts.{trace_of, WasPut, WasAnswered, IsOf, AreOf, IsLinked, AreLinked, IsStrange, HasStrange, IsGiven, AreGiven, HasUngiven, Holds};
+ghost use Rattle.net_threads.specs.Verdicts.{trace_of, WasAnswered, IsOf, AreOf, IsLinked, AreLinked, IsStrange, HasStrange, IsGiven, AreGiven, HasUngiven, Holds};
 
 use crate::ended::{Ended, LineEnd, SessionEnd, Verdict};
 use crate::puts::{PutPlaces, has_answer_from, has_put};

@@ -55,9 +55,13 @@ abbrev pub IsLegal : Network → ℕ → List Entry → Type 0
 IsLegal t n [] = ⊤
 IsLegal t n (e ∷ es) = IsLegal t n es × IsStep t n es e
 
+-- the trace put these bytes on the link with this serial
+abbrev pub WasPut : List Entry → ℕ → ℕ → Bytes → Type 0
+WasPut trace l s bytes = (f : Entry) × IsIn f trace × IsIn (Put l s bytes) f.outputs
+
 -- one legal trace for each node of the tables, in which each take has its put at the link's other end. Nothing is asked of the
 -- order between nodes, so a run may lose, repeat and delay what is put
 pub record IsRun (t : Network) (traces : ℕ → List Entry) : Type 0 where
   pub legal : (n : ℕ) → n < length t.nodes → IsLegal t n (traces n)
   pub no_others : (n : ℕ) → length t.nodes ≤ n → traces n ≡ []
-  pub linked : (n l s : ℕ) (bytes : Bytes) (e : Entry) → IsIn e (traces n) → e.input ≡ Take l s bytes → (f : Entry) × IsIn f (traces (other_end t n l)) × IsIn (Put l s bytes) f.outputs
+  pub linked : (n l s : ℕ) (bytes : Bytes) (e : Entry) → IsIn e (traces n) → e.input ≡ Take l s bytes → WasPut (traces (other_end t n l)) l s bytes

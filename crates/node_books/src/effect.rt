@@ -6,9 +6,9 @@ ghost use Rattle.node_books.specs.Values.{leaves_of};
 
 use advice_store::KeptGrant;
 use card_digits::{Amount, DateLabel, Key, LinkNo};
-use iso_message::{AdviceId, Message};
+use iso_message::{AdviceId, Message, same_key};
 use network_law::GrantPacket;
-use request_book::{PreparedOutput, Row, same_key};
+use request_book::{PreparedOutput, Row};
 use standin_book::OwnApproval;
 use std::marker::Model;
 

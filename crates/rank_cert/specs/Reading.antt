@@ -1,5 +1,5 @@
 -- What the text of a certificate says, or the first fault in it.
-use Rattle.std.specs.Prelude.{◌≡◌, ℕ, ◌+◌, ◌==◌, ◌||◌, nat_lt, not, Bool, List, [], ◌∷◌, ◌++◌, length, codes, Option, Some, None, is_some, Result, Ok, Err, if◌then◌else◌, option_and_then}
+use Rattle.std.specs.Prelude.{◌≡◌, ℕ, ◌+◌, ◌==◌, ◌||◌, nat_lt, not, Bool, List, [], ◌∷◌, ◌++◌, length, codes, Option, Some, None, is_some, Result, Ok, Err, if◌then◌else◌}
 use Rattle.std.specs.List.{list_all, slice_split}
 use Rattle.std.specs.Result.{result_ok}
 use Rattle.std.specs.Char.{is_ascii_digit}
@@ -7,6 +7,7 @@ use Rattle.std.specs.Cmp.Lexicographic.{pointwise}
 use Rattle.card_digits.specs.Lines.{lines}
 use Rattle.card_digits.specs.Numbers.{decimal}
 use Rattle.card_digits.specs.Reading.{name_of, read_digits}
+use Rattle.card_digits.specs.Steps.{◌>>=◌}
 use Rattle.rank_cert.specs.declared.cert.Rank.{Rank}
 use Rattle.rank_cert.specs.declared.fault.CertFault.{CertFault}
 use Rattle.rank_cert.specs.declared.fault.CertFault.TheVariants.{Header, Line, Twice, NoEnd, AfterEnd, Memory}
@@ -22,10 +23,6 @@ number_of text =
     if (length text == 0 || nat_lt 5 (length text)) || not (list_all is_ascii_digit text) then None
     else if nat_lt 65535 (decimal text) then None
     else Some (decimal text)
-
-infixl 10 ◌>>=◌
-abbrev pub ◌>>=◌ : {A B : Type 0} → Option A → (A → Option B) → Option B
-o >>= f = option_and_then f o
 
 -- the fields, where there are three
 abbrev pub three : List (List ℕ) → Option (List ℕ × List ℕ × List ℕ)

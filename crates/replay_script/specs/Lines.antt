@@ -11,7 +11,8 @@ use Rattle.replay_script.specs.declared.command.Command.{Command}
 use Rattle.replay_script.specs.declared.command.Command.TheVariants as commands
 use Rattle.replay_script.specs.declared.command.ScriptLine.{ScriptLine}
 use Rattle.replay_script.specs.declared.script.MalformedLine.{MalformedLine}
-use Rattle.replay_script.specs.Words.{◌>>=◌, word_and_rest, number_of, amount_of}
+use Rattle.card_digits.specs.Steps.{◌>>=◌}
+use Rattle.replay_script.specs.Words.{word_and_rest, number_of, amount_of}
 
 -- what happens at a node: with the bytes of a message, by links, asks and nodes of the tables
 pub data Event : Type 0 where

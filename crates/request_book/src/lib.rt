@@ -10,7 +10,7 @@ mod row;
 mod spans;
 
 pub use marks::Mark;
-pub use output::{PreparedOutput, Way, has_code, is_advice, is_request, same_identity, same_key};
+pub use output::{PreparedOutput, Way, has_code, is_advice, is_request};
 pub use pending::PendingBook;
 pub use row::Row;
 pub use spans::Span;

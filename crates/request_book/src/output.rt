@@ -2,13 +2,13 @@
 ghost use Rattle.std.specs.Prelude.{◌≡◌, bytes_eq, true, false, Some};
 ghost use Rattle.iso_message.specs.Codes.{code_of};
 ghost use Rattle.iso_message.specs.Groups.{is_request, is_answer, group};
-ghost use Rattle.iso_message.specs.Keys.{key_of, key_eq, identity_of, identity_eq, same_kind};
+ghost use Rattle.iso_message.specs.Keys.{key_of, identity_of};
 ghost use Rattle.network_law.specs.Traces.{Put, Answer, Ask, Post, is_advice_group, is_put_of, forwards};
 ghost use Rattle.request_book.specs.Values.{output_key};
 ghost use Rattle.request_book.specs.Values.{message_of};
 
 use card_digits::{Key, LinkNo};
-use iso_message::{AdviceId, AdviceKind, Group, Kind, Message};
+use iso_message::{AdviceId, Group, Kind, Message, same_identity, same_key};
 use std::marker::Model;
 
 /// Where an output goes.
@@ -172,35 +172,6 @@ pub fn is_answer(kind: Kind) -> bool
         Kind::K0110 => true,
         _ => false,
     }
-}
-
-/// Whether two keys are one.
-pub fn same_key(a: Key, b: Key) -> bool
-    ensures { result ≡ key_eq a b }
-{
-    a.acquirer == b.acquirer && a.trace == b.trace && a.time == b.time
-}
-
-fn same_kind(a: AdviceKind, b: AdviceKind) -> bool
-    ensures { result ≡ same_kind a b }
-{
-    match a {
-        AdviceKind::StandIn => match b {
-            AdviceKind::StandIn => true,
-            AdviceKind::Reversal => false,
-        },
-        AdviceKind::Reversal => match b {
-            AdviceKind::StandIn => false,
-            AdviceKind::Reversal => true,
-        },
-    }
-}
-
-/// Whether two identities are one.
-pub fn same_identity(a: AdviceId, b: AdviceId) -> bool
-    ensures { result ≡ identity_eq a b }
-{
-    same_kind(a.kind, b.kind) && same_key(a.key, b.key) && a.forwarder == b.forwarder
 }
 
 /// Whether a message's code is this one.

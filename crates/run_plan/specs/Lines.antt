@@ -7,7 +7,8 @@ use Rattle.std.specs.Cmp.Lexicographic.{pointwise}
 use Rattle.card_digits.specs.Numbers.{pad11}
 use Rattle.card_digits.specs.Reading.{read_digits}
 use Rattle.net_rows.specs.Network.{Network}
-use Rattle.replay_script.specs.Words.{◌>>=◌, word_and_rest, number_of, amount_of}
+use Rattle.card_digits.specs.Steps.{◌>>=◌}
+use Rattle.replay_script.specs.Words.{word_and_rest, number_of, amount_of}
 use Rattle.run_plan.specs.declared.line.Setting.{Setting}
 use Rattle.run_plan.specs.declared.line.Setting.TheVariants.{Host, Lose, Delay, Repeat, Lend}
 use Rattle.run_plan.specs.declared.line.PlanLine.{PlanLine}

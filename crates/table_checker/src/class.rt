@@ -108,7 +108,7 @@ impl At<'_> {
 }
 
 ghost use Rattle.net_rows.specs.Network.{day as day_of};
-ghost use Rattle.table_checker.specs.Search.{sum_below};
+ghost use Rattle.network_law.specs.Checked.{sum_below};
 ghost use Rattle.std.specs.Prelude.{◌&&◌, ◌==◌};
 ghost use Rattle.std.specs.List.{list_any};
 ghost use Rattle.std.specs.Cmp.Lexicographic.{pointwise};

@@ -1,6 +1,7 @@
 //! Card numbers, prefixes, ids and amounts.
 use card_digits::{
-    Amount, Card, DateLabel, DigitFault, Id, Name, Prefix, begins, begins_class, cut, luhn, pad11,
+    Amount, Card, DateLabel, DigitFault, Id, Name, Prefix, begins, begins_class, cut, first_line,
+    luhn, pad11,
 };
 use std::test::Fail;
 
@@ -93,15 +94,27 @@ fn fronts_of_cards(rt: HostRuntime) -> Result<(), Fail> {
     Ok(())
 }
 
-fn first_line(text: &[u8]) -> Option<&[u8]> {
-    let (front, _behind) = cut(text, b'\n')?;
+fn front(text: &[u8], end: u8) -> Option<&[u8]> {
+    let (front, _behind) = cut(text, end)?;
     Some(front)
 }
 
 #[test]
 fn padding_and_cutting(rt: HostRuntime) -> Result<(), Fail> {
     assert_eq!(rt; pad11(b"400001"), *b"00000400001");
-    assert!(rt; first_line(b"ab\ncd\n") == Some(b"ab".as_slice()));
-    assert!(rt; first_line(b"ab").is_none());
+    assert!(rt; front(b"ab cd e", b' ') == Some(b"ab".as_slice()));
+    assert!(rt; front(b"ab", b' ').is_none());
+    Ok(())
+}
+
+#[test]
+fn lines(rt: HostRuntime) -> Result<(), Fail> {
+    let (first, behind) = first_line(b"ab\n\ncd").ok_or("a line")?;
+    assert_eq!(rt; first, b"ab".as_slice());
+    let (second, behind) = first_line(behind).ok_or("a line without bytes")?;
+    assert_eq!(rt; second, b"".as_slice());
+    let (third, behind) = first_line(behind).ok_or("a line without an end")?;
+    assert_eq!(rt; third, b"cd".as_slice());
+    assert!(rt; first_line(behind).is_none());
     Ok(())
 }

@@ -2,7 +2,8 @@ use Rattle.std.proofs.Common.{arith, ◌≡◌, Some, slice_get, subst, ap, sym,
 use Rattle.std.specs.Prelude.{MatchBool}
 use Rattle.std.proofs.lemmas.Option.{slice_get_past}
 use Rattle.net_threads.specs.Station.{StationView}
-use Rattle.net_threads.specs.Verdicts.{trace_of, WasPut}
+use Rattle.network_law.specs.Runs.{WasPut}
+use Rattle.net_threads.specs.Verdicts.{trace_of}
 use Rattle.net_threads.proofs.Sofar.{is_read}
 use Rattle.net_threads.proofs.Standing.{put_there, none_put}
 use Rattle.net_threads.proofs.judge.was_put.Goals as goal

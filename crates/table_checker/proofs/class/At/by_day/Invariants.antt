@@ -1,7 +1,8 @@
 use Rattle.std.proofs.Common.{◌≡◌, ◌≤◌, ◌*◌}
 use Rattle.net_rows.specs.Network.{day}
 use Rattle.table_checker.specs.declared.refusal.Kind.TheVariants as kind
-use Rattle.table_checker.specs.Search.{first_below, sum_below}
+use Rattle.table_checker.specs.Search.{first_below}
+use Rattle.network_law.specs.Checked.{sum_below}
 use Rattle.table_checker.specs.Rules.{node_refusal}
 use Rattle.table_checker.proofs.class.At.by_day.Given as goal
 
