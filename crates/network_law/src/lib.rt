@@ -6,8 +6,10 @@
 //! (`specs/Runs`). What tables and ranks must keep stands in `specs/Checked`, and what is claimed in `specs/Claims`.
 #![tactic(auto)]
 
+mod declined;
 mod fault;
 mod grant;
+mod places;
 mod words;
 mod worked;
 
@@ -19,8 +21,10 @@ ghost use Rattle.network_law.specs.Runs.{IsLegal, IsRun};
 ghost use Rattle.network_law.specs.Claims.{Safe, Covered, IsWithinLimits, BorrowedWasLent, OneContent};
 ghost use Rattle.network_law.specs.Legal.{FailsAreMarked, FailsAreReversed, IsReadAsDecided, ForwardsOnce, ReversalsLeaveLess, ReversalsDecide};
 
+pub use declined::{worked_declined_cards, worked_other_contents, worked_ways};
 pub use fault::StepFault;
 pub use grant::{Grant, GrantPacket, packet_bytes, read_packet};
+pub use places::{worked_full_node, worked_places};
 pub use words::{plain_words, plain_words_of_advices, plain_words_of_lent_amounts};
 pub use worked::{
     worked_answers, worked_full_load, worked_lent_amounts, worked_limits, worked_partial_reversals,
