@@ -29,6 +29,7 @@ pub mod Plain
 pub mod PlainGrants
 pub mod StoredOrder
 pub mod PlainAdvices
+pub mod PlainContents
 pub mod Acked
 pub mod Packets
 pub mod PacketsExact

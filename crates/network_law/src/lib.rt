@@ -25,7 +25,9 @@ pub use declined::{worked_declined_cards, worked_other_contents, worked_ways};
 pub use fault::StepFault;
 pub use grant::{Grant, GrantPacket, packet_bytes, read_packet};
 pub use places::{worked_full_node, worked_places};
-pub use words::{plain_words, plain_words_of_advices, plain_words_of_lent_amounts};
+pub use words::{
+    plain_words, plain_words_of_advices, plain_words_of_contents, plain_words_of_lent_amounts,
+};
 pub use worked::{
     worked_answers, worked_full_load, worked_lent_amounts, worked_limits, worked_partial_reversals,
     worked_refusals, worked_reversals, worked_run, worked_two_hops, wrong_traces_are_not_legal,

@@ -1,6 +1,7 @@
 //! The terms by which a node decides, in plain words.
 ghost use Rattle.network_law.specs.Plain.{OpenedByFirst, OpenedOnce, EachIsOfItsKey, FailInOpeningOrder, AnsweredByFirst, ForwardedByFirst, AskedByNumber, CountsAsks, CountsPuts, UpByLast, DatedByLast, CountsTicks, UsedIsSum, LeavesLeast, LeavesOne, LeavesNoMore, LeavesAll, LateIsReversed};
 ghost use Rattle.network_law.specs.PlainAdvices.{Has00BySaid, ApprovedByFirst, FirstApproves, KnownAfterInput, KnownAfterOutput, AdvicesOnce, KnownHasAdvice, AdviceIsKnown, ReversedHasAdvice, AdviceReverses, StoredAreAdvices, AdvicesAreStored, WasPutHasPut, PutWasPut, LoadIsSum};
+ghost use Rattle.network_law.specs.PlainContents.{AskedByAsks, OpenedInOrder, ApprovalsOnce, AdviceIsFirst, AckedAfterStoring};
 ghost use Rattle.network_law.specs.PlainGrants.{PacketsAreExact, PacketsAreRead, GrantsAreLends, TakenByFirst, TakenOnce, RepeatsAddNothing, NewAdds, BorrowedIsSum, LentIsSum, AckedByPacket, StoredGrantsAreDue, StoredAdvicesAreDue, DueInStoredOrder};
 
 /// The terms that are defined event by event are the firsts, the filters and the sums that they stand for.
@@ -42,6 +43,16 @@ pub fn plain_words_of_advices()
     ensures was_put { WasPutHasPut }
     ensures puts { PutWasPut }
     ensures load { LoadIsSum }
+{}
+
+/// What is asked and open, and that no key stands twice among the own approvals. The advice of an identity is the first one that was
+/// made or accepted, with its message, its count and whether it was made here, and it is acknowledged where that came after it.
+pub fn plain_words_of_contents()
+    ensures asked { AskedByAsks }
+    ensures opened { OpenedInOrder }
+    ensures approved_once { ApprovalsOnce }
+    ensures first { AdviceIsFirst }
+    ensures acked { AckedAfterStoring }
 {}
 
 /// And so those of lent amounts; what is due is all that is stored and due, in the order in which it was stored.
