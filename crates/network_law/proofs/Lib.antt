@@ -39,3 +39,4 @@ pub mod Reading
 pub mod Spelled
 pub mod WorkedRun
 pub mod TwoHops
+pub mod LateRun

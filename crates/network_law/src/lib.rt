@@ -29,8 +29,9 @@ pub use words::{
     plain_words, plain_words_of_advices, plain_words_of_contents, plain_words_of_lent_amounts,
 };
 pub use worked::{
-    worked_answers, worked_full_load, worked_lent_amounts, worked_limits, worked_partial_reversals,
-    worked_refusals, worked_reversals, worked_run, worked_two_hops, wrong_traces_are_not_legal,
+    worked_answers, worked_full_load, worked_late_run, worked_lent_amounts, worked_limits,
+    worked_partial_reversals, worked_refusals, worked_reversals, worked_run, worked_two_hops,
+    wrong_traces_are_not_legal,
 };
 
 /// Where the tables are sound, ranks fall along each route and limits stay within ceilings, every run is safe and nothing in it is

@@ -8,9 +8,11 @@ ghost use Rattle.network_law.specs.Refusals.{refusal};
 ghost use Rattle.iso_message.specs.Keys.{key_of, identity_of};
 ghost use Rattle.network_law.specs.Decision.{decide};
 ghost use Rattle.network_law.specs.Entries.{read_history, spelled_trace, newest_outputs};
+ghost use Rattle.network_law.specs.Claims.{post_count, exposure};
 ghost use Rattle.network_law.specs.Checked.{IsChecked, IsRanked, IsBounded};
 ghost use Rattle.network_law.specs.Runs.{IsLegal, IsRun};
 ghost use Rattle.network_law.specs.Worked.{next_alternate_in_time, twenty_dollars, entered_with, entered_card, answered_card, reversal_by, reversal_reply_with, base, limited, diamond, entered, entered_in, forwarded, answered, answered_in, reversal, reversal_as, acknowledged, stand_in, reversal_by_acquirer, partial_reversal, reversal_reply, one, two, three, four, ten_dollars, six_dollars, four_dollars, one_cent, history_after, outputs_after, card_number, ticks, next_alternate, stood_in_though_reversed, late_approval_dropped, same_tick_not_counted, advice_dropped_when_sent, own_reversal_frees, reversed_run, lent_run, two_hops, hop_ranks, hops_run, base_ranks, lenders, lender_ranks, lend_to_b, granted, received, entered_at_b, answered_at_b, three_dollars, two_dollars, partial_frees_all, repeated_grant_counted, lent_amount_used, grant_dropped_when_put};
+ghost use Rattle.network_law.specs.WorkedLate.{late_run};
 
 /// A request is forwarded with its settlement date, asked of the host, and answered; a repeat gets the same answer, and the answer
 /// again gives nothing. Bad cards and those without an issuer are declined, and no 94 is passed on.
@@ -152,6 +154,17 @@ pub fn worked_two_hops()
     ensures run { IsRun two_hops (λ n. spelled_trace (hops_run n)) }
     ensures used { used two_hops 0 (read_history (drop 4 (hops_run 0))) card_number (0 ∷ 3 ∷ 1 ∷ 4 ∷ []) ≡ 1000 }
     ensures freed { used two_hops 0 (read_history (drop 3 (hops_run 0))) card_number (0 ∷ 3 ∷ 1 ∷ 4 ∷ []) ≡ 0 }
+{}
+
+/// And by one in which the host's approval comes after the node stood in, and an acknowledgement is lost: the reversal of the request
+/// and the stand-in advice are posted once each, no place stays taken, and the amount is used once.
+pub fn worked_late_run()
+    ensures run { IsRun two_hops (λ n. spelled_trace (late_run n)) }
+    ensures reversal_posted { post_count (read_history (late_run 2)) (identity_of (reversal one ten_dollars)) ≡ 1 }
+    ensures advice_posted { post_count (read_history (late_run 2)) (identity_of (stand_in one ten_dollars)) ≡ 1 }
+    ensures places_at_a { load two_hops 0 (read_history (late_run 0)) ≡ 0 }
+    ensures places_at_b { load two_hops 1 (read_history (late_run 1)) ≡ 0 }
+    ensures exposure { exposure two_hops (λ n. read_history (late_run n)) card_number (0 ∷ 3 ∷ 1 ∷ 4 ∷ []) ≡ 1000 }
 {}
 
 /// Traces of nodes that decide otherwise aren't legal.
