@@ -10,6 +10,7 @@ mod declined;
 mod fault;
 mod grant;
 mod places;
+mod readings;
 mod words;
 mod worked;
 
@@ -25,6 +26,7 @@ pub use declined::{worked_declined_cards, worked_other_contents, worked_ways};
 pub use fault::StepFault;
 pub use grant::{Grant, GrantPacket, packet_bytes, read_packet};
 pub use places::{worked_full_node, worked_places};
+pub use readings::{worked_first_faults, worked_grants, worked_messages};
 pub use words::{
     plain_words, plain_words_of_advices, plain_words_of_contents, plain_words_of_lent_amounts,
 };
