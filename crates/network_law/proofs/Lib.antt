@@ -40,3 +40,4 @@ pub mod Spelled
 pub mod WorkedRun
 pub mod TwoHops
 pub mod LateRun
+pub mod WorkedSteps

@@ -65,7 +65,7 @@ ordered_is low (x ∷ es) e =
     let rest = ordered_is x.0 es p.1 in
     ((ltb-true _ _ r.0, leb-true _ _ r.1, rest.0), (right_is (form_of x.0) x.1 q.1, rest.1))
 
-good_is : (m : Fields) → looks_good m ≡ true → IsMessage m
+pub good_is : (m : Fields) → looks_good m ≡ true → IsMessage m
 unfolding looks_good
 good_is m e = let p = ordered_is 1 m.elements e in record { order = p.0; values = p.1 }
 

@@ -11,6 +11,7 @@ mod fault;
 mod grant;
 mod places;
 mod readings;
+mod spelling;
 mod words;
 mod worked;
 
@@ -27,6 +28,7 @@ pub use fault::StepFault;
 pub use grant::{Grant, GrantPacket, packet_bytes, read_packet};
 pub use places::{worked_full_node, worked_places};
 pub use readings::{worked_first_faults, worked_grants, worked_messages};
+pub use spelling::{worked_bytes, worked_faults_of_bytes};
 pub use words::{
     plain_words, plain_words_of_advices, plain_words_of_contents, plain_words_of_lent_amounts,
 };
