@@ -1,5 +1,5 @@
 -- The run in which an approval comes late.
-use Rattle.std.proofs.Common.{◌≡◌, ℕ, zero, suc, ◌≤◌, ◌<◌, List, [], true, false, refl, subst, inl, inr, ⊎_elim, arith}
+use Rattle.std.proofs.Common.{◌≡◌, ℕ, zero, suc, ◌≤◌, ◌<◌, [], true, false, refl, subst, inl, inr, ⊎_elim, arith}
 use Rattle.std.specs.Prelude.{⊤}
 use Rattle.net_rows.specs.Network.{other_end}
 use Rattle.network_law.specs.Traces.{IsIn}

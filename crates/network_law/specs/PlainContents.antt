@@ -11,8 +11,8 @@ use Rattle.iso_message.specs.Made.{made_reversal, made_stand_in}
 use Rattle.iso_message.specs.declared.keys.AdviceId.{AdviceId}
 use Rattle.net_rows.specs.Network.{Network}
 use Rattle.network_law.specs.Tables.{node_id}
-use Rattle.network_law.specs.Traces.{ReadInput, Take, Event, In, Out, History, count_of, Handled, handled, Opening, opening, opened, asked, sent, own_approval, Approval, approvals, Advice, advices, has_identity, is_ack, late_key, failed_key, is_ok_ack, is_advice_group, as_kept, known}
-use Rattle.network_law.specs.Plain.{inputs, openings, opened_key, Asked, all_asked}
+use Rattle.network_law.specs.Traces.{ReadInput, Take, Event, In, Out, History, count_of, Handled, handled, Opening, opening, opened, asked, sent, own_approval, approvals, Advice, advices, has_identity, is_ack, late_key, failed_key, is_ok_ack, is_advice_group, as_kept, known}
+use Rattle.network_law.specs.Plain.{inputs, openings, opened_key, all_asked}
 
 -- the host was asked about a key where an ask of it stands among the outputs
 abbrev pub AskedByAsks : Type 0

@@ -1,9 +1,9 @@
 //! Steps that are worked by hand: what is declined, and on which link something is put.
-ghost use Rattle.std.specs.Prelude.{◌≡◌, List, [], ◌∷◌, codes};
-ghost use Rattle.iso_message.specs.declared.kind.Kind.TheVariants.{K0101, K0110, K0120, K0130, K0400, K0401, K0410, K0420, K0421, K0430};
+ghost use Rattle.std.specs.Prelude.{◌≡◌, [], ◌∷◌, codes};
+ghost use Rattle.iso_message.specs.declared.kind.Kind.TheVariants.{K0101, K0120, K0130, K0400, K0401, K0410, K0420, K0421, K0430};
 ghost use Rattle.iso_message.specs.Fields.{as_kind};
 ghost use Rattle.network_law.specs.Traces.{load, Enter, Take, LinkUp, LinkDown, HostAnswer, Put, Answer, Ask, Post};
-ghost use Rattle.network_law.specs.Worked.{base, limited, diamond, entered, entered_card, answered_card, forwarded, answered, reversal, reversal_by, acknowledged, stand_in, stand_in_acknowledged, reversal_by_acquirer, reversal_reply, reversal_reply_with, one, ten_dollars, twenty_dollars, six_dollars, history_after, outputs_after, ticks};
+ghost use Rattle.network_law.specs.Worked.{base, diamond, entered, entered_card, answered_card, forwarded, answered, reversal, reversal_by, acknowledged, stand_in, stand_in_acknowledged, reversal_by_acquirer, reversal_reply, reversal_reply_with, one, ten_dollars, twenty_dollars, history_after, outputs_after, ticks};
 ghost use Rattle.network_law.specs.WorkedDeclined.{wrong_card, unissued_card, wrong_unissued_card, forwarded_card, reversal_of_card, reversal_of_card_declined, stand_in_of_card};
 
 /// A wrong card number and a card without an issuer are declined in all messages, of an acquirer and of a link. Such a reversal or

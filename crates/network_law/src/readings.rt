@@ -1,11 +1,11 @@
 //! Steps that are worked by hand: readings that could go two ways.
-ghost use Rattle.std.specs.Prelude.{◌≡◌, ℕ, List, [], ◌∷◌, codes, Some, None};
+ghost use Rattle.std.specs.Prelude.{◌≡◌, [], ◌∷◌, codes, Some, None};
 ghost use Rattle.iso_message.specs.declared.kind.Kind.TheVariants.{K0100, K0400, K0401, K0410, K0420};
 ghost use Rattle.iso_message.specs.Fields.{as_kind};
 ghost use Rattle.network_law.specs.declared.fault.StepFault.TheVariants.{ForeignAcquirer, Missing, TypeNotForGate, Replacement, NotLent};
 ghost use Rattle.network_law.specs.Traces.{History, load, Enter, Take, TakePacket, LinkDown, NewDate, Put, PutPacket, Answer, Post};
 ghost use Rattle.network_law.specs.Refusals.{refusal};
-ghost use Rattle.network_law.specs.Worked.{base, limited, lenders, entered, entered_with, forwarded, answered, reversal_by, partial_reversal, one, ten_dollars, twenty_dollars, four_dollars, outputs_after, ticks, lend_to_b, granted, received};
+ghost use Rattle.network_law.specs.Worked.{base, lenders, entered, entered_with, forwarded, answered, reversal_by, partial_reversal, one, ten_dollars, twenty_dollars, outputs_after, ticks, lend_to_b, granted, received};
 ghost use Rattle.network_law.specs.WorkedReadings.{home_stands_in, stand_in_of_home, entered_more, forwarded_more, answered_more, reversal_more, answered_next_day, reversal_dated, reversal_dated_reply, granted_second, received_second};
 
 /// Of an entered message element 33 is dropped and all else goes on; an answer and an advice have elements 37 and 41 of it, and no

@@ -2,7 +2,7 @@ use Rattle.std.proofs.Common.{refl}
 use Rattle.network_law.specs.Traces.{load, used}
 use Rattle.iso_message.specs.Finding.{find_element}
 use Rattle.iso_message.specs.Keys.{identity_of}
-use Rattle.network_law.specs.Claims.{post_count, exposure}
+use Rattle.network_law.specs.Claims.{post_count}
 use Rattle.network_law.specs.Entries.{read_history}
 use Rattle.network_law.proofs.LateRun.{late_is_run}
 use Rattle.network_law.proofs.worked.worked_late_run.Goals as goal
