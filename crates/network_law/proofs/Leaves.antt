@@ -46,7 +46,7 @@ not_both b p q = cc
 
 -- members
 
-any_member : {X : Type 0} (p : X → Bool) (xs : List X) → list_any p xs ≡ true → (x : X) × IsIn x xs × (p x ≡ true)
+pub any_member : {X : Type 0} (p : X → Bool) (xs : List X) → list_any p xs ≡ true → (x : X) × IsIn x xs × (p x ≡ true)
 any_member p [] e = absurd (not_both false e refl)
 any_member p (x ∷ xs) e = go (p x) refl (any_member p xs)
   where

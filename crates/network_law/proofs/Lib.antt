@@ -30,6 +30,7 @@ pub mod PlainGrants
 pub mod StoredOrder
 pub mod PlainAdvices
 pub mod PlainContents
+pub mod PlainLate
 pub mod Acked
 pub mod Packets
 pub mod PacketsExact

@@ -30,7 +30,8 @@ pub use places::{worked_full_node, worked_places};
 pub use readings::{worked_first_faults, worked_grants, worked_messages};
 pub use spelling::{worked_bytes, worked_faults_of_bytes};
 pub use words::{
-    plain_words, plain_words_of_advices, plain_words_of_contents, plain_words_of_lent_amounts,
+    plain_words, plain_words_of_advices, plain_words_of_contents, plain_words_of_late_approvals,
+    plain_words_of_lent_amounts,
 };
 pub use worked::{
     worked_answers, worked_full_load, worked_late_run, worked_lent_amounts, worked_limits,

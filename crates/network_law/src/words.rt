@@ -2,6 +2,7 @@
 ghost use Rattle.network_law.specs.Plain.{OpenedByFirst, OpenedOnce, EachIsOfItsKey, FailInOpeningOrder, AnsweredByFirst, ForwardedByFirst, AskedByNumber, CountsAsks, CountsPuts, UpByLast, DatedByLast, CountsTicks, UsedIsSum, LeavesLeast, LeavesOne, LeavesNoMore, LeavesAll, LateIsReversed};
 ghost use Rattle.network_law.specs.PlainAdvices.{Has00BySaid, ApprovedByFirst, FirstApproves, KnownAfterInput, KnownAfterOutput, AdvicesOnce, KnownHasAdvice, AdviceIsKnown, ReversedHasAdvice, AdviceReverses, StoredAreAdvices, AdvicesAreStored, WasPutHasPut, PutWasPut, LoadIsSum};
 ghost use Rattle.network_law.specs.PlainContents.{AskedByAsks, OpenedInOrder, ApprovalsOnce, AdviceIsFirst, AckedAfterStoring};
+ghost use Rattle.network_law.specs.PlainLate.{LateIsSuch, SuchIsLate};
 ghost use Rattle.network_law.specs.PlainGrants.{PacketsAreExact, PacketsAreRead, GrantsAreLends, TakenByFirst, TakenOnce, RepeatsAddNothing, NewAdds, BorrowedIsSum, LentIsSum, AckedByPacket, StoredGrantsAreDue, StoredAdvicesAreDue, DueInStoredOrder};
 
 /// The terms that are defined event by event are the firsts, the filters and the sums that they stand for.
@@ -53,6 +54,12 @@ pub fn plain_words_of_contents()
     ensures approved_once { ApprovalsOnce }
     ensures first { AdviceIsFirst }
     ensures acked { AckedAfterStoring }
+{}
+
+/// Which approvals come late; clause `late` of `plain_words` says what follows.
+pub fn plain_words_of_late_approvals()
+    ensures late { LateIsSuch }
+    ensures such { SuchIsLate }
 {}
 
 /// And so those of lent amounts; what is due is all that is stored and due, in the order in which it was stored.
