@@ -1,5 +1,5 @@
 -- Messages by which settled readings are tried: with further elements, on another date, and at a home that stands in.
-use Rattle.std.specs.Prelude.{ℕ, List, [], ◌∷◌, codes}
+use Rattle.std.specs.Prelude.{ℕ, List, [], ◌∷◌, ◌++◌, replicate, codes}
 use Rattle.iso_message.specs.declared.kind.Kind.{Kind}
 use Rattle.iso_message.specs.declared.kind.Kind.TheVariants.{K0100, K0110, K0120, K0420}
 use Rattle.iso_message.specs.Fields.{Fields}
@@ -23,6 +23,14 @@ home_stands_in = record base {
   issuers = record { name = codes "I"; prefix = 4 ∷ []; home = 1; named = 1 ∷ []; ceiling = 1000 } ∷ [];
   stand_ins = record { node = 1; prefix = 4 ∷ []; day = 1000; single = 1000 } ∷ [];
 }
+
+-- H may lend of 1000 to A
+abbrev pub home_lends : Network
+home_lends = record home_stands_in { issuers = record { name = codes "I"; prefix = 4 ∷ []; home = 1; named = 0 ∷ 1 ∷ []; ceiling = 1000 } ∷ [] }
+
+-- a card number with a wrong check digit
+abbrev pub wrong_number : List ℕ
+wrong_number = 4 ∷ (replicate 14 1 ++ 2 ∷ [])
 
 -- the stand-in advice that H makes
 abbrev pub stand_in_of_home : Fields

@@ -3,10 +3,10 @@ ghost use Rattle.std.specs.Prelude.{◌≡◌, [], ◌∷◌, codes, Some, None}
 ghost use Rattle.iso_message.specs.declared.kind.Kind.TheVariants.{K0100, K0400, K0401, K0410, K0420};
 ghost use Rattle.iso_message.specs.Fields.{as_kind};
 ghost use Rattle.network_law.specs.declared.fault.StepFault.TheVariants.{ForeignAcquirer, Missing, TypeNotForGate, Replacement, NotLent};
-ghost use Rattle.network_law.specs.Traces.{History, load, Enter, Take, TakePacket, LinkDown, NewDate, Put, PutPacket, Answer, Post};
+ghost use Rattle.network_law.specs.Traces.{History, load, Enter, Take, TakePacket, LinkDown, NewDate, Lend, Put, PutPacket, Answer, Post};
 ghost use Rattle.network_law.specs.Refusals.{refusal};
-ghost use Rattle.network_law.specs.Worked.{base, lenders, entered, entered_with, forwarded, answered, reversal_by, partial_reversal, one, ten_dollars, twenty_dollars, outputs_after, ticks, lend_to_b, granted, received};
-ghost use Rattle.network_law.specs.WorkedReadings.{home_stands_in, stand_in_of_home, entered_more, forwarded_more, answered_more, reversal_more, answered_next_day, reversal_dated, reversal_dated_reply, granted_second, received_second};
+ghost use Rattle.network_law.specs.Worked.{base, lenders, entered, entered_with, forwarded, answered, reversal_by, partial_reversal, one, ten_dollars, twenty_dollars, card_number, history_after, outputs_after, ticks, lend_to_b, granted, received};
+ghost use Rattle.network_law.specs.WorkedReadings.{home_stands_in, home_lends, wrong_number, stand_in_of_home, entered_more, forwarded_more, answered_more, reversal_more, answered_next_day, reversal_dated, reversal_dated_reply, granted_second, received_second};
 
 /// Of an entered message element 33 is dropped and all else goes on; an answer and an advice have elements 37 and 41 of it, and no
 /// others that don't concern nodes. A repeat is one by its card, code, amount and currency alone, and gets the first answer with its
@@ -25,7 +25,7 @@ pub fn worked_messages()
 {}
 
 /// Grants are numbered in the order in which they were lent. An acknowledgement counts for its number alone, and is put on the link
-/// that the grant came by, up or down.
+/// that the grant came by, up or down. At the home of its card a grant is stored too, and a card's check digit isn't looked at.
 pub fn worked_grants()
     ensures second { outputs_after lenders 0 (lend_to_b 50 ∷ lend_to_b 100 ∷ []) ≡ PutPacket 0 2 (granted_second 50) ∷ [] }
     ensures put_again { outputs_after lenders 0 (ticks 50 (lend_to_b 50 ∷ lend_to_b 100 ∷ [])) ≡ PutPacket 0 3 (granted 100) ∷ PutPacket 0 4 (granted_second 50) ∷ [] }
@@ -33,6 +33,8 @@ pub fn worked_grants()
     ensures never_lent { outputs_after lenders 0 (ticks 50 (TakePacket 0 1 received_second ∷ lend_to_b 100 ∷ [])) ≡ PutPacket 0 2 (granted 100) ∷ [] }
     ensures link_down { outputs_after lenders 1 (TakePacket 0 1 (granted 100) ∷ LinkDown 0 ∷ []) ≡ PutPacket 0 1 received ∷ [] }
     ensures to_borrower { refusal lenders 1 [] (TakePacket 0 1 (granted 100)) ≡ None }
+    ensures at_home { load home_lends 1 (history_after home_lends 1 (Lend 0 card_number (0 ∷ 3 ∷ 1 ∷ 4 ∷ []) 100 ∷ [])) ≡ 1 }
+    ensures no_check_digit { refusal home_lends 1 [] (Lend 0 wrong_number (0 ∷ 3 ∷ 1 ∷ 4 ∷ []) 100) ≡ None }
 {}
 
 /// Of several faults the first in this order is given: the type, a missing element, a foreign acquirer, a wrong actual amount; and that

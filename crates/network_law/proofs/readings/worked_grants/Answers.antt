@@ -1,6 +1,7 @@
 use Rattle.std.proofs.Common.{refl}
 use Rattle.network_law.specs.Refusals.{refusal}
-use Rattle.network_law.specs.Worked.{outputs_after}
+use Rattle.network_law.specs.Traces.{load}
+use Rattle.network_law.specs.Worked.{history_after, outputs_after}
 use Rattle.network_law.proofs.readings.worked_grants.Goals as goal
 
 pub returns-clause-second : goal.returns-clause-second
@@ -26,3 +27,11 @@ returns-clause-link_down c = refl
 pub returns-clause-to_borrower : goal.returns-clause-to_borrower
 unfolding refusal
 returns-clause-to_borrower c = refl
+
+pub returns-clause-at_home : goal.returns-clause-at_home
+unfolding load history_after
+returns-clause-at_home c = refl
+
+pub returns-clause-no_check_digit : goal.returns-clause-no_check_digit
+unfolding refusal
+returns-clause-no_check_digit c = refl
