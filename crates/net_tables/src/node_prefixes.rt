@@ -1,25 +1,36 @@
-//! The prefixes of each node's rows.
-ghost use Rattle.std.specs.Prelude.{◌≡◌, ◌<◌, [], ◌∷◌, ◌++◌, false, length, slice_set, OnOk, IfOk};
-ghost use Rattle.net_tables.specs.Prefixes.{prefixes_at, AreEmpty};
-ghost use Rattle.net_tables.specs.Reading.{is_among};
+//! Rows at a node, with a prefix that is new there.
+ghost use Rattle.std.specs.Prelude.{◌≡◌, ◌==◌, ◌<◌, not, length, slice_set, OnOk, IfOk};
+ghost use Rattle.indexmap.specs.IndexSet.{insert_key};
+ghost use Rattle.std.specs.Cmp.Lexicographic.{pointwise};
+ghost use Rattle.net_tables.specs.Fields.{row_view, Gives};
+ghost use Rattle.net_tables.specs.Rows.{node_names, prefixes_at, AreEmpty, IsTaken};
+ghost use Rattle.net_tables.specs.Reading.{is_among, new_prefix_at};
 
-use crate::index::Index;
+use crate::fault::TableFault;
+use crate::field::Row;
+use crate::named_rows::NamedRows;
+use crate::node::node_at;
+use crate::place::Key;
 use card_digits::{NodeNo, Prefix};
+use indexmap::IndexSet;
+use net_rows::Node;
 use std::alloc::{AllocError, Global};
 use std::marker::Model;
 
-/// A list of prefixes for each node, by its place.
+const MOST_ROWS: usize = 4_096;
+
+/// A set of prefixes for each node, by its place.
 #[derive(Drop)]
 pub(crate) struct NodePrefixes {
-    lists: Vec<Index<Prefix>>,
+    sets: Vec<IndexSet<Prefix>>,
 }
 
 impl Model for NodePrefixes {
-    ghost use Rattle.std.specs.Prelude.{List, ℕ};
+    ghost use Rattle.std.specs.Prelude.{List, ℕ, map};
 
     ghost Value = { List (List (List ℕ)) };
 
-    ghost view = { λ a. a.lists.items };
+    ghost view = { λ a. map (λ s. s.keys) a.sets.items };
 }
 
 impl NodePrefixes {
@@ -28,27 +39,49 @@ impl NodePrefixes {
         ensures empty { IfOk result AreEmpty }
         ensures len { IfOk result (λ v. length v ≡ nodes) }
     {
-        let mut lists = Vec::new(alloc);
+        let mut sets = Vec::new(alloc);
         for _ in 0..nodes {
-            lists.push(Index::new(alloc))?;
+            sets.push(IndexSet::new(alloc))?;
         }
-        Ok(NodePrefixes { lists })
+        Ok(NodePrefixes { sets })
     }
 
-    /// Those of a node.
-    pub fn of(&self, node: NodeNo) -> &Index<Prefix>
+    /// How many the node has.
+    fn count(&self, node: NodeNo) -> usize
         requires { node < length self.now }
-        ensures { result.now ≡ prefixes_at self.now node }
+        ensures { result ≡ length (prefixes_at self.now node) }
     {
-        &self.lists[node.place()]
+        self.sets[node.place()].len()
     }
 
-    /// One prefix more at a node.
-    pub fn add(&mut self, node: NodeNo, prefix: Prefix) -> Result<(), AllocError>
-        requires within { node < length self.old }
-        requires new { is_among (prefixes_at self.old node) prefix ≡ false }
-        ensures { OnOk result (self.new ≡ slice_set self.old node (prefixes_at self.old node ++ prefix ∷ [])) }
+    /// Puts one prefix more at a node, and says whether it is new there.
+    fn insert(&mut self, node: NodeNo, prefix: Prefix) -> Result<bool, AllocError>
+        requires { node < length self.old }
+        ensures new { IfOk result (λ is_new. is_new ≡ not (is_among (prefixes_at self.old node) prefix)) }
+        ensures set { OnOk result (self.new ≡ slice_set self.old node (insert_key (pointwise ◌==◌) (prefixes_at self.old node) prefix)) }
     {
-        self.lists[node.place()].push(prefix)
+        Ok(self.sets[node.place()].insert(prefix)?)
     }
+}
+
+/// The row's node and its prefix, which is new at the node.
+#[tactic(auto, unfolding(crate::specs::Reading::new_prefix_at))]
+pub(crate) fn new_prefix_at(
+    row: &Row,
+    nodes: &NamedRows<Node>,
+    taken: &mut NodePrefixes,
+) -> Result<(NodeNo, Prefix), TableFault>
+    requires { length taken.old ≡ length nodes.now }
+    ensures value { Gives (λ p. p) result (new_prefix_at (node_names nodes.now) (prefixes_at taken.old) (row_view row.now)) }
+    ensures taken { IfOk result (λ p. IsTaken p.0 p.1 taken.old taken.new) }
+{
+    let node = node_at(row, Key::Node, nodes)?;
+    if taken.count(node) >= MOST_ROWS {
+        return Err(TableFault::TooMany(row.table));
+    }
+    let prefix = row.prefix(Key::Prefix)?;
+    if !taken.insert(node, prefix)? {
+        return Err(TableFault::Twice(row.place(Key::Prefix)));
+    }
+    Ok((node, prefix))
 }

@@ -1,5 +1,5 @@
 //! Fields that name several rows.
-ghost use Rattle.std.specs.Prelude.{◌≡◌, ◌≤◌, [], length, option_map, IfOk, true};
+ghost use Rattle.std.specs.Prelude.{◌≡◌, ◌≤◌, [], length, map, option_map, IfOk, true};
 ghost use Rattle.std.specs.List.{list_all};
 ghost use Rattle.toml.specs.View.{items_view};
 ghost use Rattle.net_tables.specs.Values.{all_names};
@@ -10,16 +10,60 @@ ghost use Rattle.net_rows.specs.Sound.{is_end};
 
 use crate::fault::TableFault;
 use crate::field::Row;
-use crate::link::LinkRows;
-use crate::node::NodeRows;
+use crate::named_rows::{Named, NamedRows};
 use crate::place::{Key, Place};
 use crate::value::name_of;
 use card_digits::{LinkNo, Name, NodeNo};
-use net_rows::{Link, Links, Nodes};
+use net_rows::{Link, Links, Node, Nodes};
 use std::alloc::{AllocError, Global};
 use toml::Value;
 
 const MOST_LINKS: usize = 8;
+
+/// A list of rows, by their places.
+trait Places: Drop {
+    ghost use Rattle.std.specs.Prelude.{ℕ, List, [], ◌∷◌, ◌++◌, ◌≡◌, ◌<◌, OnOk};
+
+    ghost places: { Self → List ℕ };
+
+    // each is less than this
+    ghost most: { ℕ };
+
+    fn none(alloc: Global) -> Self
+        ensures { places result ≡ [] };
+
+    fn add(&mut self, place: usize) -> Result<(), AllocError>
+        requires { place < most }
+        ensures { OnOk result (places self.new ≡ places self.old ++ place ∷ []) };
+}
+
+impl Places for Nodes {
+    ghost places = { λ nodes. nodes };
+
+    ghost most = { 64 };
+
+    fn none(alloc: Global) -> Nodes {
+        Nodes::new(alloc)
+    }
+
+    fn add(&mut self, place: usize) -> Result<(), AllocError> {
+        self.push(NodeNo::new(place))
+    }
+}
+
+impl Places for Links {
+    ghost places = { λ links. links };
+
+    ghost most = { 256 };
+
+    fn none(alloc: Global) -> Links {
+        Links::new(alloc)
+    }
+
+    fn add(&mut self, place: usize) -> Result<(), AllocError> {
+        self.push(LinkNo::new(place))
+    }
+}
 
 /// The names that the values are, where each is one.
 fn all_names(alloc: Global, values: &[Value]) -> Result<Option<Vec<Name>>, AllocError>
@@ -48,70 +92,48 @@ fn names_at(alloc: Global, row: &Row, key: Key) -> Result<Vec<Name>, TableFault>
     }
 }
 
-fn all_nodes(
+/// The rows of these names.
+fn all_named<R: Named, P: Places>(
     alloc: Global,
-    nodes: &NodeRows,
+    rows: &NamedRows<R>,
     names: &[Name],
     at: Place,
-) -> Result<Nodes, TableFault>
-    ensures { Gives (λ v. v) result (all_named (node_names nodes.now) at names.now) }
+) -> Result<P, TableFault>
+    requires { R.most ≤ P.most }
+    ensures { Gives P.places result (all_named (map R.name_of rows.now) at names.now) }
 {
-    let mut found = Nodes::new(alloc);
+    let mut found = P::none(alloc);
     for name in names {
-        found.push(nodes.named(name, at)?)?;
+        found.add(rows.named(name, at)?)?;
     }
     Ok(found)
 }
 
-fn is_node_twice(nodes: &[NodeNo]) -> bool
-    ensures { result ≡ is_twice nodes.now }
+fn is_twice<T: PartialEq>(items: &[T]) -> bool
+    ensures { result ≡ is_twice T.eq items.now }
 {
-    match nodes {
+    match items {
         [] => false,
-        [first, rest @ ..] => rest.contains(first) || is_node_twice(rest),
+        [first, rest @ ..] => rest.contains(first) || is_twice(rest),
     }
 }
 
 /// The nodes that a field names, none twice.
-#[tactic(auto, unfolding(crate::specs::Reading::nodes_at), using(crate::proofs::Rows::fails_bind))]
+#[tactic(auto, unfolding(crate::specs::Reading::nodes_at), using(crate::proofs::Loops::fails_bind))]
 pub(crate) fn nodes_at(
     alloc: Global,
     row: &Row,
     key: Key,
-    nodes: &NodeRows,
+    nodes: &NamedRows<Node>,
 ) -> Result<Nodes, TableFault>
     ensures { Gives (λ v. v) result (nodes_at (node_names nodes.now) (row_view row.now) key) }
 {
     let names = names_at(alloc, row, key)?;
-    let found = all_nodes(alloc, nodes, &names, row.place(key))?;
-    if is_node_twice(found.as_slice()) {
+    let found: Nodes = all_named(alloc, nodes, &names, row.place(key))?;
+    if is_twice(found.as_slice()) {
         return Err(TableFault::Twice(row.place(key)));
     }
     Ok(found)
-}
-
-fn all_links(
-    alloc: Global,
-    links: &LinkRows,
-    names: &[Name],
-    at: Place,
-) -> Result<Links, TableFault>
-    ensures { Gives (λ v. v) result (all_named (link_names links.now) at names.now) }
-{
-    let mut found = Links::new(alloc);
-    for name in names {
-        found.push(links.named(name, at)?)?;
-    }
-    Ok(found)
-}
-
-fn is_link_twice(links: &[LinkNo]) -> bool
-    ensures { result ≡ is_twice links.now }
-{
-    match links {
-        [] => false,
-        [first, rest @ ..] => rest.contains(first) || is_link_twice(rest),
-    }
 }
 
 fn is_end(links: &[Link], node: NodeNo, link: LinkNo) -> bool
@@ -130,13 +152,13 @@ fn all_at(links: &[Link], node: NodeNo, found: &[LinkNo]) -> bool
 }
 
 /// One to eight links of the node that a field names, none twice.
-#[tactic(auto, unfolding(crate::specs::Reading::links_at), using(crate::proofs::Rows::fails_bind))]
+#[tactic(auto, unfolding(crate::specs::Reading::links_at), using(crate::proofs::Loops::fails_bind))]
 pub(crate) fn links_at(
     alloc: Global,
     row: &Row,
     key: Key,
     node: NodeNo,
-    links: &LinkRows,
+    links: &NamedRows<Link>,
 ) -> Result<Links, TableFault>
     ensures value { Gives (λ v. v) result (links_at links.now node (row_view row.now) key) }
     ensures own { IfOk result (λ v. list_all (is_end links.now node) v ≡ true) }
@@ -146,11 +168,11 @@ pub(crate) fn links_at(
     if count == 0 || count > MOST_LINKS {
         return Err(row.bad(key));
     }
-    let found = all_links(alloc, links, &names, row.place(key))?;
-    if !all_at(links.rows(), node, found.as_slice()) {
+    let found: Links = all_named(alloc, links, &names, row.place(key))?;
+    if !all_at(links.as_slice(), node, found.as_slice()) {
         return Err(TableFault::NotAtLink(row.place(key)));
     }
-    if is_link_twice(found.as_slice()) {
+    if is_twice(found.as_slice()) {
         return Err(TableFault::Twice(row.place(key)));
     }
     Ok(found)

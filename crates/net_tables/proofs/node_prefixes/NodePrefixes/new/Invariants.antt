@@ -1,5 +1,5 @@
-use Rattle.std.proofs.Common.{◌≡◌, ℕ, List, length}
-use Rattle.net_tables.specs.Prefixes.{AreEmpty}
+use Rattle.std.proofs.Common.{◌≡◌, ℕ, List, length, map}
+use Rattle.net_tables.specs.Rows.{AreEmpty}
 use Rattle.net_tables.proofs.node_prefixes.NodePrefixes.new.Given as goal
 
 pub record AreMade (lists : List (List (List ℕ))) (count : ℕ) : Type 0 where
@@ -7,4 +7,4 @@ pub record AreMade (lists : List (List (List ℕ))) (count : ℕ) : Type 0 where
   pub len : length lists ≡ count
 
 abbrev pub invariant-loop : goal.invariant-loop
-invariant-loop l = AreMade l.lists.items l.counter
+invariant-loop l = AreMade (map (λ s. s.keys) l.sets.items) l.counter

@@ -1,0 +1,85 @@
+//! Rows that are found by their names.
+ghost use Rattle.std.specs.Prelude.{◌≡◌, ◌<◌, length, map, IfOk};
+ghost use Rattle.net_tables.specs.Rows.{AreNamed};
+ghost use Rattle.net_tables.specs.Reading.{named};
+
+use crate::fault::TableFault;
+use crate::place::Place;
+use card_digits::Name;
+use indexmap::IndexSet;
+use net_rows::{Link, Node};
+use std::marker::Model;
+
+/// A row with a name.
+pub(crate) trait Named {
+    ghost use Rattle.std.specs.Prelude.{ℕ, List};
+
+    ghost name_of: { Self → List ℕ };
+
+    // how many rows there may be
+    ghost most: { ℕ };
+}
+
+impl Named for Node {
+    ghost name_of = { λ n. n.name };
+
+    ghost most = { 64 };
+}
+
+impl Named for Link {
+    ghost name_of = { λ l. l.name };
+
+    ghost most = { 256 };
+}
+
+/// Rows in the order of the text, and their names, none twice.
+#[derive(Drop)]
+pub(crate) struct NamedRows<R: Named> {
+    rows: Vec<R>,
+    names: IndexSet<Name>,
+}
+
+impl<R: Named> Model for NamedRows<R> {
+    ghost use Rattle.std.specs.Prelude.{List};
+    ghost use Rattle.net_tables.specs.Rows.{AreNamed};
+
+    ghost Value = { List R };
+
+    ghost view = { λ a. a.rows.items };
+
+    ghost invariant = { λ a. AreNamed R.most R.name_of a.names.keys a.rows.items };
+}
+
+impl<R: Named> NamedRows<R> {
+    pub fn new(rows: Vec<R>, names: IndexSet<Name>) -> NamedRows<R>
+        requires { AreNamed R.most R.name_of names.keys rows.items }
+        ensures { result ≡ rows.items }
+    {
+        NamedRows { rows, names }
+    }
+
+    /// The place of the row of that name, counted from 0.
+    pub fn named(&self, name: &Name, at: Place) -> Result<usize, TableFault>
+        ensures value { result ≡ named (map R.name_of self.now) at name.now }
+        ensures within { IfOk result (λ i. i < length self.now) }
+        ensures few { IfOk result (λ i. i < R.most) }
+    {
+        self.names
+            .get_index_of(name)
+            .ok_or(TableFault::UnknownName(at))
+    }
+
+    pub fn as_slice(&self) -> &[R]
+        ensures { result.now ≡ self.now }
+    {
+        &self.rows
+    }
+
+    /// The rows alone.
+    pub fn into_rows(self) -> Vec<R>
+        ensures { result.items ≡ self }
+    {
+        let NamedRows { rows, names: _ } = self;
+        rows
+    }
+}
