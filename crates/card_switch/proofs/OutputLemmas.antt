@@ -1,7 +1,7 @@
 -- Outputs of inputs that were read.
 use Rattle.std.proofs.Common.{◌≡◌, ℕ, ◌≤◌, List, length, Option, Some, None, subst, inl, inr}
 use Rattle.std.specs.Prelude.{IfSome}
-use Rattle.card_switch.specs.declared.job.Job.{Job}
+use Rattle.command_line.specs.declared.job.Job.{Job}
 use Rattle.card_switch.specs.declared.input.InputFault.TheVariants as cause
 use Rattle.bundle_text.specs.Answers.{Said}
 use Rattle.card_switch.specs.Bundle.{IsAnswer, IsOutput, IsOfInput, IsCause, AnswersOrMemory}

@@ -1,7 +1,7 @@
 //! Whole inputs and what is printed for them.
 use crate::bundle::run_text;
-use crate::job::{Job, job_of};
 use card_digits::Counted;
+use command_line::Job;
 use std::alloc::{AllocError, Global};
 use std::test::Fail;
 
@@ -71,26 +71,5 @@ fn the_first_network_is_accepted(rt: HostRuntime) -> Result<(), Fail> {
     let ranks = base::RANKS;
     let input = format!(in rt.alloc(); "{tables}%%\n{ranks}")?;
     assert!(rt; says(rt.alloc(), Job::Check, input.as_bytes(), b"accepted\n", 0)?);
-    Ok(())
-}
-
-#[test]
-fn jobs_of_words(rt: HostRuntime) -> Result<(), Fail> {
-    let alloc = rt.alloc();
-    assert_eq!(rt; job_of(alloc, &["check"])?, Some(Job::Check));
-    assert_eq!(rt; job_of(alloc, &["make"])?, Some(Job::Make));
-    assert_eq!(rt;
-        job_of(alloc, &["decode"])?,
-        Some(Job::Decode { frames: false })
-    );
-    assert_eq!(rt;
-        job_of(alloc, &["decode", "--frames"])?,
-        Some(Job::Decode { frames: true })
-    );
-    assert_eq!(rt; job_of(alloc, &["check", "--"])?, None);
-    assert_eq!(rt; job_of(alloc, &["replay"])?, Some(Job::Replay));
-    assert_eq!(rt; job_of(alloc, &["run"])?, Some(Job::Run));
-    assert_eq!(rt; job_of(alloc, &["replay", "replay"])?, None);
-    assert_eq!(rt; job_of(alloc, &[])?, None);
     Ok(())
 }

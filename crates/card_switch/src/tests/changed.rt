@@ -1,9 +1,9 @@
 //! Scripts and plans that are cut short, and with one byte changed: each has a defined answer.
 use crate::bundle::run_bundle;
-use crate::job::Job;
 use crate::tests::answer;
 use crate::tests::networks::TWO_NODES;
 use card_digits::Counted;
+use command_line::Job;
 use std::alloc::{AllocError, Global};
 use std::sync::Wait;
 use std::test::Fail;

@@ -2,10 +2,10 @@
 ghost use Rattle.std.specs.Prelude.{None};
 
 use crate::bundle::{BundleFault, run_bundle, run_text};
-use crate::job::Job;
 use crate::tests::base;
 use crate::tests::networks::DIAMOND;
 use card_digits::{Counted, ReadFault, Sink, Source, WriteFault};
+use command_line::Job;
 use std::alloc::{AllocError, Global};
 use std::test::Fail;
 

@@ -1,6 +1,6 @@
 //! Too many rows, and other shapes of whole inputs.
-use crate::job::Job;
 use crate::tests::says;
+use command_line::Job;
 use std::alloc::{AllocError, Global};
 use std::test::Fail;
 

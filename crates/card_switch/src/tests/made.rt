@@ -1,6 +1,6 @@
 //! Ranks that were made, checked.
-use crate::job::Job;
 use crate::tests::{answer, base, says};
+use command_line::Job;
 use std::alloc::{AllocError, Global};
 use std::test::Fail;
 

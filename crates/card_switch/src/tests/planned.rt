@@ -1,8 +1,8 @@
 //! Plans, and what is printed for them.
 use crate::bundle::run_bundle;
-use crate::job::Job;
 use crate::tests::networks::{IN_A_LINE, Sample, TWO_ACQUIRERS, TWO_NODES};
 use card_digits::Counted;
+use command_line::Job;
 use std::alloc::{AllocError, Global};
 use std::sync::Wait;
 use std::test::Fail;

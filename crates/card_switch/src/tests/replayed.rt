@@ -1,9 +1,9 @@
 //! Scripts, and what is printed for each line.
-use crate::job::Job;
 use crate::tests::networks::{
     DIAMOND, DIAMOND_WITHOUT_STAND_IN, SHARED_LIMITS, STAND_IN_AT_A, Sample, TWO_ISSUERS, TWO_NODES,
 };
 use crate::tests::says;
+use command_line::Job;
 use std::alloc::{AllocError, Global};
 use std::test::Fail;
 

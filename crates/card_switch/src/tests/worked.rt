@@ -1,5 +1,5 @@
-use crate::job::Job;
 use crate::tests::says;
+use command_line::Job;
 use std::test::Fail;
 
 #[test]

@@ -1,5 +1,5 @@
 use Rattle.std.proofs.lemmas.Result.{on_err_weaker, IfOk-weaker}
-use Rattle.card_switch.specs.declared.job.Job.TheVariants.{Run}
+use Rattle.command_line.specs.declared.job.Job.TheVariants.{Run}
 use Rattle.card_switch.specs.Bundle.{IsCause}
 use Rattle.card_switch.proofs.OutputLemmas.{output_of}
 use Rattle.card_switch.proofs.bundle.print_run.Goals as goal

@@ -1,7 +1,7 @@
 use Rattle.std.proofs.Common.{OnErr, sym, subst}
 use Rattle.bundle_text.specs.Answers.{WroteFront}
 use Rattle.card_switch.specs.Bundle.{IsOutput}
-use Rattle.card_switch.specs.declared.job.Job.{Job}
+use Rattle.command_line.specs.declared.job.Job.{Job}
 use Rattle.card_switch.proofs.bundle.run_bundle.Goals as goal
 
 -- what `run_threads` says of `Run` is said of the job, which is `Run` here

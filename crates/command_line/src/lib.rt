@@ -1,0 +1,10 @@
+//! What the program's words ask for, as `clap` parses them.
+#![tactic(auto)]
+
+mod job;
+mod parse;
+#[cfg(test)]
+mod tests;
+
+pub use job::Job;
+pub use parse::job_of;
