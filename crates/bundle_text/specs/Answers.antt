@@ -14,6 +14,7 @@ use Rattle.bundle_text.specs.Lines.{Text, table_fault_line, cert_fault_line, ref
 use Rattle.rank_cert.specs.Writing.{text_of}
 use Rattle.rank_maker.specs.Circle.{IsCircle}
 use Rattle.std.specs.Io.KnownBytes.{Appends}
+use Rattle.card_digits.specs.Digits.{IsPrefix}
 use Rattle.card_digits.specs.Stream.{AppendsFront}
 use Rattle.card_digits.specs.Lines.{lines}
 use Rattle.message_text.specs.Parts.{AreFrames}
@@ -66,10 +67,10 @@ NamesMemory said = (said ≡ fault (codes "fault tables 8 memory\n")) ⊎ ((said
 abbrev pub Answers : Said → Said → Type 0
 Answers said wanted = (said ≡ wanted) ⊎ NamesMemory said
 
--- what is made of tables: some certificate, a circle of theirs, or neither
+-- what is made of tables: the text of a certificate, as which it is read, a circle of theirs, or neither
 pub data IsMade (t : Network) (said : Said) : Type 0 where
-  IsCert : (cert : List Rank) → said ≡ record { text = text_of cert; status = Done } → IsMade t said
-  IsCircleOf : (class nodes : List ℕ) → IsCircle t class nodes → said ≡ record { text = circle_line t class nodes; status = Refused } → IsMade t said
+  IsCertText : (cert : List Rank) → cert_in (text_of cert) ≡ Ok cert → said ≡ record { text = text_of cert; status = Done } → IsMade t said
+  IsCircleOf : (class nodes : List ℕ) → IsPrefix class → IsCircle t class nodes → said ≡ record { text = circle_line t class nodes; status = Refused } → IsMade t said
   GaveUp : said ≡ record { text = codes "gave up\n"; status = Refused } → IsMade t said
 
 abbrev pub IsMadeOf : Result Network TableFault → Said → Type 0

@@ -64,6 +64,8 @@ fn circle(
     if !is_circle(tables, class, nodes) {
         return gave_up(alloc);
     }
+    // The clause of `digits` says that a class is a prefix.
+    prove!(!class.digits().is_empty());
     let line = circle_line(alloc, tables, class, nodes)?;
     Ok(Answer::new(line, Status::Refused))
 }

@@ -5,5 +5,5 @@ use Rattle.bundle_text.proofs.make_text.circle.Goals as goal
 
 pub returns : goal.returns
 returns c =
-    IsCircleOf c.args.class.now c.args.nodes.now (c.is_circle.ensures.0 (search rules))
+    IsCircleOf c.args.class.now c.args.nodes.now (search rules) (c.is_circle.ensures.0 (search rules))
     (c.new.ensures ∙ ap (λ (t : List ℕ). let s : Said = record { text = t; status = Refused } in s) c.in_ok-line.ensures)
