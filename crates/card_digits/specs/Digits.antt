@@ -1,6 +1,6 @@
 -- Decimal digits, as numbers from 0 to 9.
-use Rattle.std.specs.Prelude.{◌≡◌, ℕ, ◌<◌, ◌≤◌, ◌-◌, ◌==◌, true, false, List, length, drop, map, replicate}
-use Rattle.std.specs.Char.{is_ascii_digit}
+use Rattle.std.specs.Prelude.{◌≡◌, ℕ, ◌<◌, ◌≤◌, ◌+◌, ◌-◌, ◌==◌, true, false, List, length, drop, map, replicate}
+use Rattle.std.specs.Char.{is_ascii_alphanumeric, is_ascii_digit}
 use Rattle.std.specs.List.{AllByRecursion, list_all}
 
 -- the numbers that ASCII digits write
@@ -24,6 +24,16 @@ IsPrefix = AreDigitsWithin 1 12
 
 abbrev pub IsDateLabel : List ℕ → Type 0
 IsDateLabel = AreDigitsWithin 4 4
+
+-- the ASCII digits that write these numbers
+abbrev pub digits_text : List ℕ → List ℕ
+digits_text ds = map (λ d. d + 48) ds
+
+-- 1 to 8 ASCII letters and digits
+pub record IsName (text : List ℕ) : Type 0 where
+  pub some : 1 ≤ length text
+  pub few : length text ≤ 8
+  pub letters : list_all is_ascii_alphanumeric text ≡ true
 
 -- at most eleven ASCII digits, not all of them 0
 pub record IsId (text : List ℕ) : Type 0 where

@@ -9,6 +9,7 @@ mod key;
 mod lines;
 mod name;
 mod prefix;
+mod printed;
 mod short_bytes;
 mod stream;
 

@@ -1,9 +1,12 @@
 //! Names and ids.
-ghost use Rattle.std.specs.Prelude.{◌≡◌, ◌==◌, IfSome};
+ghost use Rattle.std.specs.Prelude.{◌≡◌, ◌==◌, ◌<◌, All, IfSome, Some};
 ghost use Rattle.std.specs.List.{list_all};
 ghost use Rattle.std.specs.Char.{is_ascii_alphanumeric};
 
+use crate::key::pad11;
+use crate::printed::write_ascii;
 use crate::short_bytes::{ShortBytes, all_digits};
+use std::fmt;
 use std::marker::Model;
 
 /// A name of 1 to 8 ASCII letters and digits.
@@ -18,6 +21,10 @@ impl Model for Name {
     ghost Value = { List ℕ };
 
     ghost view = { λ a. a.text };
+
+    ghost use Rattle.card_digits.specs.Digits.{IsName};
+
+    ghost invariant = { λ a. IsName a.text };
 
     ghost inverse = { λ bs. record { text = bs } };
 }
@@ -38,10 +45,23 @@ impl Name {
     }
 
     /// The letters and digits.
+    #[tactic(auto, using(crate::proofs::Within::name_ascii))]
     pub fn as_slice(&self) -> &[u8]
-        ensures { result.now ≡ self.now }
+        ensures text { result.now ≡ self.now }
+        ensures ascii { All (λ b. b < 128) result.now }
     {
         self.text.as_slice()
+    }
+}
+
+impl fmt::Display for Name {
+    ghost output = { λ text. Some text };
+
+    fn fmt<W: fmt::Write>(&self, f: &mut fmt::Formatter<W>) -> fmt::Result {
+        for byte in self.as_slice() {
+            write_ascii(f, *byte)?;
+        }
+        Ok(())
     }
 }
 
@@ -67,6 +87,7 @@ impl Model for Id {
 
 impl Id {
     ghost use Rattle.card_digits.specs.Reading.{id_of};
+    ghost use Rattle.card_digits.specs.Numbers.{pad11};
     ghost use Rattle.card_digits.specs.Digits.{IsId};
 
     /// The id that the bytes are.
@@ -83,11 +104,33 @@ impl Id {
     }
 
     /// The digits, as text.
+    #[tactic(auto, using(crate::proofs::Within::id_ascii))]
     pub fn as_slice(&self) -> &[u8]
         ensures text { result.now ≡ self.now }
         ensures form { IsId result.now }
+        ensures ascii { All (λ b. b < 128) result.now }
     {
         self.text.as_slice()
+    }
+
+    /// The same of eleven digits, with zeros on the left.
+    pub fn padded(&self) -> Id
+        ensures { result ≡ pad11 self.now }
+    {
+        Id {
+            text: ShortBytes::from_slice(&pad11(self.as_slice())),
+        }
+    }
+}
+
+impl fmt::Display for Id {
+    ghost output = { λ text. Some text };
+
+    fn fmt<W: fmt::Write>(&self, f: &mut fmt::Formatter<W>) -> fmt::Result {
+        for byte in self.as_slice() {
+            write_ascii(f, *byte)?;
+        }
+        Ok(())
     }
 }
 

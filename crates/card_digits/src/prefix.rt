@@ -1,8 +1,10 @@
 //! Prefixes of card numbers.
-ghost use Rattle.std.specs.Prelude.{◌≡◌, ◌<◌, ◌≤◌, length, take, All};
+ghost use Rattle.std.specs.Prelude.{◌≡◌, ◌<◌, ◌≤◌, length, take, All, Some};
 
 use crate::card::{Card, DigitFault, read};
+use crate::printed::write_ascii;
 use crate::short_bytes::ShortBytes;
+use std::fmt;
 use std::marker::Model;
 
 /// A prefix of 1 to 12 digits.
@@ -68,5 +70,19 @@ impl Prefix {
         Prefix {
             digits: ShortBytes::from_slice(&self.digits()[..len]),
         }
+    }
+}
+
+/// Its digits.
+impl fmt::Display for Prefix {
+    ghost use Rattle.card_digits.specs.Digits.{digits_text};
+
+    ghost output = { λ digits. Some (digits_text digits) };
+
+    fn fmt<W: fmt::Write>(&self, f: &mut fmt::Formatter<W>) -> fmt::Result {
+        for digit in self.digits() {
+            write_ascii(f, *digit + b'0')?;
+        }
+        Ok(())
     }
 }
