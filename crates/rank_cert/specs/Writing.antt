@@ -1,11 +1,8 @@
 -- The text of a certificate.
-use Rattle.std.specs.Prelude.{ℕ, ◌+◌, List, [], ◌∷◌, ◌++◌, map, codes}
+use Rattle.std.specs.Prelude.{ℕ, List, [], ◌∷◌, ◌++◌, codes}
 use Rattle.std.specs.Fmt.{decimal}
+pub use Rattle.card_digits.specs.Digits.{digits_text}
 use Rattle.rank_cert.specs.declared.cert.Rank.{Rank}
-
--- the ASCII digits of a prefix
-abbrev pub digits_text : List ℕ → List ℕ
-digits_text digits = map (λ d. d + 48) digits
 
 -- a name, a prefix and a rank, with a space between them
 abbrev pub line_of : Rank → List ℕ
