@@ -1,5 +1,5 @@
 -- Lines that are gathered one by one are the parts of the whole.
-use Rattle.std.proofs.Common.{◌≡◌, ℕ, ◌==◌, Bool, true, false, cond, List, [], ◌∷◌, ◌++◌, length, map, ◌<◌, refl, sym, ap, ◌∙◌, append_assoc, inl, inr, arith}
+use Rattle.std.proofs.Common.{◌≡◌, ℕ, ◌==◌, Bool, true, false, List, [], ◌∷◌, ◌++◌, length, map, ◌<◌, refl, sym, ap, ◌∙◌, append_assoc, inl, inr, arith}
 use Rattle.std.specs.List.{slice_split, onto_first, join_with_byte}
 use Rattle.std.proofs.lemmas.Bool.{cases_Bool}
 use Rattle.std.proofs.lemmas.List.{append-nil, length-append}
@@ -8,7 +8,7 @@ use Rattle.card_digits.specs.Cut.{IsCut}
 use Rattle.card_digits.proofs.Cuts.{Others}
 use Rattle.std.specs.Prelude.{MatchBool}
 use Rattle.bundle_text.specs.declared.input_parts.Gathered.{Gathered}
-use Rattle.bundle_text.specs.Parts.{without_return, trimmed, lines_of, separates, parts_of, has_any, IsGathered}
+use Rattle.bundle_text.specs.Parts.{without_return, lines_of, separates, parts_of, has_any, IsGathered}
 
 -- a line more, behind a line feed where it isn't the first
 pub joined_more : (lines : List (List ℕ)) (line : List ℕ) → has_any lines ≡ true → join_with_byte 10 (lines ++ line ∷ []) ≡ (join_with_byte 10 lines ++ 10 ∷ []) ++ line

@@ -7,6 +7,7 @@ mod decode_text;
 mod faults;
 mod input_parts;
 mod make_text;
+mod names;
 mod refusals;
 
 pub use answer::{Answer, Status, write_answer};
@@ -18,4 +19,5 @@ pub use faults::{cert_fault_line, table_fault_line};
 pub use input_parts::parts;
 pub use make_text::make_answer;
 pub use message_text::{MOST_WAITING, PrintFault, add_text, send};
-pub use refusals::{link_name, node_name, refusal_line};
+pub use names::{link_name, node_name};
+pub use refusals::refusal_line;

@@ -1,16 +1,15 @@
 //! The answer of `make`.
-ghost use Rattle.std.specs.Prelude.{◌≡◌, ◌∷◌, ℕ, List, [], IfOk, map, string_bytes};
-ghost use Rattle.std.specs.List.{flat_map};
+ghost use Rattle.std.specs.Prelude.{◌≡◌, ℕ, List, [], IfOk, map, string_bytes};
 ghost use Rattle.net_tables.specs.Reading.{tables_in};
 ghost use Rattle.rank_maker.specs.Circle.{IsCircle};
-ghost use Rattle.bundle_text.specs.Lines.{node_name, circle_line};
+ghost use Rattle.bundle_text.specs.Lines.{circle_line};
 ghost use Rattle.bundle_text.specs.Answers.{IsMade, IsMadeOf, IsMadeOfParts, MakeAnswers, NamesMemory};
 
 use crate::answer::{Answer, Status};
 use crate::check_text::{fault_answer, parts_fault};
 use crate::faults::table_fault_line;
 use crate::input_parts::parts;
-use crate::refusals::{digits_text, joined, node_name};
+use crate::names::NamedNodes;
 use card_digits::{NodeNo, Prefix};
 use net_rows::Tables;
 use net_tables::read_tables;
@@ -18,29 +17,16 @@ use rank_cert::write_cert;
 use rank_maker::{Made, is_circle, make};
 use std::alloc::{AllocError, Global};
 
-/// The names of nodes, a space before each.
-fn names(alloc: Global, tables: &Tables, nodes: &[NodeNo]) -> Result<Vec<u8>, AllocError>
-    ensures { IfOk result (λ v. v.items ≡ flat_map (λ n. 32 ∷ node_name tables.now n) nodes.now) }
-{
-    let mut text = Vec::new(alloc);
-    for node in nodes {
-        text.push(b' ')?;
-        text.extend_from_slice(node_name(tables, *node))?;
-    }
-    Ok(text)
-}
-
 fn circle_line(
     alloc: Global,
     tables: &Tables,
     class: &Prefix,
     nodes: &[NodeNo],
-) -> Result<Vec<u8>, AllocError>
-    ensures { IfOk result (λ v. v.items ≡ circle_line tables.now class.now nodes.now) }
+) -> Result<String, AllocError>
+    ensures { IfOk result (λ s. string_bytes s ≡ circle_line tables.now class.now nodes.now) }
 {
-    let digits = digits_text(alloc, class)?;
-    let names = names(alloc, tables, nodes)?;
-    joined(alloc, &[b"circle ", &digits, &names, b"\n"])
+    let names = NamedNodes { tables, nodes };
+    format!(in alloc; "circle {class}{names}\n")
 }
 
 fn gave_up(alloc: Global) -> Result<Answer, AllocError>
@@ -67,7 +53,7 @@ fn circle(
     // The clause of `digits` says that a class is a prefix.
     prove!(!class.digits().is_empty());
     let line = circle_line(alloc, tables, class, nodes)?;
-    Ok(Answer::new(line, Status::Refused))
+    Ok(Answer::new(line.into_bytes(), Status::Refused))
 }
 
 /// What is made of tables.

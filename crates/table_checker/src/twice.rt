@@ -1,40 +1,47 @@
 //! Ids that stand twice, and timers that run too long.
-ghost use Rattle.std.specs.Prelude.{◌≡◌, ◌<◌, length, map, nat_lt, IfOk, IfSome, option_map, Some};
-ghost use Rattle.std.specs.List.{position_from};
+ghost use Rattle.std.specs.Prelude.{◌≡◌, ◌==◌, ◌<◌, length, map, nat_lt, IfOk, IfSome, option_map, Some};
+ghost use Rattle.std.specs.List.{list_any, position_from};
+ghost use Rattle.std.specs.Cmp.Lexicographic.{pointwise};
 ghost use Rattle.card_digits.specs.Numbers.{pad11};
 ghost use Rattle.table_checker.specs.Rules.{first_repeated, acquirer_twice, node_id_twice, timer_too_long};
 
 use crate::refusal::Refusal;
-use card_digits::{LinkNo, pad11};
+use card_digits::{Id, LinkNo};
 use net_rows::{Acquirer, Link, Node, Tables};
 use std::alloc::{AllocError, Global};
 
-fn acquirer_ids(alloc: Global, acquirers: &[Acquirer]) -> Result<Vec<[u8; 11]>, AllocError>
+fn acquirer_ids(alloc: Global, acquirers: &[Acquirer]) -> Result<Vec<Id>, AllocError>
     ensures { IfOk result (λ v. v.items ≡ map (λ a. pad11 a.id) acquirers.now) }
 {
     let mut ids = Vec::new(alloc);
     for acquirer in acquirers {
-        ids.push(pad11(acquirer.id.as_slice()))?;
+        ids.push(acquirer.id.padded())?;
     }
     Ok(ids)
 }
 
-fn node_ids(alloc: Global, nodes: &[Node]) -> Result<Vec<[u8; 11]>, AllocError>
+fn node_ids(alloc: Global, nodes: &[Node]) -> Result<Vec<Id>, AllocError>
     ensures { IfOk result (λ v. v.items ≡ map (λ n. pad11 n.id) nodes.now) }
 {
     let mut ids = Vec::new(alloc);
     for node in nodes {
-        ids.push(pad11(node.id.as_slice()))?;
+        ids.push(node.id.padded())?;
     }
     Ok(ids)
 }
 
+fn is_among(ids: &[Id], id: &Id) -> bool
+    ensures { result ≡ list_any (λ other. pointwise ◌==◌ other id.now) ids.now }
+{
+    ids.iter().any(|other| other.as_slice() == id.as_slice())
+}
+
 /// The first id that stands behind an equal one. There are at most 1,024 ids, so that each may be sought among those before it.
-fn first_repeated(ids: &[[u8; 11]]) -> Option<[u8; 11]>
+fn first_repeated(ids: &[Id]) -> Option<Id>
     ensures { result ≡ first_repeated ids.now }
 {
     for (i, id) in ids.iter().enumerate() {
-        if ids[..i].contains(id) {
+        if is_among(&ids[..i], id) {
             return Some(*id);
         }
     }

@@ -1,6 +1,6 @@
 //! Which of several refusals is told.
 use crate::maker::FOUR_NODES;
-use card_digits::{LinkNo, NodeNo, Prefix};
+use card_digits::{Id, LinkNo, NodeNo, Prefix};
 use net_tables::read_tables;
 use rank_cert::read_cert;
 use std::alloc::Global;
@@ -262,7 +262,8 @@ fn rows_of_no_issuer_come_before_acquirers(rt: HostRuntime) -> Result<(), Fail> 
         stand_ins: &[],
         ..plan
     };
-    let wanted = Refusal::AcquirerTwice(*b"00000000077");
+    let id = Id::read(b"00000000077").ok_or("id")?;
+    let wanted = Refusal::AcquirerTwice(id);
     assert_eq!(rt; refusal(rt.alloc(), &without)?, Some(wanted));
     Ok(())
 }

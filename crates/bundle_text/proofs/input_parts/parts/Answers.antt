@@ -1,5 +1,4 @@
-use Rattle.std.proofs.Common.{[], ◌∷◌, ◌++◌, refl, rules, sym, ◌∙◌, inl, inr, map, ap, List, ℕ, Vec, Global}
-use Rattle.std.specs.Bool.{MatchBool}
+use Rattle.std.proofs.Common.{[], ◌∷◌, ◌++◌, ◌∙◌, inl, inr, map, ap, List, ℕ, Vec, Global}
 use Rattle.std.specs.List.{join_with_byte}
 use Rattle.std.proofs.lemmas.Bool.{cases_Bool}
 use Rattle.std.proofs.lemmas.List.{map-append}
