@@ -3,21 +3,21 @@ use Rattle.std.specs.Prelude.{Bool, true, false}
 use Rattle.iso_message.specs.declared.kind.Kind.{Kind}
 use Rattle.iso_message.specs.declared.kind.Kind.TheVariants.{K0100, K0101, K0110, K0120, K0121, K0130, K0400, K0401, K0410, K0420, K0421, K0430}
 use Rattle.iso_message.specs.declared.kind.Group.{Group}
-use Rattle.iso_message.specs.declared.kind.Group.TheVariants.{Request, Answer, StandInAdvice, Reversal, Acknowledgement, Reply}
+use Rattle.iso_message.specs.declared.kind.Group.TheVariants.{AuthorizationRequest, AuthorizationResponse, Advice, Reversal, AdviceResponse, ReversalResponse}
 
 abbrev pub group : Kind → Group
-group K0100 = Request
-group K0101 = Request
-group K0110 = Answer
-group K0120 = StandInAdvice
-group K0121 = StandInAdvice
-group K0130 = Acknowledgement
+group K0100 = AuthorizationRequest
+group K0101 = AuthorizationRequest
+group K0110 = AuthorizationResponse
+group K0120 = Advice
+group K0121 = Advice
+group K0130 = AdviceResponse
 group K0400 = Reversal
 group K0401 = Reversal
-group K0410 = Reply
+group K0410 = ReversalResponse
 group K0420 = Reversal
 group K0421 = Reversal
-group K0430 = Acknowledgement
+group K0430 = AdviceResponse
 
 abbrev pub is_request : Kind → Bool
 is_request K0100 = true

@@ -75,10 +75,10 @@ identity_of m = record { kind = advice_kind (is_04xx m.kind); key = key_of m; fo
 
 -- whether a message of the type has an identity
 abbrev pub is_identified : Group → Bool
-is_identified groups.StandInAdvice = true
+is_identified groups.Advice = true
 is_identified groups.Reversal = true
-is_identified groups.Acknowledgement = true
-is_identified groups.Reply = true
+is_identified groups.AdviceResponse = true
+is_identified groups.ReversalResponse = true
 is_identified _ = false
 
 unfoldable pub has_identity : Fields → Bool

@@ -35,17 +35,17 @@ pub enum Kind {
 #[derive(Clone, Copy, Debug, PartialEq, Eq)]
 pub enum Group {
     /// 0100, 0101.
-    Request,
+    AuthorizationRequest,
     /// 0110.
-    Answer,
+    AuthorizationResponse,
     /// 0120, 0121.
-    StandInAdvice,
+    Advice,
     /// 0400, 0401, 0420, 0421.
     Reversal,
     /// 0130, 0430.
-    Acknowledgement,
+    AdviceResponse,
     /// 0410.
-    Reply,
+    ReversalResponse,
 }
 
 impl Kind {
@@ -53,12 +53,12 @@ impl Kind {
         ensures { result ≡ group self }
     {
         match self {
-            Kind::K0100 | Kind::K0101 => Group::Request,
-            Kind::K0110 => Group::Answer,
-            Kind::K0120 | Kind::K0121 => Group::StandInAdvice,
+            Kind::K0100 | Kind::K0101 => Group::AuthorizationRequest,
+            Kind::K0110 => Group::AuthorizationResponse,
+            Kind::K0120 | Kind::K0121 => Group::Advice,
             Kind::K0400 | Kind::K0401 | Kind::K0420 | Kind::K0421 => Group::Reversal,
-            Kind::K0130 | Kind::K0430 => Group::Acknowledgement,
-            Kind::K0410 => Group::Reply,
+            Kind::K0130 | Kind::K0430 => Group::AdviceResponse,
+            Kind::K0410 => Group::ReversalResponse,
         }
     }
 
@@ -67,9 +67,9 @@ impl Kind {
         ensures { result ≡ is_04xx self }
     {
         match self.group() {
-            Group::Reversal | Group::Reply => true,
-            Group::Acknowledgement => self == Kind::K0430,
-            Group::Request | Group::Answer | Group::StandInAdvice => false,
+            Group::Reversal | Group::ReversalResponse => true,
+            Group::AdviceResponse => self == Kind::K0430,
+            Group::AuthorizationRequest | Group::AuthorizationResponse | Group::Advice => false,
         }
     }
 

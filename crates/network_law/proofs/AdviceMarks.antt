@@ -105,20 +105,20 @@ ack_of_kept K0421 e = refl
 ack_of_kept K0430 e = cc
 
 pub kept_is_advice : (g : Group) → is_kept_group g ≡ true → is_advice_group g ≡ true
-kept_is_advice groups.Request e = cc
-kept_is_advice groups.Answer e = cc
-kept_is_advice groups.StandInAdvice e = refl
+kept_is_advice groups.AuthorizationRequest e = cc
+kept_is_advice groups.AuthorizationResponse e = cc
+kept_is_advice groups.Advice e = refl
 kept_is_advice groups.Reversal e = refl
-kept_is_advice groups.Acknowledgement e = cc
-kept_is_advice groups.Reply e = cc
+kept_is_advice groups.AdviceResponse e = cc
+kept_is_advice groups.ReversalResponse e = cc
 
 pub advice_is_kept : (g : Group) → is_advice_group g ≡ true → is_kept_group g ≡ true
-advice_is_kept groups.Request e = cc
-advice_is_kept groups.Answer e = cc
-advice_is_kept groups.StandInAdvice e = refl
+advice_is_kept groups.AuthorizationRequest e = cc
+advice_is_kept groups.AuthorizationResponse e = cc
+advice_is_kept groups.Advice e = refl
 advice_is_kept groups.Reversal e = refl
-advice_is_kept groups.Acknowledgement e = cc
-advice_is_kept groups.Reply e = cc
+advice_is_kept groups.AdviceResponse e = cc
+advice_is_kept groups.ReversalResponse e = cc
 
 pub advice_kind_group : (a b : Bool) → is_advice_group (group (sent_kind a b)) ≡ true
 advice_kind_group true true = refl
@@ -294,7 +294,7 @@ no_in i j o e = cc
 pub out_is : (i j : ReadInput) (o p : ReadOutput) → Out i o ≡ Out j p → o ≡ p
 out_is i j o p e = cc
 
-pub ack_no_answer : (k : Kind) → group k ≡ groups.Acknowledgement → is_answer k ≡ false
+pub ack_no_answer : (k : Kind) → group k ≡ groups.AdviceResponse → is_answer k ≡ false
 ack_no_answer K0100 e = refl
 ack_no_answer K0101 e = refl
 ack_no_answer K0110 e = cc
@@ -308,7 +308,7 @@ ack_no_answer K0420 e = refl
 ack_no_answer K0421 e = refl
 ack_no_answer K0430 e = refl
 
-pub reply_no_answer : (k : Kind) → group k ≡ groups.Reply → is_answer k ≡ false
+pub reply_no_answer : (k : Kind) → group k ≡ groups.ReversalResponse → is_answer k ≡ false
 reply_no_answer K0100 e = refl
 reply_no_answer K0101 e = refl
 reply_no_answer K0110 e = cc

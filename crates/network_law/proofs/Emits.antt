@@ -30,7 +30,7 @@ abbrev pub handled_as : Network → History → ReadInput → Fields → Source 
 handled_as t past i m src = handled t past i ≡ Some (record { message = m; source = src })
 
 abbrev pub is_kept_group : Group → Bool
-is_kept_group groups.StandInAdvice = true
+is_kept_group groups.Advice = true
 is_kept_group groups.Reversal = true
 is_kept_group _ = false
 
@@ -274,7 +274,7 @@ key_eq_is a b e =
     let z = bytes_eq_is a.time b.time p.1 in
     λ j. record { acquirer = x j; trace = y j; time = z j }
 
-pub request_from_group : (k : Kind) → group k ≡ groups.Request → is_request k ≡ true
+pub request_from_group : (k : Kind) → group k ≡ groups.AuthorizationRequest → is_request k ≡ true
 request_from_group K0100 e = refl
 request_from_group K0101 e = refl
 request_from_group K0110 e = cc
@@ -302,7 +302,7 @@ reversal_from_group K0420 e = refl
 reversal_from_group K0421 e = refl
 reversal_from_group K0430 e = cc
 
-pub answer_from_group : (k : Kind) → group k ≡ groups.Answer → is_answer k ≡ true
+pub answer_from_group : (k : Kind) → group k ≡ groups.AuthorizationResponse → is_answer k ≡ true
 answer_from_group K0100 e = cc
 answer_from_group K0101 e = cc
 answer_from_group K0110 e = refl
@@ -377,7 +377,7 @@ handled_no_timer t past (NewDate d) m src e = refl
 handled_no_timer t past (TakePacket lk sr pk) m src e = refl
 handled_no_timer t past (Lend br cd dt am) m src e = refl
 
-advice_no_reversal : (k : Kind) → group k ≡ groups.StandInAdvice → is_reversal k ≡ true → ⊥
+advice_no_reversal : (k : Kind) → group k ≡ groups.Advice → is_reversal k ≡ true → ⊥
 advice_no_reversal K0100 e r = cc
 advice_no_reversal K0101 e r = cc
 advice_no_reversal K0110 e r = cc
@@ -563,7 +563,7 @@ module _ (t : Network) (n : ℕ) (past : History) (i : ReadInput) (Q : History �
       refuses None f other = cc
       refuses (Some op) f other = close (In i ∷ past) (reply_output src (response m code_94) (In i ∷ past)) q (refusing (record { message = m; source = src; op = op; is_handled = e; opens = f; differs = inr (reversal_from_group m.kind g, not-true _ other); is = refl }))
 
-  pub advice_keeps : (m : Fields) (src : Source) → handled_as t past i m src → group m.kind ≡ groups.StandInAdvice → Q (In i ∷ past) → Q (on_advice t n past i m src)
+  pub advice_keeps : (m : Fields) (src : Source) → handled_as t past i m src → group m.kind ≡ groups.Advice → Q (In i ∷ past) → Q (on_advice t n past i m src)
   unfolding on_advice
   advice_keeps m src e g q =
       let ok : is_kept_group (group m.kind) ≡ true = rw g refl in
@@ -595,7 +595,7 @@ module _ (t : Network) (n : ℕ) (past : History) (i : ReadInput) (Q : History �
       (λ _. keep_keeps (made_reversal op.message (node_id t n)) (In i ∷ past) (reversing k op e (via_ticks t past i k via) refl) q)
       (λ _. q))
 
-  pub answer_keeps : (m : Fields) (src : Source) → handled_as t past i m src → group m.kind ≡ groups.Answer → Q (In i ∷ past) → Q (on_answer t n past i m src)
+  pub answer_keeps : (m : Fields) (src : Source) → handled_as t past i m src → group m.kind ≡ groups.AuthorizationResponse → Q (In i ∷ past) → Q (on_answer t n past i m src)
   unfolding on_answer
   answer_keeps m Gate e g q = q
   answer_keeps m (ByLink l) e g q =
@@ -614,12 +614,12 @@ module _ (t : Network) (n : ℕ) (past : History) (i : ReadInput) (Q : History �
   host_keeps a c (Some k) is e q = code_keeps k c code_05 (opening t past k) (by_host a is) (refl, refl) refl (inr (record { ask = a; code = c; input = is; key_asked = e })) (λ z. rw (is, e, key_eq_refl k, z) refl) refl refl q
 
   group_keeps : (m : Fields) (src : Source) (g : Group) → handled_as t past i m src → group m.kind ≡ g → Q (In i ∷ past) → Q (on_group t n past i m src g)
-  group_keeps m src groups.Request e g q = request_keeps m src (opening t past (key_of m)) e (request_from_group m.kind g) refl q
-  group_keeps m src groups.Answer e g q = answer_keeps m src e g q
-  group_keeps m src groups.StandInAdvice e g q = advice_keeps m src e g q
+  group_keeps m src groups.AuthorizationRequest e g q = request_keeps m src (opening t past (key_of m)) e (request_from_group m.kind g) refl q
+  group_keeps m src groups.AuthorizationResponse e g q = answer_keeps m src e g q
+  group_keeps m src groups.Advice e g q = advice_keeps m src e g q
   group_keeps m src groups.Reversal e g q = reversal_keeps m src e g q
-  group_keeps m src groups.Acknowledgement e g q = q
-  group_keeps m src groups.Reply e g q = q
+  group_keeps m src groups.AdviceResponse e g q = q
+  group_keeps m src groups.ReversalResponse e g q = q
 
   pub handled_keeps : (o : Option Handled) → handled t past i ≡ o → Q (In i ∷ past) → Q (on_handled t n past i o)
   handled_keeps None e q = q

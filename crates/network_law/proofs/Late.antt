@@ -573,7 +573,7 @@ came_late t n past k l s m f m00 fw other = go (list_any (reverses_key k) (advic
 
 -- a 00 that comes for a pending key answers it
 
-group_of_answer : (k : Kind) → is_answer k ≡ true → group k ≡ groups.Answer
+group_of_answer : (k : Kind) → is_answer k ≡ true → group k ≡ groups.AuthorizationResponse
 group_of_answer K0100 e = cc
 group_of_answer K0101 e = cc
 group_of_answer K0110 e = refl

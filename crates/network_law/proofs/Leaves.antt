@@ -178,7 +178,7 @@ replied i src m c h k r key n94 =
 
 -- a request of a key that was reversed before is answered in its entry
 
-group_of_request : (k : Kind) → is_request k ≡ true → group k ≡ groups.Request
+group_of_request : (k : Kind) → is_request k ≡ true → group k ≡ groups.AuthorizationRequest
 group_of_request Rattle.iso_message.specs.declared.kind.Kind.TheVariants.K0100 e = refl
 group_of_request Rattle.iso_message.specs.declared.kind.Kind.TheVariants.K0101 e = refl
 group_of_request Rattle.iso_message.specs.declared.kind.Kind.TheVariants.K0110 e = cc

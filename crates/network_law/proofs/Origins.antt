@@ -337,12 +337,12 @@ acking_case t n past i h o facts allowed e = go allowed
     go (putting_packet f) = absurd (none_some y.0 (ap sent (sym f.is) ∙ y.1))
 
 ack_is_kind : (g : Group) → is_ack g ≡ true → is_ack_kind g ≡ true
-ack_is_kind groups.Request e = cc
-ack_is_kind groups.Answer e = cc
-ack_is_kind groups.StandInAdvice e = cc
+ack_is_kind groups.AuthorizationRequest e = cc
+ack_is_kind groups.AuthorizationResponse e = cc
+ack_is_kind groups.Advice e = cc
 ack_is_kind groups.Reversal e = cc
-ack_is_kind groups.Acknowledgement e = refl
-ack_is_kind groups.Reply e = cc
+ack_is_kind groups.AdviceResponse e = refl
+ack_is_kind groups.ReversalResponse e = cc
 
 -- only advices are put as advices
 response_no_advice : (k : Kind) → is_advice_group (group (response_kind k)) ≡ false

@@ -440,7 +440,7 @@ not_pending t past k as' late = go (answer past k) refl (and_parts (code_is_not_
 late_code : (t : Network) (n : ℕ) (past : History) (i : ReadInput) (k : Key) (c other : Bytes) (op : Opening) → bytes_eq c code_00 ≡ true → comes_late past (advices t n past) k ≡ true → on_code t n past i k c other (Some op) ≡ keep t n past i (made_reversal op.message (node_id t n)) (In i ∷ past)
 late_code t n past i k c other op e late = rw (not_pending t past k (advices t n past) late, e, late) refl
 
-answer_group : (k : Kind) → is_answer k ≡ true → group k ≡ groups.Answer
+answer_group : (k : Kind) → is_answer k ≡ true → group k ≡ groups.AuthorizationResponse
 answer_group K0100 e = cc
 answer_group K0101 e = cc
 answer_group K0110 e = refl

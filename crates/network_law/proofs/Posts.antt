@@ -600,7 +600,7 @@ module _ (t : Network) (n : ℕ) (past : History) (i : ReadInput) where
       (λ is. again_acc m src (In i ∷ past) (handled_in t past i ∙ e) ok timer (known_same (late_none t past (advices t n past) i m src e (kept_no_answer m.kind ok)) (identity_of m) ∙ is) q)
       (λ _. (let p = pending_acc m src (pending t past (key_of m)) (opening t past (key_of m)) e ok q in accept_acc m src (answer_pending t i (pending t past (key_of m)) (opening t past (key_of m)) code_68 (In i ∷ past)) p.1 ok timer p.2 p.0)))))
 
-  advice_acc : (m : Fields) (src : Source) → handled_as t past i m src → group m.kind ≡ groups.StandInAdvice → Acc t n (In i ∷ past) → Acc t n (on_advice t n past i m src)
+  advice_acc : (m : Fields) (src : Source) → handled_as t past i m src → group m.kind ≡ groups.Advice → Acc t n (In i ∷ past) → Acc t n (on_advice t n past i m src)
   unfolding on_advice
   advice_acc m src e g q =
       let timer = handled_no_timer t past i m src e in
@@ -685,13 +685,13 @@ module _ (t : Network) (n : ℕ) (past : History) (i : ReadInput) where
 
   group_acc : (late : LateFacts t n past) (facts : NodeFacts t n past) (m : Fields) (src : Source) (g : Group) → handled_as t past i m src → group m.kind ≡ g → Acc t n past → Acc t n (on_group t n past i m src g)
   unfolding on_answer
-  group_acc late facts m src groups.Request e g q = request_acc late m src (opening t past (key_of m)) e (request_from_group m.kind g) refl (in_acc (late_none t past (advices t n past) i m src e (request_no_answer m.kind (request_from_group m.kind g))) q)
-  group_acc late facts m src groups.StandInAdvice e g q = advice_acc m src e g (in_acc (late_none t past (advices t n past) i m src e (kept_no_answer m.kind (rw g refl))) q)
+  group_acc late facts m src groups.AuthorizationRequest e g q = request_acc late m src (opening t past (key_of m)) e (request_from_group m.kind g) refl (in_acc (late_none t past (advices t n past) i m src e (request_no_answer m.kind (request_from_group m.kind g))) q)
+  group_acc late facts m src groups.Advice e g q = advice_acc m src e g (in_acc (late_none t past (advices t n past) i m src e (kept_no_answer m.kind (rw g refl))) q)
   group_acc late facts m src groups.Reversal e g q = reversal_acc m src e g (in_acc (late_none t past (advices t n past) i m src e (kept_no_answer m.kind (rw g refl))) q)
-  group_acc late facts m src groups.Acknowledgement e g q = in_acc (late_none t past (advices t n past) i m src e (ack_no_answer m.kind g)) q
-  group_acc late facts m src groups.Reply e g q = in_acc (late_none t past (advices t n past) i m src e (reply_no_answer m.kind g)) q
-  group_acc late facts m Gate groups.Answer e g q = in_acc (gate_late m e) q
-  group_acc late facts m (ByLink l) groups.Answer e g q =
+  group_acc late facts m src groups.AdviceResponse e g q = in_acc (late_none t past (advices t n past) i m src e (ack_no_answer m.kind g)) q
+  group_acc late facts m src groups.ReversalResponse e g q = in_acc (late_none t past (advices t n past) i m src e (reply_no_answer m.kind g)) q
+  group_acc late facts m Gate groups.AuthorizationResponse e g q = in_acc (gate_late m e) q
+  group_acc late facts m (ByLink l) groups.AuthorizationResponse e g q =
       cond_both (is_link l (forwarded past (key_of m))) (on_code t n past i (key_of m) (code_of m) code_96 (opening t past (key_of m))) (In i ∷ past) (Acc t n)
       (λ on. code_acc late facts (key_of m) (code_of m) code_96 (opening t past (key_of m)) refl (handled_no_timer t past i m (ByLink l) e) (lk (is_link l (forwarded past (key_of m))) refl on) brought refl q)
       (λ off. in_acc (ap (late_key past (advices t n past)) f.1 ∙ not_here (bytes_eq (code_of m) code_00) refl off) q)

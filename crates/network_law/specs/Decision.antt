@@ -266,12 +266,12 @@ on_host t n past i c None = In i ∷ past
 on_host t n past i c (Some k) = on_code t n past i k c code_05 (opening t past k)
 
 abbrev pub on_group : Network → ℕ → History → ReadInput → Fields → Source → Group → History
-on_group t n past i m src groups.Request = on_request t n past i m src (opening t past (key_of m))
-on_group t n past i m src groups.Answer = on_answer t n past i m src
-on_group t n past i m src groups.StandInAdvice = on_advice t n past i m src
+on_group t n past i m src groups.AuthorizationRequest = on_request t n past i m src (opening t past (key_of m))
+on_group t n past i m src groups.AuthorizationResponse = on_answer t n past i m src
+on_group t n past i m src groups.Advice = on_advice t n past i m src
 on_group t n past i m src groups.Reversal = on_reversal t n past i m src
-on_group t n past i m src groups.Acknowledgement = In i ∷ past
-on_group t n past i m src groups.Reply = In i ∷ past
+on_group t n past i m src groups.AdviceResponse = In i ∷ past
+on_group t n past i m src groups.ReversalResponse = In i ∷ past
 
 abbrev pub on_handled : Network → ℕ → History → ReadInput → Option Handled → History
 on_handled t n past i None = In i ∷ past

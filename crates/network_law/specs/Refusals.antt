@@ -47,18 +47,18 @@ taken_kind _ = true
 -- elements
 
 abbrev pub required_entered : Group → List ℕ
-required_entered groups.Request = 2 ∷ 3 ∷ 4 ∷ 7 ∷ 11 ∷ 32 ∷ 49 ∷ []
+required_entered groups.AuthorizationRequest = 2 ∷ 3 ∷ 4 ∷ 7 ∷ 11 ∷ 32 ∷ 49 ∷ []
 required_entered groups.Reversal = 2 ∷ 3 ∷ 4 ∷ 7 ∷ 11 ∷ 32 ∷ 49 ∷ 90 ∷ []
 required_entered _ = []
 
 abbrev pub required_taken : Group → Kind → List ℕ
-required_taken groups.Request k = 2 ∷ 3 ∷ 4 ∷ 7 ∷ 11 ∷ 15 ∷ 32 ∷ 49 ∷ []
-required_taken groups.Answer k = 7 ∷ 11 ∷ 32 ∷ 39 ∷ []
-required_taken groups.StandInAdvice k = 2 ∷ 3 ∷ 4 ∷ 7 ∷ 11 ∷ 15 ∷ 32 ∷ 33 ∷ 39 ∷ 49 ∷ []
+required_taken groups.AuthorizationRequest k = 2 ∷ 3 ∷ 4 ∷ 7 ∷ 11 ∷ 15 ∷ 32 ∷ 49 ∷ []
+required_taken groups.AuthorizationResponse k = 7 ∷ 11 ∷ 32 ∷ 39 ∷ []
+required_taken groups.Advice k = 2 ∷ 3 ∷ 4 ∷ 7 ∷ 11 ∷ 15 ∷ 32 ∷ 33 ∷ 39 ∷ 49 ∷ []
 required_taken groups.Reversal k = 2 ∷ 3 ∷ 4 ∷ 7 ∷ 11 ∷ 32 ∷ 49 ∷ 90 ∷ []
-required_taken groups.Acknowledgement K0130 = 7 ∷ 11 ∷ 32 ∷ 33 ∷ 39 ∷ []
-required_taken groups.Acknowledgement k = 32 ∷ 39 ∷ 90 ∷ []
-required_taken groups.Reply k = []
+required_taken groups.AdviceResponse K0130 = 7 ∷ 11 ∷ 32 ∷ 33 ∷ 39 ∷ []
+required_taken groups.AdviceResponse k = 32 ∷ 39 ∷ 90 ∷ []
+required_taken groups.ReversalResponse k = []
 
 -- the first of these elements that is absent
 abbrev pub first_missing : Fields → List ℕ → Option ℕ

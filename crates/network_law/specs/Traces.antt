@@ -319,7 +319,7 @@ abbrev pub reverses_key : Key → Advice → Bool
 reverses_key k a = is_04xx a.message.kind && key_eq (key_of a.message) k
 
 abbrev pub is_ack : Group → Bool
-is_ack groups.Acknowledgement = true
+is_ack groups.AdviceResponse = true
 is_ack _ = false
 
 abbrev pub is_ack_of : Fields → Advice → Bool
@@ -361,13 +361,13 @@ failed_key t h i None = None
 failed_key t h i (Some m) = if is_timer i && is_answer m.kind && pending t h (key_of m) then Some (key_of m) else None
 
 abbrev pub is_advice_group : Group → Bool
-is_advice_group groups.StandInAdvice = true
+is_advice_group groups.Advice = true
 is_advice_group groups.Reversal = true
 is_advice_group _ = false
 
 abbrev pub is_ack_kind : Group → Bool
-is_ack_kind groups.Acknowledgement = true
-is_ack_kind groups.Reply = true
+is_ack_kind groups.AdviceResponse = true
+is_ack_kind groups.ReversalResponse = true
 is_ack_kind _ = false
 
 abbrev pub is_ok_ack : Option Fields → Bool

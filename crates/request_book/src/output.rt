@@ -150,7 +150,7 @@ pub fn is_advice(group: Group) -> bool
     ensures { result ≡ is_advice_group group }
 {
     match group {
-        Group::StandInAdvice | Group::Reversal => true,
+        Group::Advice | Group::Reversal => true,
         _ => false,
     }
 }

@@ -44,7 +44,7 @@ reversals K0130 e = absurd cc
 reversals K0410 e = absurd cc
 reversals K0430 e = absurd cc
 
-stand_ins : (k : Kind) → group k ≡ groups.StandInAdvice → is_04xx k ≡ false
+stand_ins : (k : Kind) → group k ≡ groups.Advice → is_04xx k ≡ false
 stand_ins K0120 e = refl
 stand_ins K0121 e = refl
 stand_ins K0100 e = absurd cc
@@ -58,7 +58,7 @@ stand_ins K0420 e = absurd cc
 stand_ins K0421 e = absurd cc
 stand_ins K0430 e = absurd cc
 
-not_entered : (k : Kind) → group k ≡ groups.StandInAdvice → entered_kind k ≡ false
+not_entered : (k : Kind) → group k ≡ groups.Advice → entered_kind k ≡ false
 not_entered K0120 e = refl
 not_entered K0121 e = refl
 not_entered K0100 e = absurd cc
@@ -72,13 +72,13 @@ not_entered K0420 e = absurd cc
 not_entered K0421 e = absurd cc
 not_entered K0430 e = absurd cc
 
-advices : (g : Group) → is_advice_group g ≡ true → (g ≡ groups.StandInAdvice) ⊎ (g ≡ groups.Reversal)
-advices groups.StandInAdvice e = inl refl
+advices : (g : Group) → is_advice_group g ≡ true → (g ≡ groups.Advice) ⊎ (g ≡ groups.Reversal)
+advices groups.Advice e = inl refl
 advices groups.Reversal e = inr refl
-advices groups.Request e = absurd cc
-advices groups.Answer e = absurd cc
-advices groups.Acknowledgement e = absurd cc
-advices groups.Reply e = absurd cc
+advices groups.AuthorizationRequest e = absurd cc
+advices groups.AuthorizationResponse e = absurd cc
+advices groups.AdviceResponse e = absurd cc
+advices groups.ReversalResponse e = absurd cc
 
 -- identities and keys
 
@@ -86,7 +86,7 @@ reversal_known : (m : Fields) → group m.kind ≡ groups.Reversal → has m 90 
 unfolding has_identity has_key
 reversal_known m g h = rw (g, reversals m.kind g, h) refl
 
-stand_in_known : (m : Fields) → group m.kind ≡ groups.StandInAdvice → has m 32 ≡ true → has m 11 ≡ true → has m 7 ≡ true → has_identity m ≡ true
+stand_in_known : (m : Fields) → group m.kind ≡ groups.Advice → has m 32 ≡ true → has m 11 ≡ true → has m 7 ≡ true → has_identity m ≡ true
 unfolding has_identity has_key has_own_key
 stand_in_known m g a b d = rw (g, stand_ins m.kind g, a, b, d) refl
 
@@ -99,7 +99,7 @@ entered_known m kind none advice = elim (advices (group m.kind) advice) [
 pub taken_known : (m : Fields) → missing m (required_taken (group m.kind) m.kind) ≡ None → is_advice_group (group m.kind) ≡ true → has_identity m ≡ true
 taken_known m none advice = elim (advices (group m.kind) advice) [
   | inl g ↦
-      let ns = required_taken groups.StandInAdvice m.kind in
+      let ns = required_taken groups.Advice m.kind in
       let all : first_missing m ns ≡ None = none_first _ _ (rw g at none) in
       stand_in_known m g (present m ns 32 all refl) (present m ns 11 all refl) (present m ns 7 all refl)
   | inr g ↦ reversal_known m g (present m (required_taken groups.Reversal m.kind) 90 (none_first _ _ (rw g at none)) refl)
@@ -123,6 +123,6 @@ pub answer_known : (m : Fields) → is_answer m.kind ≡ true → missing m (req
 unfolding has_key has_own_key
 answer_known m answer none =
     let k = answers m.kind answer in
-    let ns = required_taken groups.Answer K0110 in
+    let ns = required_taken groups.AuthorizationResponse K0110 in
     let all : first_missing m ns ≡ None = none_first _ _ (rw k at none) in
     rw (k, present m ns 32 all refl, present m ns 11 all refl, present m ns 7 all refl) refl

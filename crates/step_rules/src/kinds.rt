@@ -33,7 +33,7 @@ pub fn taken_kind(kind: Kind) -> bool
 pub fn is_answer(kind: Kind) -> bool
     ensures { result ≡ is_answer kind }
 {
-    kind.group() == Group::Answer
+    kind.group() == Group::AuthorizationResponse
 }
 
 /// Whether the message takes a request back.
@@ -48,8 +48,11 @@ pub fn is_advice_group(group: Group) -> bool
     ensures { result ≡ is_advice_group group }
 {
     match group {
-        Group::StandInAdvice | Group::Reversal => true,
-        Group::Request | Group::Answer | Group::Acknowledgement | Group::Reply => false,
+        Group::Advice | Group::Reversal => true,
+        Group::AuthorizationRequest
+        | Group::AuthorizationResponse
+        | Group::AdviceResponse
+        | Group::ReversalResponse => false,
     }
 }
 

@@ -11,9 +11,12 @@ pub fn required_entered(group: Group) -> &'static [u8]
     ensures { result.now ≡ required_entered group }
 {
     match group {
-        Group::Request => &[2, 3, 4, 7, 11, 32, 49],
+        Group::AuthorizationRequest => &[2, 3, 4, 7, 11, 32, 49],
         Group::Reversal => &[2, 3, 4, 7, 11, 32, 49, 90],
-        Group::Answer | Group::StandInAdvice | Group::Acknowledgement | Group::Reply => &[],
+        Group::AuthorizationResponse
+        | Group::Advice
+        | Group::AdviceResponse
+        | Group::ReversalResponse => &[],
     }
 }
 
@@ -22,15 +25,15 @@ pub fn required_taken(group: Group, kind: Kind) -> &'static [u8]
     ensures { result.now ≡ required_taken group kind }
 {
     match group {
-        Group::Request => &[2, 3, 4, 7, 11, 15, 32, 49],
-        Group::Answer => &[7, 11, 32, 39],
-        Group::StandInAdvice => &[2, 3, 4, 7, 11, 15, 32, 33, 39, 49],
+        Group::AuthorizationRequest => &[2, 3, 4, 7, 11, 15, 32, 49],
+        Group::AuthorizationResponse => &[7, 11, 32, 39],
+        Group::Advice => &[2, 3, 4, 7, 11, 15, 32, 33, 39, 49],
         Group::Reversal => &[2, 3, 4, 7, 11, 32, 49, 90],
-        Group::Acknowledgement => match kind {
+        Group::AdviceResponse => match kind {
             Kind::K0130 => &[7, 11, 32, 33, 39],
             _ => &[32, 39, 90],
         },
-        Group::Reply => &[],
+        Group::ReversalResponse => &[],
     }
 }
 

@@ -93,7 +93,7 @@ take_steps t n x y l s m p p' plain e1 ey e2 =
 
 -- acknowledged
 
-ack_kind : (k : Kind) → messages.is_ack (group k) ≡ true → (is_request k ≡ false) × (group k ≡ groups.Acknowledgement)
+ack_kind : (k : Kind) → messages.is_ack (group k) ≡ true → (is_request k ≡ false) × (group k ≡ groups.AdviceResponse)
 ack_kind K0130 e = (refl, refl)
 ack_kind K0430 e = (refl, refl)
 ack_kind K0100 e = cc
@@ -121,7 +121,7 @@ unfolding steps.step
 acked_one t n x l s m e =
     let k = ack_kind m.kind (and_left (messages.is_ack (group m.kind)) (bytes_eq (code_of m) code_00) e) in
     let request : is_request m.kind ≡ false = k.0 in
-    let kind : group m.kind ≡ groups.Acknowledgement = k.1 in
+    let kind : group m.kind ≡ groups.AdviceResponse = k.1 in
     ap (λ z. record { lists = record { rows = x.rows; marks = x.marks; takes = x.takes; store = z; known = x.known; loans = x.loans; borrowed = x.borrowed; links = x.links; asks = x.asks; date = x.date; count = x.count }; outs = [] }) (acked_store l s m e x.store)
     ∙ sym (ap (λ g. steps.on_group t n (view t n x) m (ByLink l) g (steps.start t n (messages.Take l s m) x)) kind ∙ rw (request, zero_plus x.count) refl)
 

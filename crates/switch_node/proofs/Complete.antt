@@ -37,12 +37,12 @@ module _ (m h : Fields) (kind : h.kind ≡ m.kind) (same : (n : ℕ) → is_one_
   same_identity = λ j. is_identified (group (kind j)) && same_key j
 
   same_group : (g : Group) → is_complete g h ≡ is_complete g m
-  same_group groups.Request = same_key
-  same_group groups.Answer = λ j. same_key j && same 39 refl j
-  same_group groups.StandInAdvice = same_identity
+  same_group groups.AuthorizationRequest = same_key
+  same_group groups.AuthorizationResponse = λ j. same_key j && same 39 refl j
+  same_group groups.Advice = same_identity
   same_group groups.Reversal = same_identity
-  same_group groups.Acknowledgement = same_identity
-  same_group groups.Reply = refl
+  same_group groups.AdviceResponse = same_identity
+  same_group groups.ReversalResponse = refl
 
   same_complete : is_complete (group h.kind) h ≡ is_complete (group m.kind) m
   same_complete = ap (λ k. is_complete (group k) h) kind ∙ same_group (group m.kind)
@@ -100,22 +100,22 @@ module _ (m : Fields) where
   identified k e is key = and_from _ _ (ap (λ z. is_identified (group z)) e ∙ is) key
 
   taken_kinds : (k : Kind) → m.kind ≡ k → missing m (required_taken (group m.kind) m.kind) ≡ None → first_missing m (required_taken (group k) k) ≡ None → is_complete (group k) m ≡ true
-  taken_kinds K0100 e whole none = own_there K0100 (required_taken groups.Request K0100) e refl none refl
-  taken_kinds K0101 e whole none = own_there K0101 (required_taken groups.Request K0101) e refl none refl
-  taken_kinds K0110 e whole none = and_from _ _ (answer_known m (ap is_answer e) whole) (present m (required_taken groups.Answer K0110) 39 none refl)
+  taken_kinds K0100 e whole none = own_there K0100 (required_taken groups.AuthorizationRequest K0100) e refl none refl
+  taken_kinds K0101 e whole none = own_there K0101 (required_taken groups.AuthorizationRequest K0101) e refl none refl
+  taken_kinds K0110 e whole none = and_from _ _ (answer_known m (ap is_answer e) whole) (present m (required_taken groups.AuthorizationResponse K0110) 39 none refl)
   taken_kinds K0120 e whole none = taken_known m whole (ap (λ k. is_advice_group (group k)) e)
   taken_kinds K0121 e whole none = taken_known m whole (ap (λ k. is_advice_group (group k)) e)
-  taken_kinds K0130 e whole none = identified K0130 e refl (own_there K0130 (required_taken groups.Acknowledgement K0130) e refl none refl)
+  taken_kinds K0130 e whole none = identified K0130 e refl (own_there K0130 (required_taken groups.AdviceResponse K0130) e refl none refl)
   taken_kinds K0400 e whole none = taken_known m whole (ap (λ k. is_advice_group (group k)) e)
   taken_kinds K0401 e whole none = taken_known m whole (ap (λ k. is_advice_group (group k)) e)
   taken_kinds K0410 e whole none = refl
   taken_kinds K0420 e whole none = taken_known m whole (ap (λ k. is_advice_group (group k)) e)
   taken_kinds K0421 e whole none = taken_known m whole (ap (λ k. is_advice_group (group k)) e)
-  taken_kinds K0430 e whole none = identified K0430 e refl (original_there K0430 e refl (present m (required_taken groups.Acknowledgement K0430) 90 none refl))
+  taken_kinds K0430 e whole none = identified K0430 e refl (original_there K0430 e refl (present m (required_taken groups.AdviceResponse K0430) 90 none refl))
 
   entered_kinds : (k : Kind) → m.kind ≡ k → entered_kind k ≡ true → missing m (required_entered (group m.kind)) ≡ None → first_missing m (required_entered (group k)) ≡ None → is_complete (group k) m ≡ true
-  entered_kinds K0100 e kind whole none = own_there K0100 (required_entered groups.Request) e refl none refl
-  entered_kinds K0101 e kind whole none = own_there K0101 (required_entered groups.Request) e refl none refl
+  entered_kinds K0100 e kind whole none = own_there K0100 (required_entered groups.AuthorizationRequest) e refl none refl
+  entered_kinds K0101 e kind whole none = own_there K0101 (required_entered groups.AuthorizationRequest) e refl none refl
   entered_kinds K0400 e kind whole none = entered_known m (ap entered_kind e ∙ kind) whole (ap (λ k. is_advice_group (group k)) e)
   entered_kinds K0401 e kind whole none = entered_known m (ap entered_kind e ∙ kind) whole (ap (λ k. is_advice_group (group k)) e)
   entered_kinds K0420 e kind whole none = entered_known m (ap entered_kind e ∙ kind) whole (ap (λ k. is_advice_group (group k)) e)
@@ -154,12 +154,12 @@ taken_complete t n b l s m accepted =
 -- what is read of a complete message
 
 pub acknowledged_known : (g : Group) (m : Fields) (approves : Bool) → (messages.is_ack g && approves) ≡ true → is_complete g m ≡ true → has_identity m ≡ true
-acknowledged_known groups.Acknowledgement m approves ack complete = complete
-acknowledged_known groups.Request m approves ack complete = cc
-acknowledged_known groups.Answer m approves ack complete = cc
-acknowledged_known groups.StandInAdvice m approves ack complete = cc
+acknowledged_known groups.AdviceResponse m approves ack complete = complete
+acknowledged_known groups.AuthorizationRequest m approves ack complete = cc
+acknowledged_known groups.AuthorizationResponse m approves ack complete = cc
+acknowledged_known groups.Advice m approves ack complete = cc
 acknowledged_known groups.Reversal m approves ack complete = cc
-acknowledged_known groups.Reply m approves ack complete = cc
+acknowledged_known groups.ReversalResponse m approves ack complete = cc
 
 pub not_absent : (m : Fields) (n : ℕ) → has m n ≡ true → None ≡ get m n → ⊥
 unfolding has

@@ -52,7 +52,7 @@ known_identity m id e = (when_some (has_identity m) (identity_of m) id e).1
 pub known_key : (m : Fields) (k : Key) → when (has_key m) (key_of m) ≡ Some k → k ≡ key_of m
 known_key m k e = (when_some (has_key m) (key_of m) k e).1
 
-pub request_group : (k : Kind) → group k ≡ groups.Request → is_request k ≡ true
+pub request_group : (k : Kind) → group k ≡ groups.AuthorizationRequest → is_request k ≡ true
 request_group K0100 e = refl
 request_group K0101 e = refl
 request_group K0110 e = cc

@@ -17,9 +17,9 @@ opened_start x h = record {
 
 -- whether a message of a group has what it is handled by: a request or an answer its key, an answer its code, and an advice or what acknowledges one its identity
 abbrev pub is_complete : Group → Fields → Bool
-is_complete groups.Request m = has_key m
-is_complete groups.Answer m = has_key m && has m 39
-is_complete groups.StandInAdvice m = has_identity m
+is_complete groups.AuthorizationRequest m = has_key m
+is_complete groups.AuthorizationResponse m = has_key m && has m 39
+is_complete groups.Advice m = has_identity m
 is_complete groups.Reversal m = has_identity m
-is_complete groups.Acknowledgement m = has_identity m
-is_complete groups.Reply m = true
+is_complete groups.AdviceResponse m = has_identity m
+is_complete groups.ReversalResponse m = true

@@ -58,7 +58,7 @@ fn is_acknowledgement(m: &Message) -> bool
     ensures { result ≡ (is_ack (group m.now.kind) && bytes_eq (code_of m.now) code_00) }
 {
     let ack = match m.kind().group() {
-        Group::Acknowledgement => true,
+        Group::AdviceResponse => true,
         _ => false,
     };
     ack && is_approval(m)
@@ -210,15 +210,15 @@ fn on_message(
     ensures ok { OnOk result (progress draft.new ≡ on_group tables.now node (view tables.now node draft.old.base) m.now (source_of source) (group m.now.kind) (progress draft.old)) }
 {
     match m.kind().group() {
-        Group::Request => on_keyed_request(draft, tables, node, m, source),
-        Group::Answer => match source {
+        Group::AuthorizationRequest => on_keyed_request(draft, tables, node, m, source),
+        Group::AuthorizationResponse => match source {
             Some(link) => on_answer(draft, tables, node, m, link),
             None => Ok(()),
         },
-        Group::StandInAdvice => on_identified(draft, tables, node, m, source, false),
+        Group::Advice => on_identified(draft, tables, node, m, source, false),
         Group::Reversal => on_identified(draft, tables, node, m, source, true),
-        Group::Acknowledgement => Ok(()),
-        Group::Reply => Ok(()),
+        Group::AdviceResponse => Ok(()),
+        Group::ReversalResponse => Ok(()),
     }
 }
 
