@@ -32,6 +32,9 @@ use standin_book::{Borrowed, CardDay, LendingBook, Loan, OwnApproval, StandInBoo
 use std::alloc::{AllocError, Global};
 use std::marker::Model;
 
+/// For how many changes room is made at once.
+const ROOM: usize = 64;
+
 /// The books, and how many changes more need no memory.
 #[derive(Drop)]
 pub struct Books {
@@ -104,7 +107,7 @@ impl Books {
     }
 
     /// The next n changes need no memory.
-    pub fn reserve(&mut self, n: usize) -> Result<(), AllocError>
+    fn make_room(&mut self, n: usize) -> Result<(), AllocError>
         ensures lists { self.new.lists ≡ self.old.lists }
         ensures ok { OnOk result (self.new.room ≡ n) }
     {
@@ -120,6 +123,20 @@ impl Books {
         self.asks.reserve(n)?;
         self.room = n;
         Ok(())
+    }
+
+    /// The next n changes need no memory. It is asked for in advance, so that most entries, which make a few changes, ask for none.
+    pub fn reserve(&mut self, n: usize) -> Result<(), AllocError>
+        ensures lists { self.new.lists ≡ self.old.lists }
+        ensures ok { OnOk result (n ≤ self.new.room) }
+    {
+        if n <= self.room {
+            return Ok(());
+        }
+        if n <= ROOM {
+            return self.make_room(ROOM);
+        }
+        self.make_room(n)
     }
 
     /// The key of an ask.
