@@ -151,7 +151,11 @@ fn is_late(books: &Books, tables: &Tables, node: NodeNo, link: LinkNo, key: Key)
 fn late_has_no_place(books: &Books, tables: &Tables, node: NodeNo, link: LinkNo, key: Key) -> bool
     ensures { result ≡ late_has_no_place tables.now node books.now.lists link key }
 {
-    is_late(books, tables, node, link, key) && books.load() >= PLACES
+    // Nearly always there are places, and then no book is searched.
+    if books.load() < PLACES {
+        return false;
+    }
+    is_late(books, tables, node, link, key)
 }
 
 /// Whether the reversal of an approval that comes late by this link finds no place.

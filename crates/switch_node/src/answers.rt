@@ -51,7 +51,6 @@ pub(crate) fn on_code(
     ensures base { draft.new.base ≡ draft.old.base }
     ensures ok { OnOk result (progress draft.new ≡ on_code tables.now node (view tables.now node draft.old.base) key code other ((view tables.now node draft.old.base).opening key) (progress draft.old)) }
 {
-    let late = code.as_slice() == b"00".as_slice() && comes_late(draft.books(), tables, node, key);
     let Some(row) = draft.books().of_key(key) else {
         return Ok(());
     };
@@ -61,6 +60,7 @@ pub(crate) fn on_code(
         let response = row.message().response(as_code(other, code))?;
         return draft.reply(source, own, response);
     }
+    let late = code.as_slice() == b"00".as_slice() && comes_late(draft.books(), tables, node, key);
     if !late {
         return Ok(());
     }
