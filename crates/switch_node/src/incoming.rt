@@ -1,7 +1,7 @@
 //! Messages that come to a node.
-ghost use Rattle.std.specs.Prelude.{◌≡◌, ◌&&◌, ◌++◌, ℕ, bytes_eq, [], IfOk, OnOk, true, false};
+ghost use Rattle.std.specs.Prelude.{◌≡◌, ◌&&◌, ℕ, bytes_eq, [], IfOk, OnOk, true, false};
 ghost use Rattle.std.specs.Option.{option_and_then};
-ghost use Rattle.card_digits.specs.Digits.{AreDigits};
+ghost use Rattle.card_digits.specs.Digits.{IsDateLabel};
 ghost use Rattle.iso_message.specs.Fields.{has};
 ghost use Rattle.iso_message.specs.Groups.{group, is_request};
 ghost use Rattle.iso_message.specs.Keys.{key_of, identity_of, has_identity, has_key};
@@ -20,7 +20,7 @@ ghost use Rattle.switch_node.specs.Coming.{opened_start, is_complete};
 use crate::answers::on_code;
 use crate::notices::{on_advice, on_reversal};
 use crate::requests::on_request;
-use card_digits::{Key, LinkNo, NodeNo};
+use card_digits::{DateLabel, Key, LinkNo, NodeNo};
 use iso_message::{AdviceId, Code, DecodeFault, Group, Message, advice_id, code_of, key_of};
 use net_rows::Tables;
 use node_books::Effect;
@@ -42,15 +42,18 @@ fn request_key(m: &Message) -> Key
     }
 }
 
-/// Writes digits in ASCII.
-fn push_digits(out: &mut Vec<u8>, digits: &[u8]) -> Result<(), AllocError>
-    requires { AreDigits digits.now }
-    ensures { OnOk result (out.new.items ≡ out.old.items ++ text_of digits.now) }
+/// A settlement date in ASCII.
+fn date_text(date: &DateLabel) -> [u8; 4]
+    ensures text { result ≡ text_of date.now }
+    ensures form { IsDateLabel date.now }
 {
-    for digit in digits {
-        out.push(*digit + b'0')?;
-    }
-    Ok(())
+    let digits = date.digits();
+    [
+        digits[0] + b'0',
+        digits[1] + b'0',
+        digits[2] + b'0',
+        digits[3] + b'0',
+    ]
 }
 
 /// Whether a message acknowledges an advice.
@@ -85,9 +88,7 @@ fn handled(draft: &Draft, m: Message) -> Result<Message, AllocError>
     if !is_request(handled.kind()) {
         return Ok(handled);
     }
-    let date = draft.books().date();
-    let mut text = Vec::new(draft.alloc());
-    push_digits(&mut text, date.digits())?;
+    let text = date_text(&draft.books().date());
     match handled.set(15, &text) {
         Ok(()) => Ok(handled),
         Err(fault) => match fault {
@@ -158,17 +159,17 @@ fn on_keyed_request(
     draft: &mut Draft,
     tables: &Tables,
     node: NodeNo,
-    m: &Message,
+    m: Message,
     source: Option<LinkNo>,
 ) -> Result<(), AllocError>
-    requires request { is_request m.now.kind ≡ true }
-    requires key { has_key m.now ≡ true }
+    requires request { is_request m.kind ≡ true }
+    requires key { has_key m ≡ true }
     requires quiet { IsQuiet draft.old.base (progress draft.old).lists }
     requires left { LeftAsMarked draft.old.base.marks draft.old.base.takes }
     ensures base { draft.new.base ≡ draft.old.base }
-    ensures ok { OnOk result (progress draft.new ≡ on_request tables.now node (view tables.now node draft.old.base) m.now (source_of source) ((view tables.now node draft.old.base).opening (key_of m.now)) (progress draft.old)) }
+    ensures ok { OnOk result (progress draft.new ≡ on_request tables.now node (view tables.now node draft.old.base) m (source_of source) ((view tables.now node draft.old.base).opening (key_of m)) (progress draft.old)) }
 {
-    let key = request_key(m);
+    let key = request_key(&m);
     on_request(draft, tables, node, key, m, source)
 }
 
@@ -200,23 +201,23 @@ fn on_message(
     draft: &mut Draft,
     tables: &Tables,
     node: NodeNo,
-    m: &Message,
+    m: Message,
     source: Option<LinkNo>,
 ) -> Result<(), AllocError>
-    requires complete { is_complete (group m.now.kind) m.now ≡ true }
+    requires complete { is_complete (group m.kind) m ≡ true }
     requires quiet { IsQuiet draft.old.base (progress draft.old).lists }
     requires left { LeftAsMarked draft.old.base.marks draft.old.base.takes }
     ensures base { draft.new.base ≡ draft.old.base }
-    ensures ok { OnOk result (progress draft.new ≡ on_group tables.now node (view tables.now node draft.old.base) m.now (source_of source) (group m.now.kind) (progress draft.old)) }
+    ensures ok { OnOk result (progress draft.new ≡ on_group tables.now node (view tables.now node draft.old.base) m (source_of source) (group m.kind) (progress draft.old)) }
 {
     match m.kind().group() {
         Group::AuthorizationRequest => on_keyed_request(draft, tables, node, m, source),
         Group::AuthorizationResponse => match source {
-            Some(link) => on_answer(draft, tables, node, m, link),
+            Some(link) => on_answer(draft, tables, node, &m, link),
             None => Ok(()),
         },
-        Group::Advice => on_identified(draft, tables, node, m, source, false),
-        Group::Reversal => on_identified(draft, tables, node, m, source, true),
+        Group::Advice => on_identified(draft, tables, node, &m, source, false),
+        Group::Reversal => on_identified(draft, tables, node, &m, source, true),
         Group::AdviceResponse => Ok(()),
         Group::ReversalResponse => Ok(()),
     }
@@ -237,7 +238,7 @@ pub(crate) fn enter(
 {
     let handled = handled(draft, m)?;
     open(draft, &handled, None)?;
-    on_message(draft, tables, node, &handled, None)
+    on_message(draft, tables, node, handled, None)
 }
 
 /// What a message acknowledges leaves the store.
@@ -258,17 +259,17 @@ pub(crate) fn take_message(
     tables: &Tables,
     node: NodeNo,
     link: LinkNo,
-    m: &Message,
+    m: Message,
 ) -> Result<(), AllocError>
     requires empty { draft.old.effects ≡ [] }
-    requires complete { is_complete (group m.now.kind) m.now ≡ true }
+    requires complete { is_complete (group m.kind) m ≡ true }
     requires left { LeftAsMarked draft.old.base.marks draft.old.base.takes }
     ensures base { draft.new.base ≡ draft.old.base }
-    ensures ok { OnOk result ((serial : ℕ) → progress draft.new ≡ step tables.now node draft.old.base (Take link serial m.now)) }
+    ensures ok { OnOk result ((serial : ℕ) → progress draft.new ≡ step tables.now node draft.old.base (Take link serial m)) }
 {
-    if is_acknowledgement(m) {
-        return acknowledge(draft, m);
+    if is_acknowledgement(&m) {
+        return acknowledge(draft, &m);
     }
-    open(draft, m, Some(link))?;
+    open(draft, &m, Some(link))?;
     on_message(draft, tables, node, m, Some(link))
 }

@@ -225,7 +225,7 @@ fn take_text(
     if let Some(fault) = refuse_taken(draft.books(), tables, node, link, &m) {
         return Err(fault);
     }
-    match take_message(draft, tables, node, link, &m) {
+    match take_message(draft, tables, node, link, m) {
         Ok(()) => Ok(()),
         Err(_) => Err(StepFault::Memory),
     }
