@@ -1,5 +1,5 @@
 -- What was found in the traces of stations, and what makes them a run.
-use Rattle.std.proofs.Common.{◌≡◌, ◌⊎◌, inl, inr, ⊎_elim, ℕ, zero, suc, ◌<◌, List, [], ◌∷◌, ◌++◌, length, map, reverse, All, slice_get, Some, None, Option, Bool, true, false, ◌&&◌, ◌||◌, ◌==◌, eqb-true, eq-eqb, bytes_eq, arith, refl, sym, ap, ◌∙◌, subst}
+use Rattle.std.proofs.Common.{◌≡◌, ◌⊎◌, inl, inr, ⊎_elim, ℕ, zero, suc, ◌<◌, List, [], ◌∷◌, ◌++◌, length, reverse, All, slice_get, Some, None, Option, Bool, true, false, ◌&&◌, ◌||◌, ◌==◌, eqb-true, eq-eqb, bytes_eq, arith, refl, sym, ap, ◌∙◌, subst}
 use Rattle.std.specs.Prelude.{MatchBool}
 use Rattle.std.specs.List.{list_any, AllByRecursion}
 use mathlib.Core.List.{reverse-cons}
@@ -9,11 +9,11 @@ use Rattle.std.proofs.lemmas.Option.{slice_get_past, same_Some}
 use Rattle.iso_message.proofs.Equality.{bytes_eq_is, bytes_eq_refl}
 use Rattle.network_law.specs.Cards.{Bytes}
 use Rattle.network_law.specs.Traces.{IsIn}
-use Rattle.network_law.specs.Entries.{Entry, Input, Take, Output, Put, Answer, Ask, Post}
+use Rattle.network_law.specs.Entries.{Entry, Take, Output, Put, Answer, Ask, Post}
 use Rattle.network_law.specs.Runs.{IsLegal, IsRun, WasPut}
 use Rattle.net_rows.specs.Network.{Network, other_end}
 use Rattle.net_threads.specs.Found.{is_put, is_answer, entry_puts, entry_answers}
-use Rattle.net_threads.specs.Station.{StationView, given}
+use Rattle.net_threads.specs.Station.{StationView}
 use Rattle.net_threads.specs.declared.ended.Ended.{Ended}
 use Rattle.net_threads.specs.declared.ended.Verdict.{Verdict}
 use Rattle.net_threads.specs.declared.ended.Verdict.TheVariants.{Linked}
@@ -43,10 +43,6 @@ in_reverse (y ∷ ys) x m = ⊎_elim (λ a. inr (in_reverse ys x a)) (λ b. ⊎_
 pub reverse_in : {X : Type 0} (xs : List X) (x : X) → IsIn x xs → IsIn x (reverse xs)
 reverse_in [] x m = m
 reverse_in (y ∷ ys) x m = subst (IsIn x) (sym (reverse-cons y ys)) (⊎_elim (λ e. append_right (reverse ys) (y ∷ []) x (inl e)) (λ r. append_left (reverse ys) (y ∷ []) x (reverse_in ys x r)) m)
-
-in_map : {X Y : Type 0} (f : X → Y) (xs : List X) (x : X) → IsIn x xs → IsIn (f x) (map f xs)
-in_map f [] x m = absurd m
-in_map f (y ∷ ys) x m = ⊎_elim (λ e. inl (ap f e)) (λ r. inr (in_map f ys x r)) m
 
 any_member : {X : Type 0} (p : X → Bool) (xs : List X) → list_any p xs ≡ true → (x : X) × IsIn x xs × (p x ≡ true)
 any_member p [] e = absurd (not_both false e refl)
@@ -126,12 +122,12 @@ put_there stations n l s b v es found at is e = subst (λ z. MatchBool found (Wa
 pub answer_there : (stations : List StationView) (n : ℕ) (b : Bytes) (v : StationView) (es : List Entry) (found : Bool) → slice_get stations n ≡ Some v → reverse es ≡ v.trace → found ≡ list_any (entry_answers b) es → MatchBool found (WasAnswered (trace_of stations n) b) (¬ WasAnswered (trace_of stations n) b)
 answer_there stations n b v es found at is e = subst (λ z. MatchBool found (WasAnswered z b) (¬ WasAnswered z b)) (is ∙ sym (trace_there stations n v at)) (answer_found b es found e)
 
--- inputs that are linked, in the order in which they came
-pub all_linked : (t : Network) (stations : List StationView) (n : ℕ) (v : StationView) (inputs : List Input) → reverse inputs ≡ given v.trace → All (IsLinked t stations n) inputs → (i : Input) → IsIn i (given v.trace) → IsLinked t stations n i
-all_linked t stations n v inputs is all i m = all_in (IsLinked t stations n) inputs i (recursion_from_All (IsLinked t stations n) inputs all) (in_reverse inputs i (subst (IsIn i) (sym is) m))
+-- entries whose inputs are linked, the oldest first
+pub all_linked : (t : Network) (stations : List StationView) (n : ℕ) (v : StationView) (es : List Entry) → reverse es ≡ v.trace → All (λ (e : Entry). IsLinked t stations n e.input) es → (e : Entry) → IsIn e v.trace → IsLinked t stations n e.input
+all_linked t stations n v es is all e m = all_in (λ (d : Entry). IsLinked t stations n d.input) es e (recursion_from_All (λ (d : Entry). IsLinked t stations n d.input) es all) (in_reverse es e (subst (IsIn e) (sym is) m))
 
-pub given_there : (v : StationView) (inputs : List Input) (i : Input) → reverse inputs ≡ given v.trace → IsIn i inputs → IsIn i (given v.trace)
-given_there v inputs i is m = subst (IsIn i) is (reverse_in inputs i m)
+pub entry_there : (v : StationView) (es : List Entry) (e : Entry) → reverse es ≡ v.trace → IsIn e es → IsIn e v.trace
+entry_there v es e is m = subst (IsIn e) is (reverse_in es e m)
 
 -- the stations of all nodes, with each take linked, are a run
 pub are_run : (t : Network) (stations : List StationView) → length stations ≡ length t.nodes → All (λ (s : StationView). IsLegal s.t s.n s.trace) stations → AreOf t stations → AreLinked t stations → IsRun t (trace_of stations)
@@ -154,8 +150,7 @@ are_run t stations whole legal are linked = record {
     found : (n l s : ℕ) (bytes : Bytes) (e : Entry) (o : Option StationView) → slice_get stations n ≡ o → IsIn e (trace_of stations n) → e.input ≡ Take l s bytes → WasPut (trace_of stations (other_end t n l)) l s bytes
     found n l s bytes e None at m taken = absurd (subst (IsIn e) (ap trace_or_none at) m)
     found n l s bytes e (Some v) at m taken =
-        let here : IsIn e.input (given v.trace) = in_map (λ (z : Entry). z.input) v.trace e (subst (IsIn e) (trace_there stations n v at) m) in
-        subst (IsLinked t stations n) taken (linked n v at e.input here)
+        subst (IsLinked t stations n) taken (linked n v at e (subst (IsIn e) (trace_there stations n v at) m))
 
 -- linked stations are a run
 pub linked_run : (t : Network) (stations : List StationView) (ended : Ended) (v : Verdict) → Holds t stations ended v → v ≡ Linked → IsRun t (trace_of stations)

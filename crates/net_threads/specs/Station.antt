@@ -1,5 +1,5 @@
 -- What a station is seen as, and what its calls do.
-use Rattle.std.specs.Prelude.{◌≡◌, ◌⊎◌, ℕ, List, [], ◌∷◌, map, Some, None, Result, MatchResult}
+use Rattle.std.specs.Prelude.{◌≡◌, ◌⊎◌, ℕ, List, [], ◌∷◌, Some, None, Result, MatchResult}
 use Rattle.net_rows.specs.Network.{Network}
 use Rattle.network_law.specs.declared.fault.StepFault.TheVariants.{Memory}
 use Rattle.network_law.specs.Entries.{Entry, Input, Output, Put, Answer, Ask, Post}
@@ -20,15 +20,10 @@ pub record StationView : Type 0 where
 pub record NetworkView : Type 0 where
   pub t : Network
 
--- what a node was given
-abbrev pub given : List Entry → List Input
-given trace = map (λ e. e.input) trace
-
--- the node at this place of the tables, with what it was given, the newest first
-pub record IsStation (t : Network) (n : ℕ) (node : NodeView) (inputs : List Input) : Type 0 where
+-- the node at this place of the tables
+pub record IsStation (t : Network) (n : ℕ) (node : NodeView) : Type 0 where
   pub tables : node.t ≡ t
   pub place : node.n ≡ n
-  pub inputs_are : inputs ≡ given node.trace
 
 -- what outputs put on links
 abbrev pub puts_of : List Output → List PutView

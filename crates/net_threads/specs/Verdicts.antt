@@ -5,7 +5,7 @@ use Rattle.network_law.specs.Cards.{Bytes}
 use Rattle.network_law.specs.Traces.{IsIn}
 use Rattle.network_law.specs.Entries.{Entry, Input, Take, Put, Answer}
 use Rattle.network_law.specs.Runs.{IsRun, WasPut}
-use Rattle.net_threads.specs.Station.{StationView, given}
+use Rattle.net_threads.specs.Station.{StationView}
 use Rattle.net_threads.specs.declared.ended.Ended.{Ended}
 use Rattle.net_threads.specs.declared.ended.SessionEnd.{SessionEnd}
 use Rattle.net_threads.specs.declared.ended.LineEnd.{LineEnd}
@@ -38,7 +38,7 @@ IsLinked t stations n (Take l s bytes) = WasPut (trace_of stations (other_end t 
 IsLinked t stations n _ = ⊤
 
 abbrev pub AreLinked : Network → List StationView → Type 0
-AreLinked t stations = (n : ℕ) (v : StationView) → slice_get stations n ≡ Some v → (i : Input) → IsIn i (given v.trace) → IsLinked t stations n i
+AreLinked t stations = (n : ℕ) (v : StationView) → slice_get stations n ≡ Some v → (e : Entry) → IsIn e v.trace → IsLinked t stations n e.input
 
 -- a packet with this serial was taken there from the link, and wasn't put at its other end
 pub record IsStrange (t : Network) (stations : List StationView) (n l s : ℕ) (i : Input) : Type 0 where
@@ -50,9 +50,9 @@ pub record HasStrange (t : Network) (stations : List StationView) (l s : ℕ) : 
   pub n : ℕ
   pub station : StationView
   pub there : slice_get stations n ≡ Some station
-  pub input : Input
-  pub given : IsIn input (given station.trace)
-  pub strange : IsStrange t stations n l s input
+  pub entry : Entry
+  pub is_entry : IsIn entry station.trace
+  pub strange : IsStrange t stations n l s entry.input
 
 -- an answer stands in the trace of the session's node
 abbrev pub IsGiven : List StationView → ℕ → LineEnd → Type 0

@@ -1,7 +1,7 @@
 //! Whether traces are a run.
 ghost use Rattle.std.specs.Prelude.{◌≡◌, ◌≤◌, ℕ, All, IfOk, MatchBool, MatchOption, Some, slice_get, length};
 ghost use Rattle.net_rows.specs.Network.{other_end};
-ghost use Rattle.network_law.specs.Entries.{Input};
+ghost use Rattle.network_law.specs.Entries.{Entry};
 ghost use Rattle.network_law.specs.Runs.{IsLegal, WasPut};
 ghost use Rattle.network_law.specs.Traces.{IsIn};
 ghost use Rattle.net_threads.specs.Verdicts.{trace_of, WasAnswered, IsOf, AreOf, IsLinked, AreLinked, IsStrange, HasStrange, IsGiven, AreGiven, HasUngiven, Holds};
@@ -13,7 +13,7 @@ use card_digits::{LinkNo, NodeNo};
 use net_rows::Tables;
 use same_tables::same_tables;
 use std::alloc::{AllocError, Global};
-use switch_node::{Case, Input};
+use switch_node::{Case, Entry, Input};
 
 /// The stations that are judged, by the tables that they should be of.
 #[derive(Clone, Copy)]
@@ -58,12 +58,12 @@ fn strange_take(judged: &Judged<'_, '_>, n: NodeNo, input: &Input) -> Option<(Li
     }
 }
 
-/// The first of these inputs.
-fn strange_input(judged: &Judged<'_, '_>, n: NodeNo, inputs: &[Input]) -> Option<(LinkNo, u64)>
-    ensures { MatchOption result (All (IsLinked judged.now.tables.now judged.now.stations.now n) inputs.now) (λ p. (i : Input) × IsIn i inputs.now × IsStrange judged.now.tables.now judged.now.stations.now n p.0 p.1 i) }
+/// The first of these entries.
+fn strange_entry(judged: &Judged<'_, '_>, n: NodeNo, entries: &[Entry]) -> Option<(LinkNo, u64)>
+    ensures { MatchOption result (All (λ e. IsLinked judged.now.tables.now judged.now.stations.now n e.input) entries.now) (λ p. (e : Entry) × IsIn e entries.now × IsStrange judged.now.tables.now judged.now.stations.now n p.0 p.1 e.input) }
 {
-    for input in inputs {
-        if let Some(packet) = strange_take(judged, n, input) {
+    for entry in entries {
+        if let Some(packet) = strange_take(judged, n, entry.input()) {
             return Some(packet);
         }
     }
@@ -76,7 +76,7 @@ fn strange_link(judged: &Judged<'_, '_>) -> Option<(LinkNo, u64)>
     ensures { MatchOption result (AreLinked judged.now.tables.now judged.now.stations.now) (λ p. HasStrange judged.now.tables.now judged.now.stations.now p.0 p.1) }
 {
     for (n, station) in judged.stations.iter().enumerate() {
-        if let Some(packet) = strange_input(judged, NodeNo::new(n), station.inputs()) {
+        if let Some(packet) = strange_entry(judged, NodeNo::new(n), station.trace()) {
             return Some(packet);
         }
     }

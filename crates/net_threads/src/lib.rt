@@ -3,9 +3,9 @@
 
 mod ended;
 mod fault;
-mod given;
 mod judge;
 mod network;
+mod own_links;
 mod pumping;
 mod puts;
 mod sending;

@@ -6,15 +6,14 @@ ghost use Rattle.network_law.specs.Runs.{IsLegal, IsTyped};
 ghost use Rattle.rtrb.specs.Ring.{sent, received, known_items};
 ghost use Rattle.link_rings.specs.Rings.{Pops, links_in};
 ghost use Rattle.net_threads.specs.Pumping.{with_ins};
-ghost use Rattle.net_threads.specs.Station.{Does, given};
+ghost use Rattle.net_threads.specs.Station.{Does};
 
 use crate::fault::StationFault;
-use crate::given::{copied, is_own};
+use crate::own_links::is_own;
 use crate::sending::send_all;
 use card_digits::{LinkNo, NodeNo};
 use link_rings::{InRings, OutRings, Packet};
 use net_rows::Tables;
-use network_law::StepFault;
 use rtrb::{Consumer, Producer};
 use std::alloc::{AllocError, Global};
 use std::marker::Model;
@@ -28,21 +27,18 @@ pub struct Station<'a> {
     tables: &'a Tables,
     place: NodeNo,
     node: Node<'a>,
-    /// What the node was given, entry by entry.
-    inputs: Vec<Input>,
     outs: OutRings,
     ins: InRings,
 }
 
 impl<'a> Model for Station<'a> {
-    ghost use Rattle.std.specs.Prelude.{◌≡◌, reverse};
     ghost use Rattle.net_threads.specs.Station.{StationView, IsStation};
 
     ghost Value = { StationView };
 
     ghost view = { λ s. record { t = s.tables.now; n = s.place; trace = s.node.trace; outs = s.outs; ins = s.ins } };
 
-    ghost invariant = { λ s. IsStation s.tables.now s.place s.node (reverse s.inputs.items) };
+    ghost invariant = { λ s. IsStation s.tables.now s.place s.node };
 }
 
 impl<'a> Station<'a> {
@@ -61,7 +57,6 @@ impl<'a> Station<'a> {
             tables: accepted.tables(),
             place,
             node,
-            inputs: Vec::new(alloc),
             outs: OutRings::new(alloc),
             ins: InRings::new(alloc),
         })
@@ -87,15 +82,7 @@ impl<'a> Station<'a> {
         // Each key that it approved itself is of a card whose issuer names it, within its allowance.
         ensures limits { IsWithinLimits self.now.t self.now.n (history self.now.trace) }
     {
-        let _ = &self.inputs;
         self.node.trace()
-    }
-
-    /// What the node was given, entry by entry.
-    pub fn inputs(&self) -> &[Input]
-        ensures { reverse result.now ≡ given self.now.trace }
-    {
-        self.inputs.as_slice()
     }
 
     /// Makes the step of its node, and puts the outputs on the rings. A packet that meets a full ring, or no memory, is lost.
@@ -106,23 +93,15 @@ impl<'a> Station<'a> {
         if !is_own(&self.node, &input) {
             return Err(StationFault::StrangeLink);
         }
-        let Ok(copy) = copied(self.alloc, &input) else {
-            return Err(StationFault::Step(StepFault::Memory));
-        };
-        if self.inputs.reserve(1).is_err() {
-            return Err(StationFault::Step(StepFault::Memory));
-        }
         let mut outputs = Outputs::new(self.alloc);
         if let Err(fault) = self.node.step(input, &mut outputs) {
             return Err(StationFault::Step(fault));
         }
-        self.inputs.push_reserved(copy);
         send_all(self.alloc, &mut self.outs, outputs.as_slice());
         Ok(())
     }
 
     pub(crate) fn alloc(&self) -> Global {
-        let _ = &self.inputs;
         self.alloc
     }
 

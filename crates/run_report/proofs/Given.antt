@@ -1,9 +1,7 @@
 -- Answers, one output or entry after another.
-use Rattle.std.proofs.Common.{◌≡◌, ℕ, zero, suc, ◌+◌, ◌<◌, ◌≤◌, List, [], ◌∷◌, ◌++◌, length, get_or, take, reverse, map, Bool, not, arith, refl, sym, ap, ◌∙◌, subst}
-use Rattle.std.proofs.lemmas.List.{take_all, take_more, reverse-append, reverse-reverse}
-use Rattle.network_law.specs.Entries.{Entry, Input, Output}
-use Rattle.network_law.proofs.PlainGrants.{map_reverse}
-use Rattle.net_threads.specs.Station.{given}
+use Rattle.std.proofs.Common.{◌≡◌, ℕ, ◌+◌, ◌<◌, ◌≤◌, List, [], ◌∷◌, ◌++◌, length, get_or, take, reverse, Bool, not, arith, refl, sym, ap, ◌∙◌, subst}
+use Rattle.std.proofs.lemmas.List.{take_all, take_more, reverse-append}
+use Rattle.network_law.specs.Entries.{Entry, Output}
 use Rattle.run_report.specs.declared.answered.Answered.{Answered}
 use Rattle.run_report.specs.declared.tally.Tally.{Tally}
 use Rattle.run_report.specs.Counted.{counted}
@@ -35,24 +33,3 @@ entries_more t es k e within read h =
 
 pub entries_all : (t : Tally) (es trace : List Entry) (k : ℕ) → length es ≤ k → reverse es ≡ trace → Counts t (answers_given (reverse (take k es))) → t.own ≡ counted (own_among (answers_given trace))
 entries_all t es trace k past is h = h.own ∙ ap (λ ds. counted (own_among (answers_given (reverse ds)))) (take_all k es past) ∙ ap (λ ds. counted (own_among (answers_given ds))) is
-
--- inputs beside entries
-
-pub inputs_are : (es trace : List Entry) (is : List Input) → reverse es ≡ trace → reverse is ≡ given trace → is ≡ map (λ e. e.input) es
-inputs_are es trace is entries inputs =
-    sym (reverse-reverse is) ∙ ap reverse (inputs ∙ ap given (sym entries) ∙ map_reverse (λ e. e.input) es) ∙ reverse-reverse (map (λ (e : Entry). e.input) es)
-
-pub length_inputs : (es : List Entry) (is : List Input) → is ≡ map (λ e. e.input) es → length is ≡ length es
-length_inputs es is e = ap length e ∙ length_map es
-  where
-    length_map : (ds : List Entry) → length (map (λ (d : Entry). d.input) ds) ≡ length ds
-    length_map [] = refl
-    length_map (d ∷ ds) = ap suc (length_map ds)
-
-input_at : (es : List Entry) (k : ℕ) (e : Entry) (i : Input) → k < length es → e ≡ get_or es k e → i ≡ get_or (map (λ (d : Entry). d.input) es) k i → i ≡ e.input
-input_at [] k e i within entry input = absurd (omega arith)
-input_at (d ∷ es) zero e i within entry input = input ∙ ap (λ (x : Entry). x.input) (sym entry)
-input_at (d ∷ es) (suc k) e i within entry input = input_at es k e i (omega arith) entry input
-
-pub input_of_entry : (es : List Entry) (is : List Input) (k : ℕ) (e : Entry) (i : Input) → is ≡ map (λ e. e.input) es → k < length es → e ≡ get_or es k e → i ≡ get_or is k i → i ≡ e.input
-input_of_entry es is k e i inputs within entry input = input_at es k e i within entry (input ∙ ap (λ js. get_or js k i) inputs)

@@ -106,16 +106,10 @@ fn add_outputs(
 }
 
 /// Adds the answers of an entry.
-fn add_entry(
-    alloc: Global,
-    tally: &mut Tally,
-    entry: &Entry,
-    input: &Input,
-) -> Result<(), AllocError>
-    requires { input.now ≡ entry.now.input }
+fn add_entry(alloc: Global, tally: &mut Tally, entry: &Entry) -> Result<(), AllocError>
     ensures { OnOk result ((before : List Answered) → Counts tally.old before → Counts tally.new (answers_onto (not (brings_answer entry.now.input)) entry.now.outputs before)) }
 {
-    let alone = !brings_answer(input);
+    let alone = !brings_answer(entry.input());
     add_outputs(alloc, tally, entry.outputs().as_slice(), alone)
 }
 
@@ -124,10 +118,9 @@ fn own_approvals(alloc: Global, station: &Station<'_>) -> Result<u64, AllocError
     ensures { IfOk result (λ n. n ≡ counted (own_of station.now.trace)) }
 {
     let trace = station.trace();
-    let inputs = station.inputs();
     let mut tally = Tally::new(alloc);
-    for k in 0..trace.len() {
-        add_entry(alloc, &mut tally, &trace[k], &inputs[k])?;
+    for entry in trace {
+        add_entry(alloc, &mut tally, entry)?;
     }
     Ok(tally.own)
 }
