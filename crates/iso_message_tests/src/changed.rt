@@ -99,15 +99,21 @@ fn each_change_of_a_byte(rt: HostRuntime) -> Result<(), Fail> {
     Ok(())
 }
 
+/// Whether the bytes are refused, or written back but for the case of letters.
+fn is_same_but_for_case(rt: &HostRuntime, bytes: &[u8]) -> Result<bool, Fail> {
+    if fault_of(rt, bytes).is_some() {
+        return Ok(true);
+    }
+    let again = encode(rt.alloc(), &read(rt, bytes)?)?;
+    Ok(again.eq_ignore_ascii_case(bytes))
+}
+
 #[test]
 fn each_change_of_eight_bytes(rt: HostRuntime) -> Result<(), Fail> {
     for place in 0..EIGHT_BYTES.len() {
         for byte in 0..=255u8 {
             let bytes = changed(rt.alloc(), EIGHT_BYTES, place, byte)?;
-            if fault_of(&rt, &bytes).is_none() {
-                let again = encode(rt.alloc(), &read(&rt, &bytes)?)?;
-                assert!(rt; again.eq_ignore_ascii_case(&bytes), "{byte} at {place}");
-            }
+            assert!(rt; is_same_but_for_case(&rt, &bytes)?, "{byte} at {place}");
         }
     }
     Ok(())

@@ -22,6 +22,18 @@ pub(crate) fn is_spelled(rt: &HostRuntime, message: &Message, text: &[u8]) -> Re
     Ok(bytes.as_slice() == text)
 }
 
+pub(crate) fn set(message: &mut Message, number: u8, value: &[u8]) -> Result<(), Fail> {
+    message.set(number, value)?;
+    Ok(())
+}
+
+/// The request with its date of settlement.
+pub(crate) fn dated_request(rt: &HostRuntime) -> Result<Message, Fail> {
+    let mut request = read(rt, M)?;
+    set(&mut request, 15, b"0314")?;
+    Ok(request)
+}
+
 /// Whether the element is there with these bytes.
 pub(crate) fn has(message: &Message, number: u8, text: &[u8]) -> bool {
     match message.get(number) {

@@ -4,7 +4,8 @@ ghost use Rattle.std.specs.Prelude.{Some, None};
 use crate::fixtures::M;
 use card_digits::{Counted, ReadFault, Sink, Source, WriteFault};
 use iso_message::{FrameFault, read_frame, write_frame};
-use std::test::*;
+use std::alloc::Global;
+use std::test::Fail;
 
 /// Gives one byte at each other turn, and is interrupted at the turns between; fails where it is told to.
 #[derive(Drop)]
@@ -85,66 +86,80 @@ impl Sink for Kept {
     }
 }
 
-#[test]
-fn frames(rt: HostRuntime) -> Result<(), Fail> {
+fn slow_reader(bytes: &[u8], fails: bool) -> Slow<'_> {
+    Slow {
+        left: bytes,
+        gives: false,
+        fails,
+        calls: 0,
+    }
+}
+
+/// The frames of the request and of no bytes. Between them a body that is too long is refused, and nothing is written.
+fn two_frames(alloc: Global) -> Result<Vec<u8>, Fail> {
     let mut writer = Kept {
-        bytes: Vec::new(rt.alloc()),
+        bytes: Vec::new(alloc),
     };
     write_frame(&mut writer, M)?;
-    assert!(rt; writer.bytes.starts_with(&[0x00, 0x53]));
-    let long = vec![in rt.alloc(); b'0'; 65_536]?;
     let before = writer.bytes.len();
-    assert_eq!(rt;
-        write_frame(&mut writer, &long).err(),
-        Some(FrameFault::Long)
-    );
-    assert_eq!(rt; writer.bytes.len(), before);
+    let long = vec![in alloc; b'0'; 65_536]?;
+    let refused = write_frame(&mut writer, &long).err() == Some(FrameFault::Long);
+    if !refused || writer.bytes.len() != before {
+        return Err("a body that is too long".into());
+    }
     write_frame(&mut writer, b"")?;
-    let mut reader = Slow {
-        left: &writer.bytes,
-        gives: false,
-        fails: false,
-        calls: 0,
-    };
-    let first = read_frame(rt.alloc(), &mut reader)?.ok_or("a frame")?;
-    assert_eq!(rt; first.as_slice(), M);
-    let second = read_frame(rt.alloc(), &mut reader)?.ok_or("a frame")?;
-    assert_eq!(rt; second.len(), 0);
-    assert!(rt; read_frame(rt.alloc(), &mut reader)?.is_none());
-    Ok(())
+    Ok(writer.bytes)
+}
+
+fn is_next(alloc: Global, reader: &mut Slow, wanted: &[u8]) -> Result<bool, Fail> {
+    match read_frame(alloc, reader)? {
+        Some(frame) => Ok(frame.as_slice() == wanted),
+        None => Ok(false),
+    }
+}
+
+fn is_over(alloc: Global, reader: &mut Slow) -> Result<bool, Fail> {
+    Ok(read_frame(alloc, reader)?.is_none())
 }
 
 #[test]
-fn broken_frames(rt: HostRuntime) -> Result<(), Fail> {
+fn frames(rt: HostRuntime) -> Result<(), Fail> {
+    let bytes = two_frames(rt.alloc())?;
+    assert!(rt; bytes.starts_with(&[0x00, 0x53]));
+    let mut reader = slow_reader(&bytes, false);
+    assert!(rt; is_next(rt.alloc(), &mut reader, M)?);
+    assert!(rt; is_next(rt.alloc(), &mut reader, b"")?);
+    assert!(rt; is_over(rt.alloc(), &mut reader)?);
+    Ok(())
+}
+
+fn fault_in(alloc: Global, bytes: &[u8]) -> Option<FrameFault> {
+    read_frame(alloc, &mut Counted::reader(bytes)).err()
+}
+
+/// The fault where the reader fails behind these bytes.
+fn fault_behind(alloc: Global, bytes: &[u8]) -> Option<FrameFault> {
+    read_frame(alloc, &mut slow_reader(bytes, true)).err()
+}
+
+#[test]
+fn broken_frames(rt: HostRuntime) {
     for bytes in [[0x00, 0x53].as_slice(), &[0x00], &[0x00, 0x02, 0x30]] {
-        let mut reader = Counted::reader(bytes);
-        assert_eq!(rt;
-            read_frame(rt.alloc(), &mut reader).err(),
-            Some(FrameFault::Short)
-        );
-        let mut failing = Slow {
-            left: bytes,
-            gives: false,
-            fails: true,
-            calls: 0,
-        };
-        assert_eq!(rt;
-            read_frame(rt.alloc(), &mut failing).err(),
-            Some(FrameFault::Read)
-        );
+        assert!(rt; fault_in(rt.alloc(), bytes) == Some(FrameFault::Short));
+        assert!(rt; fault_behind(rt.alloc(), bytes) == Some(FrameFault::Read));
     }
-    assert_eq!(rt;
-        read_frame(rt.alloc(), &mut Stuck { calls: 0 }).err(),
-        Some(FrameFault::Read)
-    );
+}
+
+#[test]
+fn a_reader_that_is_always_interrupted(rt: HostRuntime) {
+    let fault = read_frame(rt.alloc(), &mut Stuck { calls: 0 }).err();
+    assert!(rt; fault == Some(FrameFault::Read));
+}
+
+#[test]
+fn the_longest_frame(rt: HostRuntime) -> Result<(), Fail> {
     let largest = vec![in rt.alloc(); 0xFF; 65_537]?;
-    let mut slow = Slow {
-        left: &largest,
-        gives: false,
-        fails: false,
-        calls: 0,
-    };
-    let bytes = read_frame(rt.alloc(), &mut slow)?.ok_or("a frame")?;
+    let bytes = read_frame(rt.alloc(), &mut slow_reader(&largest, false))?.ok_or("a frame")?;
     assert_eq!(rt; bytes.len(), 65_535);
     Ok(())
 }

@@ -1,6 +1,6 @@
 //! A request that is read, written and set, and first faults.
 
-use crate::fixtures::{M, fault_of, has, is_spelled, read};
+use crate::fixtures::{M, dated_request, fault_of, has, is_spelled, read, set};
 use iso_message::{DecodeFault, Kind, Message, encode};
 use std::test::*;
 
@@ -76,17 +76,24 @@ fn refused_values(rt: HostRuntime) -> Result<(), Fail> {
     Ok(())
 }
 
+/// Whether a copy has the elements that were set, and is spelled as the message that it was made of.
+fn is_copied(rt: &HostRuntime, message: &Message) -> Result<bool, Fail> {
+    let spelled = encode(rt.alloc(), message)?;
+    let copy = message.copy()?;
+    Ok(
+        has(&copy, 15, b"0314")
+            && has(&copy, 4, b"000000002000")
+            && is_spelled(rt, &copy, &spelled)?,
+    )
+}
+
 #[test]
 fn changes(rt: HostRuntime) -> Result<(), Fail> {
-    let mut message = read(&rt, M)?;
-    message.set(15, b"0314")?;
-    message.set(4, b"000000002000")?;
-    let copy = message.copy()?;
-    assert!(rt; has(&copy, 15, b"0314"));
-    assert!(rt; has(&copy, 4, b"000000002000"));
-    assert!(rt; is_spelled(&rt, &copy, &encode(rt.alloc(), &message)?)?);
+    let mut message = dated_request(&rt)?;
+    set(&mut message, 4, b"000000002000")?;
+    assert!(rt; is_copied(&rt, &message)?);
     message.remove(15);
-    message.set(4, b"000000001000")?;
+    set(&mut message, 4, b"000000001000")?;
     assert!(rt; is_spelled(&rt, &message, M)?);
     Ok(())
 }
@@ -94,7 +101,11 @@ fn changes(rt: HostRuntime) -> Result<(), Fail> {
 #[test]
 fn alone_above_64(rt: HostRuntime) -> Result<(), Fail> {
     let mut message = Message::new(rt.alloc(), Kind::K0400);
-    message.set(90, b"010000000103140915300000040000100000000000")?;
+    set(
+        &mut message,
+        90,
+        b"010000000103140915300000040000100000000000",
+    )?;
     message.set_kind(Kind::K0420);
     assert!(rt;
         is_spelled(
