@@ -5,116 +5,161 @@ use card_digits::{
 };
 use std::test::Fail;
 
-fn passes(text: &[u8]) -> Option<bool> {
-    match Card::read(text) {
-        Ok(card) => Some(luhn(&card)),
-        Err(_) => None,
+/// Whether a card's check digit is right. `no card` where the text is none.
+fn check_digit(text: &str) -> &'static str {
+    match Card::read(text.as_bytes()) {
+        Ok(card) => if luhn(&card) { "right" } else { "wrong" },
+        Err(_) => "no card",
     }
 }
 
 /// Numbers that card schemes publish for tests, the textbook example of the formula, and each with another last digit.
+const CHECK_DIGITS: &str = "\
+4111111111111111 right
+5500000000000004 right
+378282246310005 right
+79927398713 right
+4111111111111112 wrong
+79927398710 wrong
+";
+
 #[test]
-fn check_digits(rt: HostRuntime) -> Result<(), Fail> {
-    assert_eq!(rt; passes(b"4111111111111111"), Some(true));
-    assert_eq!(rt; passes(b"5500000000000004"), Some(true));
-    assert_eq!(rt; passes(b"378282246310005"), Some(true));
-    assert_eq!(rt; passes(b"79927398713"), Some(true));
-    assert_eq!(rt; passes(b"4111111111111112"), Some(false));
-    assert_eq!(rt; passes(b"79927398710"), Some(false));
-    Ok(())
+fn check_digits(rt: HostRuntime) {
+    for line in CHECK_DIGITS.lines() {
+        let (number, wanted) = line.split_once(' ').unwrap_or((line, ""));
+        assert!(rt; check_digit(number) == wanted, "{line}");
+    }
 }
 
-fn card_fault(text: &[u8]) -> Option<DigitFault> {
-    Card::read(text).err()
+fn told(fault: Option<DigitFault>) -> &'static str {
+    match fault {
+        None => "read",
+        Some(DigitFault::Length) => "length",
+        Some(DigitFault::NotDigit) => "not digit",
+    }
 }
 
-fn prefix_fault(text: &[u8]) -> Option<DigitFault> {
-    Prefix::read(text).err()
+fn card_reads(text: &str) -> &'static str {
+    told(Card::read(text.as_bytes()).err())
 }
 
-fn date_fault(text: &[u8]) -> Option<DigitFault> {
-    DateLabel::read(text).err()
+fn prefix_reads(text: &str) -> &'static str {
+    told(Prefix::read(text.as_bytes()).err())
 }
 
-fn amount(text: &[u8]) -> Option<u64> {
-    match Amount::read(text) {
+fn date_reads(text: &str) -> &'static str {
+    told(DateLabel::read(text.as_bytes()).err())
+}
+
+#[test]
+fn lengths_and_digits_of_cards(rt: HostRuntime) {
+    assert!(rt; card_reads("12345678") == "read");
+    assert!(rt; card_reads("1234567890123456789") == "read");
+    assert!(rt; card_reads("1234567") == "length");
+    assert!(rt; card_reads("123456a") == "not digit");
+}
+
+#[test]
+fn lengths_of_prefixes_and_dates(rt: HostRuntime) {
+    assert!(rt; prefix_reads("123456789012") == "read");
+    assert!(rt; prefix_reads("") == "length");
+    assert!(rt; date_reads("0314") == "read");
+    assert!(rt; date_reads("314") == "length");
+}
+
+fn amount(text: &str) -> Option<u64> {
+    match Amount::read(text.as_bytes()) {
         Ok(amount) => Some(amount.value()),
         Err(_) => None,
     }
 }
 
-fn is_name(text: &[u8]) -> bool {
-    Name::read(text).is_some()
+#[test]
+fn amounts(rt: HostRuntime) {
+    assert!(rt; amount("000000010000") == Some(10_000));
 }
 
-fn is_id(text: &[u8]) -> bool {
-    Id::read(text).is_some()
+fn is_name(text: &str) -> bool {
+    Name::read(text.as_bytes()).is_some()
+}
+
+fn is_id(text: &str) -> bool {
+    Id::read(text.as_bytes()).is_some()
 }
 
 #[test]
-fn lengths_and_digits(rt: HostRuntime) -> Result<(), Fail> {
-    assert_eq!(rt; card_fault(b"12345678"), None);
-    assert_eq!(rt; card_fault(b"1234567890123456789"), None);
-    assert_eq!(rt; card_fault(b"1234567"), Some(DigitFault::Length));
-    assert_eq!(rt; card_fault(b"123456a"), Some(DigitFault::NotDigit));
-    assert_eq!(rt; prefix_fault(b"123456789012"), None);
-    assert_eq!(rt; prefix_fault(b""), Some(DigitFault::Length));
-    assert_eq!(rt; date_fault(b"0314"), None);
-    assert_eq!(rt; date_fault(b"314"), Some(DigitFault::Length));
-    assert_eq!(rt; amount(b"000000010000"), Some(10_000));
-    Ok(())
+fn names_and_ids(rt: HostRuntime) {
+    assert!(rt; is_name("Node1"));
+    assert!(rt; !is_name("a-b"));
+    assert!(rt; is_id("400001"));
+    assert!(rt; !is_id("000"));
 }
 
-#[test]
-fn names_and_ids(rt: HostRuntime) -> Result<(), Fail> {
-    assert!(rt; is_name(b"Node1"));
-    assert!(rt; !is_name(b"a-b"));
-    assert!(rt; is_id(b"400001"));
-    assert!(rt; !is_id(b"000"));
-    Ok(())
+fn card(text: &str) -> Result<Card, Fail> {
+    Ok(Card::read(text.as_bytes()).ok().ok_or("card")?)
 }
 
-fn card(text: &[u8]) -> Result<Card, Fail> {
-    Ok(Card::read(text).ok().ok_or("card")?)
+fn prefix(text: &str) -> Result<Prefix, Fail> {
+    Ok(Prefix::read(text.as_bytes()).ok().ok_or("prefix")?)
 }
 
-fn prefix(text: &[u8]) -> Result<Prefix, Fail> {
-    Ok(Prefix::read(text).ok().ok_or("prefix")?)
+fn is_front(text: &str, number: &str) -> Result<bool, Fail> {
+    Ok(begins(&prefix(text)?, &card(number)?))
+}
+
+fn is_class_within(text: &str, class: &str) -> Result<bool, Fail> {
+    Ok(begins_class(&prefix(text)?, &prefix(class)?))
 }
 
 #[test]
 fn fronts_of_cards(rt: HostRuntime) -> Result<(), Fail> {
-    let card = card(b"4111111111111111")?;
-    let (short, other, class) = (prefix(b"41")?, prefix(b"42")?, prefix(b"411111")?);
-    assert!(rt; begins(&short, &card));
-    assert!(rt; !begins(&other, &card));
-    assert!(rt; begins_class(&short, &class));
-    assert!(rt; !begins_class(&class, &short));
-    assert_eq!(rt; Prefix::of(&card).digits().len(), 12);
+    assert!(rt; is_front("41", "4111111111111111")?);
+    assert!(rt; !is_front("42", "4111111111111111")?);
+    assert!(rt; is_class_within("41", "411111")?);
+    assert!(rt; !is_class_within("411111", "41")?);
     Ok(())
-}
-
-fn front(text: &[u8], end: u8) -> Option<&[u8]> {
-    let (front, _behind) = cut(text, end)?;
-    Some(front)
 }
 
 #[test]
-fn padding_and_cutting(rt: HostRuntime) -> Result<(), Fail> {
-    assert_eq!(rt; pad11(b"400001"), *b"00000400001");
-    assert!(rt; front(b"ab cd e", b' ') == Some(b"ab".as_slice()));
-    assert!(rt; front(b"ab", b' ').is_none());
+fn the_longest_front_of_a_card(rt: HostRuntime) -> Result<(), Fail> {
+    let card = card("4111111111111111")?;
+    assert!(rt; Prefix::of(&card).digits().len() == 12);
     Ok(())
+}
+
+/// Whether the bytes before the first space are these.
+fn is_cut(text: &str, wanted: &str) -> bool {
+    match cut(text.as_bytes(), b' ') {
+        Some((front, _)) => front == wanted.as_bytes(),
+        None => false,
+    }
+}
+
+#[test]
+fn padding(rt: HostRuntime) {
+    assert!(rt; pad11(b"400001").as_slice() == "00000400001".as_bytes());
+}
+
+#[test]
+fn cutting(rt: HostRuntime) {
+    assert!(rt; is_cut("ab cd e", "ab"));
+    assert!(rt; cut(b"ab", b' ').is_none());
+}
+
+/// What stands behind the first line, where that is this one.
+fn behind<'a>(text: &'a [u8], line: &str) -> Result<&'a [u8], Fail> {
+    match first_line(text) {
+        Some((first, behind)) if first == line.as_bytes() => Ok(behind),
+        _ => Err("another line".into()),
+    }
 }
 
 #[test]
 fn lines(rt: HostRuntime) -> Result<(), Fail> {
-    let (first, behind) = first_line(b"ab\n\ncd").ok_or("a line")?;
-    assert_eq!(rt; first, b"ab".as_slice());
-    let (second, behind) = first_line(behind).ok_or("a line without bytes")?;
-    assert_eq!(rt; second, b"".as_slice());
-    let (third, behind) = first_line(behind).ok_or("a line without an end")?;
-    assert_eq!(rt; third, b"cd".as_slice());
-    assert!(rt; first_line(behind).is_none());
+    let rest = behind("ab\n\ncd".as_bytes(), "ab")?;
+    let rest = behind(rest, "")?;
+    // The last line has no end.
+    let rest = behind(rest, "cd")?;
+    assert!(rt; first_line(rest).is_none());
     Ok(())
 }

@@ -8,6 +8,8 @@ mod digits;
 #[cfg(test)]
 mod maker;
 #[cfg(test)]
+mod networks;
+#[cfg(test)]
 mod rows;
 #[cfg(test)]
 mod tries;

@@ -14,10 +14,11 @@ fn prefix(text: &str) -> Result<Prefix, Fail> {
 
 /// Whether the pair was added; otherwise its refusal.
 fn insert(trie: &mut Trie<u32>, text: &str, value: u32) -> Result<Option<Fault>, Fail> {
-    match trie.insert(prefix(text)?, value) {
+    let prefix = prefix(text)?;
+    match trie.insert(prefix, value) {
         Ok(()) => Ok(None),
         Err(refused) => {
-            if refused.value != value || refused.prefix != prefix(text)? {
+            if refused.value != value || refused.prefix != prefix {
                 return Err("the pair is not given back")?;
             }
             Ok(Some(refused.fault))
@@ -33,29 +34,37 @@ fn three_rows(alloc: Global) -> Result<Trie<u32>, Fail> {
     Ok(trie)
 }
 
-fn found(trie: &Trie<u32>, text: &str) -> Result<Option<u32>, Fail> {
+/// The value of the longest prefix of a card, 0 where there is none.
+fn found(trie: &Trie<u32>, text: &str) -> Result<u32, Fail> {
     match trie.longest(&card(text)?) {
-        Some((_, value)) => Ok(Some(*value)),
-        None => Ok(None),
+        Some((_, value)) => Ok(*value),
+        None => Ok(0),
     }
 }
 
-fn found_at(trie: &Trie<u32>, text: &str) -> Result<Option<u32>, Fail> {
+/// The same of a class of cards.
+fn found_at(trie: &Trie<u32>, text: &str) -> Result<u32, Fail> {
     match trie.longest_at(&prefix(text)?) {
-        Some((_, value)) => Ok(Some(*value)),
-        None => Ok(None),
+        Some((_, value)) => Ok(*value),
+        None => Ok(0),
     }
 }
 
 #[test]
 fn the_longest_prefix_wins(rt: HostRuntime) -> Result<(), Fail> {
     let trie = three_rows(rt.alloc())?;
-    assert_eq!(rt; found(&trie, "4111111111111111")?, Some(3));
-    assert_eq!(rt; found(&trie, "41111111")?, Some(2));
-    assert_eq!(rt; found(&trie, "4211111111111111")?, Some(1));
-    assert_eq!(rt; found(&trie, "5555555555554444")?, None);
-    assert_eq!(rt; found_at(&trie, "4111")?, Some(2));
-    assert_eq!(rt; found_at(&trie, "5")?, None);
+    assert!(rt; found(&trie, "4111111111111111")? == 3);
+    assert!(rt; found(&trie, "41111111")? == 2);
+    assert!(rt; found(&trie, "4211111111111111")? == 1);
+    assert!(rt; found(&trie, "5555555555554444")? == 0);
+    Ok(())
+}
+
+#[test]
+fn the_longest_prefix_of_a_class_wins(rt: HostRuntime) -> Result<(), Fail> {
+    let trie = three_rows(rt.alloc())?;
+    assert!(rt; found_at(&trie, "4111")? == 2);
+    assert!(rt; found_at(&trie, "5")? == 0);
     Ok(())
 }
 
@@ -63,9 +72,9 @@ fn the_longest_prefix_wins(rt: HostRuntime) -> Result<(), Fail> {
 fn a_prefix_that_is_there_is_refused(rt: HostRuntime) -> Result<(), Fail> {
     let mut trie = three_rows(rt.alloc())?;
     assert!(rt; insert(&mut trie, "41", 9)? == Some(Fault::Present));
-    assert_eq!(rt; found(&trie, "41111111")?, Some(2));
+    assert!(rt; found(&trie, "41111111")? == 2);
     assert!(rt; insert(&mut trie, "5", 9)? == None);
-    assert_eq!(rt; found(&trie, "5555555555554444")?, Some(9));
+    assert!(rt; found(&trie, "5555555555554444")? == 9);
     Ok(())
 }
 

@@ -2,27 +2,32 @@
 use card_digits::{DigitFault, Id, Name, Prefix};
 use net_tables::{Key, Place, Table, TableFault};
 use rank_cert::CertFault;
+use std::alloc::Global;
+use std::fmt::Display;
 use std::test::Fail;
+
+fn is_told<T: Display>(alloc: Global, fault: &T, wanted: &str) -> Result<bool, Fail> {
+    let words = format!(in alloc; "{fault}")?;
+    Ok(words.as_str() == wanted)
+}
 
 #[test]
 fn words_of_faults(rt: HostRuntime) -> Result<(), Fail> {
-    let place = Place {
+    let missing = TableFault::MissingField(Place {
         table: Table::StandIn,
         row: 2,
         key: Key::Day,
-    };
-    let missing = TableFault::MissingField(place);
-    let words = format!(in rt.alloc(); "{missing}")?;
-    assert!(rt; words.as_str() == "2 missing field: stand_in 2 day");
-    let many = TableFault::TooMany(Table::Node);
-    let words = format!(in rt.alloc(); "{many}")?;
-    assert!(rt; words.as_str() == "6 too many: node");
-    let line = CertFault::Line(3);
-    let words = format!(in rt.alloc(); "{line}")?;
-    assert!(rt; words.as_str() == "2 line 3");
-    let digit = DigitFault::NotDigit;
-    let words = format!(in rt.alloc(); "{digit}")?;
-    assert!(rt; words.as_str() == "a byte is no digit");
+    });
+    assert!(rt; is_told(rt.alloc(), &missing, "2 missing field: stand_in 2 day")?);
+    assert!(rt;
+        is_told(
+            rt.alloc(),
+            &TableFault::TooMany(Table::Node),
+            "6 too many: node"
+        )?
+    );
+    assert!(rt; is_told(rt.alloc(), &CertFault::Line(3), "2 line 3")?);
+    assert!(rt; is_told(rt.alloc(), &DigitFault::NotDigit, "a byte is no digit")?);
     Ok(())
 }
 
