@@ -3,10 +3,19 @@ use card_digits::{DigitFault, Id, Name, Prefix};
 use net_tables::{Key, Place, Table, TableFault};
 use rank_cert::CertFault;
 use std::alloc::Global;
-use std::fmt::Display;
 use std::test::Fail;
 
-fn is_told<T: Display>(alloc: Global, fault: &T, wanted: &str) -> Result<bool, Fail> {
+fn table_fault_says(alloc: Global, fault: TableFault, wanted: &str) -> Result<bool, Fail> {
+    let words = format!(in alloc; "{fault}")?;
+    Ok(words.as_str() == wanted)
+}
+
+fn cert_fault_says(alloc: Global, fault: CertFault, wanted: &str) -> Result<bool, Fail> {
+    let words = format!(in alloc; "{fault}")?;
+    Ok(words.as_str() == wanted)
+}
+
+fn digit_fault_says(alloc: Global, fault: DigitFault, wanted: &str) -> Result<bool, Fail> {
     let words = format!(in alloc; "{fault}")?;
     Ok(words.as_str() == wanted)
 }
@@ -18,16 +27,11 @@ fn words_of_faults(rt: HostRuntime) -> Result<(), Fail> {
         row: 2,
         key: Key::Day,
     });
-    assert!(rt; is_told(rt.alloc(), &missing, "2 missing field: stand_in 2 day")?);
-    assert!(rt;
-        is_told(
-            rt.alloc(),
-            &TableFault::TooMany(Table::Node),
-            "6 too many: node"
-        )?
-    );
-    assert!(rt; is_told(rt.alloc(), &CertFault::Line(3), "2 line 3")?);
-    assert!(rt; is_told(rt.alloc(), &DigitFault::NotDigit, "a byte is no digit")?);
+    let many = TableFault::TooMany(Table::Node);
+    assert!(rt; table_fault_says(rt.alloc(), missing, "2 missing field: stand_in 2 day")?);
+    assert!(rt; table_fault_says(rt.alloc(), many, "6 too many: node")?);
+    assert!(rt; cert_fault_says(rt.alloc(), CertFault::Line(3), "2 line 3")?);
+    assert!(rt; digit_fault_says(rt.alloc(), DigitFault::NotDigit, "a byte is no digit")?);
     Ok(())
 }
 
