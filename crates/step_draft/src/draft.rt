@@ -13,16 +13,15 @@ use crate::output::Output;
 use book_index::Sums;
 use card_digits::LinkNo;
 use entry_changes::Changes;
-use iso_message::encode;
+use iso_message::encode_into;
 use network_law::{GrantPacket, packet_bytes};
 use node_books::{Books, Effect, OwnApproval};
 use request_book::{PreparedOutput, Way};
 use std::alloc::{AllocError, Global};
 use std::marker::Model;
-use std::mem::{replace, swap};
+use std::mem::replace;
 
-/// The books as they were before the entry, which nothing changes until the entry is whole; and its changes, with its outputs twice, for
-/// the trace and for the caller.
+/// The books as they were before the entry, which nothing changes until the entry is whole; and its changes, with its outputs.
 #[derive(Drop)]
 pub struct Draft {
     pub(crate) alloc: Global,
@@ -31,7 +30,8 @@ pub struct Draft {
     /// What the own approvals among the later changes count for.
     pub(crate) late_uses: Sums,
     pub(crate) outs: Vec<Output>,
-    pub(crate) lent: Vec<Output>,
+    /// Room in which messages are spelled, used again for each.
+    pub(crate) spelling: Vec<u8>,
 }
 
 impl Model for Draft {
@@ -44,7 +44,7 @@ impl Model for Draft {
 
     ghost view = { λ d. record { base = d.books.lists; effects = d.effects } };
 
-    ghost invariant = { λ d. (d.outs.items ≡ spelled_in d.effects) × (d.lent.items ≡ spelled_in d.effects) × AreLateUses d.books.lists.marks d.effects d.late_uses.amounts.entries };
+    ghost invariant = { λ d. (d.outs.items ≡ spelled_in d.effects) × AreLateUses d.books.lists.marks d.effects d.late_uses.amounts.entries };
 }
 
 /// Room for one output more. Most entries have one, and the trace keeps no room to spare.
@@ -59,11 +59,18 @@ fn make_room(outputs: &mut Vec<Output>) -> Result<(), AllocError>
     }
 }
 
+/// An output in memory of its own, with no room to spare. Its message is spelled in a buffer whose memory serves again.
 #[tactic(auto, using(crate::proofs::Drafts::way_spelled))]
-fn spelled(alloc: Global, output: &PreparedOutput) -> Result<Output, AllocError>
+fn spelled(
+    alloc: Global,
+    spelling: &mut Vec<u8>,
+    output: &PreparedOutput,
+) -> Result<Output, AllocError>
     ensures { IfOk result (λ o. o ≡ spelled output.now) }
 {
-    let bytes = encode(alloc, output.message())?;
+    spelling.clear();
+    encode_into(spelling, output.message())?;
+    let bytes = Vec::from_slice(alloc, spelling)?;
     Ok(Output::new(output.way(), bytes))
 }
 
@@ -91,7 +98,7 @@ impl Draft {
             effects: Changes::new(alloc),
             late_uses: Sums::new(alloc),
             outs: Vec::new(alloc),
-            lent: Vec::new(alloc),
+            spelling: Vec::new(alloc),
         }
     }
 
@@ -115,13 +122,10 @@ impl Draft {
         ensures emitted { OnOk result (progress self.new ≡ emit output (progress self.old)) }
         ensures err { OnErr result (self.new ≡ self.old) }
     {
-        let lent = spelled(self.alloc, &output)?;
-        let kept = lent.copy()?;
+        let out = spelled(self.alloc, &mut self.spelling, &output)?;
         make_room(&mut self.outs)?;
-        self.lent.reserve(1)?;
         self.effects.push(Effect::Sent(output))?;
-        self.outs.push_reserved(kept);
-        self.lent.push_reserved(lent);
+        self.outs.push_reserved(out);
         Ok(())
     }
 
@@ -136,13 +140,10 @@ impl Draft {
         ensures base { self.new.base ≡ self.old.base }
         ensures emitted { OnOk result (progress self.new ≡ emit (PutPacket link serial packet) (progress self.old)) }
     {
-        let lent = spelled_packet(self.alloc, link, serial, &packet)?;
-        let kept = lent.copy()?;
+        let out = spelled_packet(self.alloc, link, serial, &packet)?;
         make_room(&mut self.outs)?;
-        self.lent.reserve(1)?;
         self.effects.push(Effect::PacketSent(link, serial, packet))?;
-        self.outs.push_reserved(kept);
-        self.lent.push_reserved(lent);
+        self.outs.push_reserved(out);
         Ok(())
     }
 
@@ -197,21 +198,29 @@ impl Draft {
         self.effects.push(effect)
     }
 
-    /// All that was done is done to the books, and its outputs are handed out for the trace, and lent to an empty list, whose memory serves
-    /// the next entry; or it is as before.
-    pub fn commit(&mut self, lent: &mut Vec<Output>) -> Result<Vec<Output>, AllocError>
+    /// Adds copies of the entry's outputs to an empty list.
+    pub fn lend(&self, lent: &mut Vec<Output>) -> Result<(), AllocError>
         requires none { lent.old.items ≡ [] }
+        ensures { OnOk result (lent.new.items ≡ spelled_in self.now.effects) }
+    {
+        for output in self.outs.as_slice() {
+            let copy = output.copy()?;
+            lent.push(copy)?;
+        }
+        Ok(())
+    }
+
+    /// All that was done is done to the books, and its outputs are handed out; or it is as before.
+    pub fn commit(&mut self) -> Result<Vec<Output>, AllocError>
         ensures outs { IfOk result (λ outs. outs.items ≡ spelled_in self.old.effects) }
-        ensures lent { OnOk result (lent.new.items ≡ spelled_in self.old.effects) }
         ensures done { OnOk result (self.new ≡ record { base = (progress self.old).lists; effects = [] }) }
-        ensures err { OnErr result ((self.new ≡ self.old) × (lent.new.items ≡ [])) }
+        ensures err { OnErr result (self.new ≡ self.old) }
     {
         self.books.reserve(self.effects.len())?;
         self.effects.apply_to(&mut self.books);
         self.late_uses = Sums::new(self.alloc);
         let mut outs = replace(&mut self.outs, Vec::new(self.alloc));
         outs.shrink_to_fit();
-        swap(&mut self.lent, lent);
         Ok(outs)
     }
 
@@ -222,6 +231,5 @@ impl Draft {
         self.effects.clear();
         self.late_uses = Sums::new(self.alloc);
         self.outs.clear();
-        self.lent.clear();
     }
 }

@@ -5,7 +5,9 @@ ghost use Rattle.network_law.specs.Entries.{history};
 ghost use Rattle.network_law.specs.Tables.{is_link_of};
 ghost use Rattle.network_law.specs.Runs.{IsLegal, NamesOwnLink, IsTyped, step_refusal, step_outputs};
 ghost use Rattle.network_law.specs.declared.fault.StepFault.TheVariants.{Memory};
-ghost use Rattle.std.specs.Prelude.{reverse};
+ghost use Rattle.std.specs.Prelude.{reverse, if◌then◌else◌};
+ghost use Rattle.step_draft.specs.Outputs.{spelled_in};
+ghost use Rattle.switch_node.specs.Node.{newest_outputs};
 
 use crate::input::Input;
 use crate::inputs::step;
@@ -16,11 +18,22 @@ use network_law::{StepFault, every_legal_trace_is_within_limits};
 use node_books::Books;
 use std::alloc::{AllocError, Global};
 use std::marker::Model;
-use step_draft::Draft;
+use step_draft::{Draft, Output};
 use table_checker::Accepted;
 
 /// The most entries that a trace has.
 const MOST: usize = 1_000_000;
+
+/// Lends copies of the outputs of a draft, if asked to.
+fn lend(draft: &Draft, lends: bool, out: &mut Outputs) -> Result<(), AllocError>
+    requires none { out.old ≡ [] }
+    ensures { OnOk result (out.new ≡ if lends then spelled_in draft.now.effects else []) }
+{
+    if lends {
+        draft.lend(&mut out.items)?;
+    }
+    Ok(())
+}
 
 /// A node of the network with its trace.
 #[derive(Drop)]
@@ -32,7 +45,9 @@ pub struct Node<'a> {
 }
 
 impl<'a> Model for Node<'a> {
-    ghost use Rattle.std.specs.Prelude.{reverse};
+    ghost use Rattle.std.specs.Prelude.{reverse, if◌then◌else◌};
+    ghost use Rattle.step_draft.specs.Outputs.{spelled_in};
+    ghost use Rattle.switch_node.specs.Node.{newest_outputs};
     ghost use Rattle.switch_node.specs.Node.{NodeView, IsNode};
 
     ghost Value = { NodeView };
@@ -81,7 +96,17 @@ impl<'a> Node<'a> {
         self.trace.as_slice()
     }
 
-    /// Adds the entry of an input, and lends its outputs; or changes nothing.
+    /// What was put out for the newest entry, in order; nothing where there is none.
+    pub fn newest_outputs(&self) -> &[Output]
+        ensures { result.now ≡ newest_outputs self.now.trace }
+    {
+        match self.trace.as_slice().last() {
+            Some(entry) => entry.outputs().as_slice(),
+            None => &[],
+        }
+    }
+
+    /// Adds the entry of an input, and lends copies of its outputs; or changes nothing.
     pub fn step(&mut self, input: Input, out: &mut Outputs) -> Result<(), StepFault>
         requires own { NamesOwnLink self.old.t self.old.n input }
         requires typed { IsTyped input }
@@ -93,6 +118,35 @@ impl<'a> Node<'a> {
         ensures fault { IfErr result (λ f. (f ≡ Memory) ⊎ (step_refusal self.old.t self.old.n self.old.trace input ≡ Some f)) }
     {
         out.clear();
+        self.make_entry(input, true, out)
+    }
+
+    /// The same without copies of the outputs, which stand in the newest entry.
+    pub fn advance(&mut self, input: Input) -> Result<(), StepFault>
+        requires own { NamesOwnLink self.old.t self.old.n input }
+        requires typed { IsTyped input }
+        ensures same { (self.new.t ≡ self.old.t) × (self.new.n ≡ self.old.n) }
+        ensures entry { OnOk result (self.new.trace ≡ record { input = input; outputs = step_outputs self.old.t self.old.n self.old.trace input } ∷ self.old.trace) }
+        ensures accepted { OnOk result (step_refusal self.old.t self.old.n self.old.trace input ≡ None) }
+        ensures err { OnErr result (self.new ≡ self.old) }
+        ensures fault { IfErr result (λ f. (f ≡ Memory) ⊎ (step_refusal self.old.t self.old.n self.old.trace input ≡ Some f)) }
+    {
+        let mut none = Outputs::new(self.draft.alloc());
+        self.make_entry(input, false, &mut none)
+    }
+
+    /// Adds the entry of an input, and lends copies of its outputs if asked to; or changes nothing.
+    fn make_entry(&mut self, input: Input, lends: bool, out: &mut Outputs) -> Result<(), StepFault>
+        requires own { NamesOwnLink self.old.t self.old.n input }
+        requires typed { IsTyped input }
+        requires none { out.old ≡ [] }
+        ensures same { (self.new.t ≡ self.old.t) × (self.new.n ≡ self.old.n) }
+        ensures entry { OnOk result (self.new.trace ≡ record { input = input; outputs = step_outputs self.old.t self.old.n self.old.trace input } ∷ self.old.trace) }
+        ensures accepted { OnOk result (step_refusal self.old.t self.old.n self.old.trace input ≡ None) }
+        ensures lent { OnOk result (out.new ≡ if lends then step_outputs self.old.t self.old.n self.old.trace input else []) }
+        ensures err { OnErr result ((self.new ≡ self.old) × (out.new ≡ [])) }
+        ensures fault { IfErr result (λ f. (f ≡ Memory) ⊎ (step_refusal self.old.t self.old.n self.old.trace input ≡ Some f)) }
+    {
         if self.trace.as_slice().len() >= MOST {
             return Err(StepFault::HistoryFull);
         }
@@ -103,8 +157,14 @@ impl<'a> Node<'a> {
             self.draft.rollback();
             return Err(fault);
         }
-        let Ok(outs) = self.draft.commit(&mut out.items) else {
+        let Ok(()) = lend(&self.draft, lends, out) else {
             self.draft.rollback();
+            out.clear();
+            return Err(StepFault::Memory);
+        };
+        let Ok(outs) = self.draft.commit() else {
+            self.draft.rollback();
+            out.clear();
             return Err(StepFault::Memory);
         };
         self.trace

@@ -26,4 +26,4 @@ invariant_of-self-2 c =
     let small : left_marks a.key marks a.amount ≤ 1000000000000 = omega (arith, range, left) in
     let more : (other : CardDay) → sum_at new other ≡ sum_at old other + amount_on day (left_marks a.key marks a.amount) other = λ other. c.add.ensures.sums other ∙ (λ j. c.reserve.ensures.sums other j + amount_on (c.day-day.ensures j) (left j) other) in
     let P : List Effect → Type 0 = λ z. AreLateUses marks z new in
-    (c.self.invariant.0 ∙ quiet, c.self.invariant.1 ∙ quiet, subst P (sym pushed) (uses_more marks es a old new few small more c.self.invariant.2))
+    (c.self.invariant.0 ∙ quiet, subst P (sym pushed) (uses_more marks es a old new few small more c.self.invariant.1))

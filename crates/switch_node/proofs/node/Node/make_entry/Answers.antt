@@ -1,16 +1,16 @@
-use Rattle.std.proofs.Common.{◌≡◌, ◌<◌, ◌≤◌, List, [], ◌∷◌, length, map, reverse, true, false, nat_le, inl, inr, refl, sym, ap, ◌∙◌, arith}
+use Rattle.std.proofs.Common.{◌≡◌, ◌<◌, ◌≤◌, List, [], ◌∷◌, length, map, reverse, true, false, nat_le, inl, inr, refl, sym, ap, ◌∙◌, arith, if◌then◌else◌}
 use Rattle.std.proofs.lemmas.Bool.{cases_Bool, leb-true, leb-false}
 use Rattle.std.proofs.lemmas.List.{reverse-append, reverse-reverse, length-reverse}
 use Rattle.network_law.specs.Entries.{Entry, spelled}
 use Rattle.node_books.specs.Effects.{progress, sent_in}
 use Rattle.switch_node.specs.Node.{Does}
 use Rattle.switch_node.proofs.Stepped.{Stepped, stepped, faulted, full}
-use Rattle.switch_node.proofs.node.Node.step.Goals as goal
+use Rattle.switch_node.proofs.node.Node.make_entry.Goals as goal
 
 not_full : (entries : List Entry) → length entries < 1000000 → nat_le 1000000 (length (reverse entries)) ≡ false
 not_full entries p = rw (length-reverse entries) (elim (cases_Bool (nat_le 1000000 (length entries))) [ inl t ↦ absurd (omega (arith, leb-true 1000000 (length entries) t, p)) | inr f ↦ f ])
 
-made : (c : goal.After-push_reserved) → Stepped c.self.inside.tables.now c.self.inside.node (reverse c.self.inside.trace.items) (record { input = c.args.input; outputs = c.in-Ok.outs.items }) (progress c.step.new.draft).lists
+made : (c : goal.After-push_reserved) → Stepped c.self.inside.tables.now c.self.inside.node (reverse c.self.inside.trace.items) (record { input = c.args.input; outputs = c.in-Ok-commit.outs.items }) (progress c.step.new.draft).lists
 made c =
     let t = c.self.inside.tables.now in
     let n = c.self.inside.node in
@@ -18,16 +18,21 @@ made c =
     let does : Does t n c.args.input c.self.inside.draft c.step.new.draft = c.in_default.ensures.ok in
     let room : nat_le 1000000 (length trace) ≡ false = not_full c.self.inside.trace.items (omega (arith, ap length c.as_slice.ensures.value)) in
     let own = rw (← c.self.view_is) at c.requires.own in
-    stepped t n trace c.self.inside.draft.base (record { input = c.args.input; outputs = c.in-Ok.outs.items }) (Does.read does) (progress c.step.new.draft) c.self.invariant.given own c.requires.typed (Does.reads does) room (Does.accepted does) (Does.done does) (c.in-Ok.ensures.outs ∙ ap (map spelled) (sym (reverse-reverse (sent_in c.step.new.draft.effects))))
+    stepped t n trace c.self.inside.draft.base (record { input = c.args.input; outputs = c.in-Ok-commit.outs.items }) (Does.read does) (progress c.step.new.draft) c.self.invariant.given own c.requires.typed (Does.reads does) room (Does.accepted does) (Does.done does) (c.in-Ok-commit.ensures.outs ∙ ap (map spelled) (sym (reverse-reverse (sent_in c.step.new.draft.effects))))
 
 pub invariant_of-self-2 : goal.invariant_of-self-2
-invariant_of-self-2 c = rw (c.push_reserved.ensures.items, c.reserve.ensures.items, c.new.ensures, c.from_vec.ensures, reverse-append c.self.inside.trace.items (record { input = c.args.input; outputs = c.in-Ok.outs.items } ∷ []), c.in-Ok.ensures.done) (record { given = Stepped.given (made c); empty = refl })
+invariant_of-self-2 c = rw (c.push_reserved.ensures.items, c.reserve.ensures.items, c.new.ensures, c.from_vec.ensures, reverse-append c.self.inside.trace.items (record { input = c.args.input; outputs = c.in-Ok-commit.outs.items } ∷ []), c.in-Ok-commit.ensures.done) (record { given = Stepped.given (made c); empty = refl })
 
 pub returns-clause-accepted : goal.returns-clause-accepted
 returns-clause-accepted c = rw (← c.self.view_is) (Stepped.accepted (made c))
 
-pub returns-clause-decided : goal.returns-clause-decided
-returns-clause-decided c = rw (← c.self.view_is) (c.in-Ok.ensures.lent ∙ (sym c.in-Ok.ensures.outs ∙ Stepped.outputs (made c)))
+pub returns-clause-entry : goal.returns-clause-entry
+returns-clause-entry c =
+    rw (← c.self.view_is) (rw (c.push_reserved.ensures.items, c.reserve.ensures.items, c.new.ensures, c.from_vec.ensures, reverse-append c.self.inside.trace.items (record { input = c.args.input; outputs = c.in-Ok-commit.outs.items } ∷ []))
+    (ap (λ z. record { input = c.args.input; outputs = z } ∷ reverse c.self.inside.trace.items) (Stepped.outputs (made c))))
+
+pub returns-clause-lent : goal.returns-clause-lent
+returns-clause-lent c = rw (← c.self.view_is) (c.in-Ok.ensures ∙ ap (λ z. if c.args.lends then z else []) (sym c.in-Ok-commit.ensures.outs ∙ Stepped.outputs (made c)))
 
 pub returns-in-Err-clause-fault : goal.returns-in-Err-clause-fault
 returns-in-Err-clause-fault c =
