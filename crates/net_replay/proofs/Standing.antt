@@ -1,6 +1,8 @@
 -- A step more.
-use Rattle.std.proofs.Common.{◌≡◌, ℕ, zero, suc, ◌<◌, List, [], ◌∷◌, ◌++◌, length, set, get_or, Option, Some, Bool, true, false, cond, eqb, eqb-true, eq-eqb, refl, sym, ap, ◌∙◌, subst, arith, append_assoc, length-set, replicate, inl, inr, ◌⊎◌}
-use Rattle.std.specs.Prelude.{slice_get}
+use Rattle.std.proofs.Common.{◌≡◌, ℕ, zero, suc, ◌<◌, ◌==◌, List, [], ◌∷◌, ◌++◌, length, map, reverse, set, get_or, Option, Some, None, Bool, true, false, cond, eqb, eqb-true, eq-eqb, refl, sym, ap, ◌∙◌, subst, arith, append_assoc, length-append, length-set, replicate, inl, inr, ◌⊎◌, if◌then◌else◌}
+use Rattle.std.specs.Prelude.{slice_get, option_and_then}
+use Rattle.std.specs.Option.{option_map}
+use Rattle.std.proofs.lemmas.List.{append-nil, map-append, reverse-append, length-reverse}
 use Rattle.std.proofs.lemmas.Option.{get_or_from_slice_get, slice_get_within}
 use Rattle.net_rows.specs.Network.{Network}
 use Rattle.network_law.specs.Cards.{Bytes}
@@ -15,8 +17,10 @@ use Rattle.net_replay.specs.Replays.{IsInput, IsSaidFault, fault_of}
 use Rattle.switch_node.specs.Node.{NodeView}
 use Rattle.net_replay.specs.declared.traces.StepPlace.{StepPlace}
 use Rattle.net_replay.specs.Steps.{Step, entries_at, packets, packets_in}
-use Rattle.net_replay.specs.Packets.{put_at, put_all}
-use Rattle.net_replay.specs.Running.{IsAt, ArePackets}
+use Rattle.step_draft.specs.Outputs.{bytes_of}
+use Rattle.net_replay.specs.declared.packets.PacketPlace.{PacketPlace}
+use Rattle.net_replay.specs.Packets.{bytes_at, put_at, put_all}
+use Rattle.net_replay.specs.Running.{IsAt, ArePackets, ArePlaces}
 
 -- an element of a list is replaced
 
@@ -32,6 +36,9 @@ get_other (x ∷ xs) zero (suc j) v ne = refl
 get_other (x ∷ xs) (suc i) zero v ne = refl
 get_other (x ∷ xs) (suc i) (suc j) v ne = get_other xs i j v (λ e. ne (ap suc e))
 
+pub get_or_set : {X : Type 0} (xs : List X) (i : ℕ) (v w : X) → i < length xs → get_or (set xs i v) i w ≡ v
+get_or_set xs i v w less = get_or_from_slice_get (set xs i v) i v w (get_same xs i v less)
+
 differ : (i j : ℕ) → eqb i j ≡ false → i ≡ j → ⊥
 differ i j f e = no (sym f ∙ eq-eqb i j e)
   where
@@ -40,31 +47,123 @@ differ i j f e = no (sym f ∙ eq-eqb i j e)
 
 -- the packets of outputs are added
 
-append_nothing : {X : Type 0} (xs : List X) → xs ++ [] ≡ xs
-append_nothing [] = refl
-append_nothing (x ∷ xs) = ap (λ z. x ∷ z) (append_nothing xs)
+-- the places of those on a link, of the outputs from the k-th on
+abbrev places_in : ℕ → ℕ → ℕ → List Output → List PacketPlace
+places_in entry k l [] = []
+places_in entry k l (Put m s b ∷ os) = if m == l then (record { entry = entry; output = k }) ∷ places_in entry (suc k) l os else places_in entry (suc k) l os
+places_in entry k l (Answer b ∷ os) = places_in entry (suc k) l os
+places_in entry k l (Ask a b ∷ os) = places_in entry (suc k) l os
+places_in entry k l (Post b ∷ os) = places_in entry (suc k) l os
 
-pub put_all_gets : (os : List Output) (links : List (List Bytes)) (l : ℕ) (xs : List Bytes) → slice_get links l ≡ Some xs → slice_get (put_all links os) l ≡ Some (xs ++ packets_in l os)
-put_all_gets [] links l xs e = e ∙ ap Some (sym (append_nothing xs))
-put_all_gets (Put k s b ∷ os) links l xs e = go (eqb k l) refl (put_all_gets os (put_at links k b) l)
+put_all_gets : (entry k : ℕ) (os : List Output) (links : List (List PacketPlace)) (l : ℕ) (xs : List PacketPlace) → slice_get links l ≡ Some xs → slice_get (put_all links entry k os) l ≡ Some (xs ++ places_in entry k l os)
+put_all_gets entry k [] links l xs e = e ∙ ap Some (sym (append-nil xs))
+put_all_gets entry k (Put m s b ∷ os) links l xs e = go (eqb m l) refl (put_all_gets entry (suc k) os (put_at links m p) l)
   where
-    go : (q : Bool) → eqb k l ≡ q → ((ys : List Bytes) → slice_get (put_at links k b) l ≡ Some ys → slice_get (put_all (put_at links k b) os) l ≡ Some (ys ++ packets_in l os)) → slice_get (put_all (put_at links k b) os) l ≡ Some (xs ++ cond (eqb k l) (b ∷ packets_in l os) (packets_in l os))
-    go true same ih =
-        let on = eqb-true k l same in
-        let here : slice_get links k ≡ Some xs = ap (slice_get links) on ∙ e in
-        let put : slice_get (put_at links k b) k ≡ Some (xs ++ b ∷ []) = get_same links k (get_or links k [] ++ b ∷ []) (slice_get_within links k xs here) ∙ ap (λ z. Some (z ++ b ∷ [])) (get_or_from_slice_get links k xs [] here) in
-        rw same (ih (xs ++ b ∷ []) (ap (slice_get (put_at links k b)) (sym on) ∙ put) ∙ ap Some (append_assoc xs (b ∷ []) (packets_in l os)))
-    go false other ih = rw other (ih xs (get_other links k l (get_or links k [] ++ b ∷ []) (differ k l other) ∙ e))
-put_all_gets (Answer b ∷ os) links l xs e = put_all_gets os links l xs e
-put_all_gets (Ask a b ∷ os) links l xs e = put_all_gets os links l xs e
-put_all_gets (Post b ∷ os) links l xs e = put_all_gets os links l xs e
+    p : PacketPlace
+    p = record { entry = entry; output = k }
 
-put_all_length : (os : List Output) (links : List (List Bytes)) → length (put_all links os) ≡ length links
-put_all_length [] links = refl
-put_all_length (Put k s b ∷ os) links = put_all_length os (put_at links k b) ∙ length-set links k (get_or links k [] ++ b ∷ [])
-put_all_length (Answer b ∷ os) links = put_all_length os links
-put_all_length (Ask a b ∷ os) links = put_all_length os links
-put_all_length (Post b ∷ os) links = put_all_length os links
+    rest : List PacketPlace
+    rest = places_in entry (suc k) l os
+
+    go : (q : Bool) → eqb m l ≡ q → ((ys : List PacketPlace) → slice_get (put_at links m p) l ≡ Some ys → slice_get (put_all (put_at links m p) entry (suc k) os) l ≡ Some (ys ++ rest)) → slice_get (put_all (put_at links m p) entry (suc k) os) l ≡ Some (xs ++ cond (eqb m l) (p ∷ rest) rest)
+    go true same ih =
+        let on = eqb-true m l same in
+        let here : slice_get links m ≡ Some xs = ap (slice_get links) on ∙ e in
+        let put : slice_get (put_at links m p) m ≡ Some (xs ++ p ∷ []) = get_same links m (get_or links m [] ++ p ∷ []) (slice_get_within links m xs here) ∙ ap (λ z. Some (z ++ p ∷ [])) (get_or_from_slice_get links m xs [] here) in
+        rw same (ih (xs ++ p ∷ []) (ap (slice_get (put_at links m p)) (sym on) ∙ put) ∙ ap Some (append_assoc xs (p ∷ []) rest))
+    go false other ih = rw other (ih xs (get_other links m l (get_or links m [] ++ p ∷ []) (differ m l other) ∙ e))
+put_all_gets entry k (Answer b ∷ os) links l xs e = put_all_gets entry (suc k) os links l xs e
+put_all_gets entry k (Ask a b ∷ os) links l xs e = put_all_gets entry (suc k) os links l xs e
+put_all_gets entry k (Post b ∷ os) links l xs e = put_all_gets entry (suc k) os links l xs e
+
+put_all_length : (entry k : ℕ) (os : List Output) (links : List (List PacketPlace)) → length (put_all links entry k os) ≡ length links
+put_all_length entry k [] links = refl
+put_all_length entry k (Put m s b ∷ os) links = put_all_length entry (suc k) os (put_at links m (record { entry = entry; output = k })) ∙ length-set links m (get_or links m [] ++ (record { entry = entry; output = k }) ∷ [])
+put_all_length entry k (Answer b ∷ os) links = put_all_length entry (suc k) os links
+put_all_length entry k (Ask a b ∷ os) links = put_all_length entry (suc k) os links
+put_all_length entry k (Post b ∷ os) links = put_all_length entry (suc k) os links
+
+-- what stands at these places
+
+get_end : {X : Type 0} (xs : List X) (x : X) (ys : List X) → slice_get (xs ++ x ∷ ys) (length xs) ≡ Some x
+get_end [] x ys = refl
+get_end (z ∷ xs) x ys = get_end xs x ys
+
+get_more : {X : Type 0} (xs ys : List X) (k : ℕ) (x : X) → slice_get xs k ≡ Some x → slice_get (xs ++ ys) k ≡ Some x
+get_more [] ys k x e = absurd (no e)
+  where
+    no : None ≡ Some x → ⊥
+    no p = cc
+get_more (z ∷ xs) ys zero x e = e
+get_more (z ∷ xs) ys (suc k) x e = get_more xs ys k x e
+
+read_more : (xs ys : List Entry) (p : PacketPlace) (b : Bytes) → bytes_at xs p ≡ Some b → bytes_at (xs ++ ys) p ≡ Some b
+read_more xs ys p b e = go (slice_get xs p.entry) refl
+  where
+    read : Option Entry → Option Bytes
+    read found = option_and_then (λ (x : Entry). option_map bytes_of (slice_get x.outputs p.output)) found
+
+    no : None ≡ Some b → ⊥
+    no q = cc
+
+    go : (found : Option Entry) → slice_get xs p.entry ≡ found → bytes_at (xs ++ ys) p ≡ Some b
+    go None is = absurd (no (sym (ap read is) ∙ e))
+    go (Some x) is = ap read (get_more xs ys p.entry x is ∙ sym is) ∙ e
+
+all_read_more : (xs ys : List Entry) (ps : List PacketPlace) (bs : List Bytes) → map (bytes_at xs) ps ≡ map Some bs → map (bytes_at (xs ++ ys)) ps ≡ map Some bs
+all_read_more xs ys [] bs e = e
+all_read_more xs ys (p ∷ ps) [] e = absurd (no e)
+  where
+    no : {X : Type 0} {x : X} {ys : List X} → x ∷ ys ≡ [] → ⊥
+    no q = cc
+all_read_more xs ys (p ∷ ps) (b ∷ bs) e =
+    let parts = both e in
+    both_back (read_more xs ys p b parts.0) (all_read_more xs ys ps bs parts.1)
+  where
+    both : {X : Type 0} {x y : X} {xs ys : List X} → x ∷ xs ≡ y ∷ ys → (x ≡ y) × (xs ≡ ys)
+    both q = (cc, cc)
+
+    both_back : {X : Type 0} {x y : X} {xs ys : List X} → x ≡ y → xs ≡ ys → x ∷ xs ≡ y ∷ ys
+    both_back q r = cc
+
+put_read : (past : List Entry) (e : Entry) (l : ℕ) (pre os : List Output) → e.outputs ≡ pre ++ os → map (bytes_at (past ++ e ∷ [])) (places_in (length past) (length pre) l os) ≡ map Some (packets_in l os)
+put_read past e l pre [] is = refl
+put_read past e l pre (o ∷ os) is = go o is refl (subst (λ z. map (bytes_at (past ++ e ∷ [])) (places_in (length past) z l os) ≡ map Some (packets_in l os)) one (put_read past e l (pre ++ o ∷ []) os (is ∙ sym (append_assoc pre (o ∷ []) os))))
+  where
+    one : length (pre ++ o ∷ []) ≡ suc (length pre)
+    one = let e = length-append pre (o ∷ []) in omega (arith, e)
+
+    place : PacketPlace
+    place = record { entry = length past; output = length pre }
+
+    here : bytes_at (past ++ e ∷ []) place ≡ Some (bytes_of o)
+    here = ap (option_and_then (λ (x : Entry). option_map bytes_of (slice_get x.outputs (length pre)))) (get_end past e []) ∙ ap (option_map bytes_of) (ap (λ z. slice_get z (length pre)) is ∙ get_end pre o os)
+
+    Is : Output → Type 0
+    Is x = map (bytes_at (past ++ e ∷ [])) (places_in (length past) (length pre) l (x ∷ os)) ≡ map Some (packets_in l (x ∷ os))
+
+    go : (x : Output) → e.outputs ≡ pre ++ x ∷ os → o ≡ x → map (bytes_at (past ++ e ∷ [])) (places_in (length past) (suc (length pre)) l os) ≡ map Some (packets_in l os) → Is x
+    go (Put m s b) at same ih = split (eqb m l) refl
+      where
+        split : (q : Bool) → eqb m l ≡ q → Is (Put m s b)
+        split true on = rw on (cons (here ∙ ap (λ z. Some (bytes_of z)) same) ih)
+          where
+            cons : {X : Type 0} {x y : X} {xs ys : List X} → x ≡ y → xs ≡ ys → x ∷ xs ≡ y ∷ ys
+            cons q r = cc
+        split false off = rw off ih
+    go (Answer b) at same ih = ih
+    go (Ask a b) at same ih = ih
+    go (Post b) at same ih = ih
+
+-- the places of one entry more
+places_more : (es : List Entry) (e : Entry) (l : ℕ) (places : List PacketPlace) → ArePlaces es l places → ArePlaces (e ∷ es) l (places ++ places_in (length es) 0 l e.outputs)
+places_more es e l places are = subst (λ z. map (bytes_at z) (places ++ places_in (length es) 0 l e.outputs) ≡ map Some (packets l es ++ packets_in l e.outputs)) (sym (reverse-append (e ∷ []) es))
+    (map-append (bytes_at (reverse es ++ e ∷ [])) places (places_in (length es) 0 l e.outputs)
+    ∙ (join (all_read_more (reverse es) (e ∷ []) places (packets l es) are) (subst (λ z. map (bytes_at (reverse es ++ e ∷ [])) (places_in z 0 l e.outputs) ≡ map Some (packets_in l e.outputs)) (length-reverse es) (put_read (reverse es) e l [] e.outputs refl))
+    ∙ sym (map-append Some (packets l es) (packets_in l e.outputs))))
+  where
+    join : {X : Type 0} {a b c d : List X} → a ≡ b → c ≡ d → a ++ c ≡ b ++ d
+    join p q = cc
 
 -- the entries at each node
 
@@ -74,12 +173,12 @@ entries_same n e steps = rw (eq-eqb n n refl) refl
 entries_other : (n m : ℕ) (e : Entry) (steps : List Step) → eqb n m ≡ false → entries_at m (record { node = n; entry = e } ∷ steps) ≡ entries_at m steps
 entries_other n m e steps other = rw other refl
 
-pub one_more : (t : Network) (nodes : List NodeView) (sent : List (List (List Bytes))) (places : List StepPlace) (steps : List Step) → IsAt t nodes sent places steps
-    → (n : ℕ) → n < length t.nodes → (e : Entry) → IsStep t n (entries_at n steps) e → (links : List (List Bytes)) → slice_get sent n ≡ Some links
-    → IsAt t (set nodes n (record { t = t; n = n; trace = e ∷ entries_at n steps })) (set sent n (put_all links e.outputs)) (places ++ (record { node = n; entry = length (entries_at n steps) }) ∷ []) (record { node = n; entry = e } ∷ steps)
+pub one_more : (t : Network) (nodes : List NodeView) (sent : List (List (List PacketPlace))) (places : List StepPlace) (steps : List Step) → IsAt t nodes sent places steps
+    → (n : ℕ) → n < length t.nodes → (e : Entry) → IsStep t n (entries_at n steps) e → (links : List (List PacketPlace)) → slice_get sent n ≡ Some links
+    → IsAt t (set nodes n (record { t = t; n = n; trace = e ∷ entries_at n steps })) (set sent n (put_all links (length (entries_at n steps)) 0 e.outputs)) (places ++ (record { node = n; entry = length (entries_at n steps) }) ∷ []) (record { node = n; entry = e } ∷ steps)
 one_more t nodes sent places steps at n less e step links there = record {
   nodes_are = (length-set nodes n now ∙ at.nodes_are.0, λ m lm. node m (eqb n m) refl lm);
-  sent_are = (length-set sent n (put_all links e.outputs) ∙ at.sent_are.0, λ m lm. put m (eqb n m) refl lm);
+  sent_are = (length-set sent n (put_all links (length (entries_at n steps)) 0 e.outputs) ∙ at.sent_are.0, λ m lm. put m (eqb n m) refl lm);
   places_are = ap (λ z. z ++ (record { node = n; entry = length (entries_at n steps) }) ∷ []) at.places_are;
   there = (less, at.there);
   legal = λ m lm. right m (eqb n m) refl lm;
@@ -99,19 +198,25 @@ one_more t nodes sent places steps at n less e step links there = record {
         (get_same nodes n now (omega (arith, less, at.nodes_are.0)) ∙ ap (λ z. Some (record { t = t; n = n; trace = z })) (sym (entries_same n e steps)))
     node m false other lm = get_other nodes n m now (differ n m other) ∙ (at.nodes_are.1 m lm ∙ ap (λ z. Some (record { t = t; n = m; trace = z })) (sym (entries_other n m e steps other)))
 
-    packed : ArePackets (length t.links) (e ∷ entries_at n steps) (put_all links e.outputs)
+    now_sent : List (List PacketPlace)
+    now_sent = put_all links (length (entries_at n steps)) 0 e.outputs
+
+    on : (l : ℕ) → ((places : List PacketPlace) × (slice_get links l ≡ Some places) × ArePlaces (entries_at n steps) l places) → (places : List PacketPlace) × (slice_get now_sent l ≡ Some places) × ArePlaces (e ∷ entries_at n steps) l places
+    on l k = (k.0 ++ places_in (length (entries_at n steps)) 0 l e.outputs, put_all_gets (length (entries_at n steps)) 0 e.outputs links l k.0 k.1, places_more (entries_at n steps) e l k.0 k.2)
+
+    packed : ArePackets (length t.links) (e ∷ entries_at n steps) now_sent
     packed =
         let k = at.sent_are.1 n less in
         let same : k.0 ≡ links = some_is k.0 links (sym k.1 ∙ there) in
         let are : ArePackets (length t.links) (entries_at n steps) links = subst (ArePackets (length t.links) (entries_at n steps)) same k.2 in
-        (put_all_length e.outputs links ∙ are.0, λ l ll. put_all_gets e.outputs links l (packets l (entries_at n steps)) (are.1 l ll))
+        (put_all_length (length (entries_at n steps)) 0 e.outputs links ∙ are.0, λ l ll. on l (are.1 l ll))
 
-    put : (m : ℕ) (b : Bool) → eqb n m ≡ b → m < length t.nodes → (p : List (List Bytes)) × (slice_get (set sent n (put_all links e.outputs)) m ≡ Some p) × ArePackets (length t.links) (entries_at m next) p
-    put m true same lm = subst (λ z. (p : List (List Bytes)) × (slice_get (set sent n (put_all links e.outputs)) z ≡ Some p) × ArePackets (length t.links) (entries_at z next) p) (eqb-true n m same)
-        (put_all links e.outputs, get_same sent n (put_all links e.outputs) (omega (arith, less, at.sent_are.0)), subst (λ z. ArePackets (length t.links) z (put_all links e.outputs)) (sym (entries_same n e steps)) packed)
+    put : (m : ℕ) (b : Bool) → eqb n m ≡ b → m < length t.nodes → (p : List (List PacketPlace)) × (slice_get (set sent n now_sent) m ≡ Some p) × ArePackets (length t.links) (entries_at m next) p
+    put m true same lm = subst (λ z. (p : List (List PacketPlace)) × (slice_get (set sent n now_sent) z ≡ Some p) × ArePackets (length t.links) (entries_at z next) p) (eqb-true n m same)
+        (now_sent, get_same sent n now_sent (omega (arith, less, at.sent_are.0)), subst (λ z. ArePackets (length t.links) z now_sent) (sym (entries_same n e steps)) packed)
     put m false other lm =
         let k = at.sent_are.1 m lm in
-        (k.0, get_other sent n m (put_all links e.outputs) (differ n m other) ∙ k.1, subst (λ z. ArePackets (length t.links) z k.0) (sym (entries_other n m e steps other)) k.2)
+        (k.0, get_other sent n m now_sent (differ n m other) ∙ k.1, subst (λ z. ArePackets (length t.links) z k.0) (sym (entries_other n m e steps other)) k.2)
 
     right : (m : ℕ) (b : Bool) → eqb n m ≡ b → m < length t.nodes → IsLegal t m (entries_at m next)
     right m true same lm = subst (λ z. IsLegal t z (entries_at z next)) (eqb-true n m same) (subst (IsLegal t n) (sym (entries_same n e steps)) (at.legal n less, step))
@@ -136,10 +241,10 @@ refused t steps number x i NotLent aside brings (inr is) = (refl, (i, brings, is
 
 -- what stands at the place of a node
 
-pub node_at : (t : Network) (nodes : List NodeView) (sent : List (List (List Bytes))) (places : List StepPlace) (steps : List Step) → IsAt t nodes sent places steps → (n : ℕ) → n < length t.nodes → (place : ℕ) (v : NodeView) → place ≡ n → v ≡ get_or nodes place v → v ≡ record { t = t; n = n; trace = entries_at n steps }
+pub node_at : (t : Network) (nodes : List NodeView) (sent : List (List (List PacketPlace))) (places : List StepPlace) (steps : List Step) → IsAt t nodes sent places steps → (n : ℕ) → n < length t.nodes → (place : ℕ) (v : NodeView) → place ≡ n → v ≡ get_or nodes place v → v ≡ record { t = t; n = n; trace = entries_at n steps }
 node_at t nodes sent places steps at n less place v is e = e ∙ (ap (λ z. get_or nodes z v) is ∙ get_or_from_slice_get nodes n (record { t = t; n = n; trace = entries_at n steps }) v (at.nodes_are.1 n less))
 
-pub links_at : (t : Network) (nodes : List NodeView) (sent : List (List (List Bytes))) (places : List StepPlace) (steps : List Step) → IsAt t nodes sent places steps → (n : ℕ) → n < length t.nodes → (place : ℕ) (v : List (List Bytes)) → place ≡ n → v ≡ get_or sent place v → slice_get sent n ≡ Some v
+pub links_at : (t : Network) (nodes : List NodeView) (sent : List (List (List PacketPlace))) (places : List StepPlace) (steps : List Step) → IsAt t nodes sent places steps → (n : ℕ) → n < length t.nodes → (place : ℕ) (v : List (List PacketPlace)) → place ≡ n → v ≡ get_or sent place v → slice_get sent n ≡ Some v
 links_at t nodes sent places steps at n less place v is e =
     let k = at.sent_are.1 n less in
     k.1 ∙ ap Some (sym (e ∙ (ap (λ z. get_or sent z v) is ∙ get_or_from_slice_get sent n k.0 v k.1)))
@@ -153,13 +258,13 @@ pushed_get (x ∷ xs) v f all last zero less = all zero (omega arith)
 pushed_get (x ∷ xs) v f all last (suc n) less = pushed_get xs v (λ k. f (suc k)) (λ k lk. all (suc k) (omega (arith, lk))) last n (omega (arith, less))
 
 pub none_put : (count : ℕ) → ArePackets count [] (replicate count [])
-none_put count = (replicate_length count, λ l less. each count l less)
+none_put count = (replicate_length count, λ l less. ([], each count l less, refl))
   where
-    replicate_length : (k : ℕ) → length (replicate {A = List Bytes} k []) ≡ k
+    replicate_length : (k : ℕ) → length (replicate {A = List PacketPlace} k []) ≡ k
     replicate_length zero = refl
     replicate_length (suc k) = ap suc (replicate_length k)
 
-    each : (k l : ℕ) → l < k → slice_get (replicate {A = List Bytes} k []) l ≡ Some []
+    each : (k l : ℕ) → l < k → slice_get (replicate {A = List PacketPlace} k []) l ≡ Some []
     each zero l less = absurd (omega (arith, less))
     each (suc k) zero less = refl
     each (suc k) (suc l) less = each k l (omega (arith, less))

@@ -1,26 +1,32 @@
 -- A script that is being run.
-use Rattle.std.specs.Prelude.{ℕ, ◌≡◌, ◌<◌, List, length, Some, slice_get}
+use Rattle.std.specs.Prelude.{ℕ, ◌≡◌, ◌<◌, List, length, map, reverse, Some, slice_get}
 use Rattle.net_rows.specs.Network.{Network}
 use Rattle.network_law.specs.Cards.{Bytes}
 use Rattle.network_law.specs.Checked.{IsChecked}
 use Rattle.network_law.specs.Entries.{Entry}
 use Rattle.switch_node.specs.Node.{NodeView}
 use Rattle.net_replay.specs.Steps.{Step, entries_at, packets}
+use Rattle.net_replay.specs.Packets.{bytes_at}
+use Rattle.net_replay.specs.declared.packets.PacketPlace.{PacketPlace}
 use Rattle.net_replay.specs.Traces.{AreNodes, AreThere, places_of}
 use Rattle.network_law.specs.Runs.{IsLegal}
 use Rattle.replay_script.specs.Lines.{Said, read_line}
 use Rattle.net_replay.specs.declared.running.Running.{Running}
 use Rattle.net_replay.specs.declared.traces.StepPlace.{StepPlace}
 
--- on each of so many links stands what the trace put there
-abbrev pub ArePackets : ℕ → List Entry → List (List Bytes) → Type 0
-ArePackets count trace links = (length links ≡ count) × ((l : ℕ) → l < count → slice_get links l ≡ Some (packets l trace))
+-- these are the places of what the trace put on a link
+abbrev pub ArePlaces : List Entry → ℕ → List PacketPlace → Type 0
+ArePlaces trace l places = map (bytes_at (reverse trace)) places ≡ map Some (packets l trace)
+
+-- and so on each of so many links
+abbrev pub ArePackets : ℕ → List Entry → List (List PacketPlace) → Type 0
+ArePackets count trace links = (length links ≡ count) × ((l : ℕ) → l < count → (places : List PacketPlace) × (slice_get links l ≡ Some places) × ArePlaces trace l places)
 
 -- and so for each node
-abbrev pub AreSent : Network → List Step → List (List (List Bytes)) → Type 0
-AreSent t steps sent = (length sent ≡ length t.nodes) × ((n : ℕ) → n < length t.nodes → (links : List (List Bytes)) × (slice_get sent n ≡ Some links) × ArePackets (length t.links) (entries_at n steps) links)
+abbrev pub AreSent : Network → List Step → List (List (List PacketPlace)) → Type 0
+AreSent t steps sent = (length sent ≡ length t.nodes) × ((n : ℕ) → n < length t.nodes → (links : List (List PacketPlace)) × (slice_get sent n ≡ Some links) × ArePackets (length t.links) (entries_at n steps) links)
 
-pub record IsAt (t : Network) (nodes : List NodeView) (sent : List (List (List Bytes))) (places : List StepPlace) (steps : List Step) : Type 0 where
+pub record IsAt (t : Network) (nodes : List NodeView) (sent : List (List (List PacketPlace))) (places : List StepPlace) (steps : List Step) : Type 0 where
   pub nodes_are : AreNodes t steps nodes
   pub sent_are : AreSent t steps sent
   pub places_are : places ≡ places_of steps

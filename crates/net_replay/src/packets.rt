@@ -1,55 +1,61 @@
-//! The packets that a node put on its links.
-ghost use Rattle.std.specs.Prelude.{◌≡◌, ◌<◌, ℕ, [], length, replicate, OnOk, IfOk};
+//! Where the packets that a node put on its links stand in its trace.
+ghost use Rattle.std.specs.Prelude.{◌≡◌, ◌<◌, ℕ, [], length, replicate, OnOk, IfOk, option_and_then};
 ghost use Rattle.std.specs.Option.{option_copied};
-ghost use Rattle.net_replay.specs.Packets.{packet_of, put_at, put_all};
+ghost use Rattle.net_replay.specs.Packets.{bytes_at, place_of, put_at, put_all};
 
 use card_digits::LinkNo;
 use request_book::Way;
 use std::alloc::{AllocError, Global};
 use std::marker::Model;
-use switch_node::Output;
+use switch_node::{Entry, Output};
 
-/// The bytes of a packet.
-#[derive(Drop)]
-struct Packet {
-    bytes: Vec<u8>,
+/// Where a packet stands in the trace of the node that put it.
+#[derive(Clone, Copy, Debug)]
+pub(crate) struct PacketPlace {
+    /// The place of the entry in the trace, from 0.
+    entry: usize,
+    /// The place among the outputs of the entry, from 0.
+    output: usize,
 }
 
-impl Model for Packet {
-    ghost use Rattle.std.specs.Prelude.{List, ℕ};
-
-    ghost Value = { List ℕ };
-
-    ghost view = { λ p. p.bytes.items };
-}
-
-/// What was put on a link, in the order of serials, which count from 1.
+/// Where the packets stand that were put on a link, in the order of serials, which count from 1.
 #[derive(Drop)]
 struct LinkPackets {
-    packets: Vec<Packet>,
+    places: Vec<PacketPlace>,
 }
 
 impl Model for LinkPackets {
-    ghost use Rattle.std.specs.Prelude.{List, ℕ};
+    ghost use Rattle.std.specs.Prelude.{List};
+    ghost use Rattle.net_replay.specs.declared.packets.PacketPlace.{PacketPlace};
 
-    ghost Value = { List (List ℕ) };
+    ghost Value = { List PacketPlace };
 
-    ghost view = { λ p. p.packets.items };
+    ghost view = { λ p. p.places.items };
 }
 
-/// What one node put, by links.
+/// Where the packets of one node stand, by links.
 #[derive(Drop)]
 pub(crate) struct Packets {
-    alloc: Global,
     links: Vec<LinkPackets>,
 }
 
 impl Model for Packets {
-    ghost use Rattle.std.specs.Prelude.{List, ℕ};
+    ghost use Rattle.std.specs.Prelude.{List};
+    ghost use Rattle.net_replay.specs.declared.packets.PacketPlace.{PacketPlace};
 
-    ghost Value = { List (List (List ℕ)) };
+    ghost Value = { List (List PacketPlace) };
 
     ghost view = { λ p. p.links.items };
+}
+
+/// The bytes at a place of a trace, if there is one.
+pub(crate) fn bytes_at(trace: &[Entry], place: Option<PacketPlace>) -> Option<&[u8]>
+    ensures { option_copied result ≡ option_and_then (bytes_at trace.now) place }
+{
+    let place = place?;
+    let entry = trace.get(place.entry)?;
+    let output = entry.outputs().as_slice().get(place.output)?;
+    Some(output.bytes())
 }
 
 impl Packets {
@@ -60,43 +66,41 @@ impl Packets {
         let mut links = Vec::new(alloc);
         for _ in 0..count {
             links.push(LinkPackets {
-                packets: Vec::new(alloc),
+                places: Vec::new(alloc),
             })?;
         }
-        Ok(Packets { alloc, links })
+        Ok(Packets { links })
     }
 
-    /// The packet with this serial on the link.
-    pub(crate) fn get(&self, link: LinkNo, serial: u64) -> Option<&[u8]>
-        ensures { option_copied result ≡ packet_of self.now link serial }
+    /// Where the packet with this serial on the link stands.
+    pub(crate) fn get(&self, link: LinkNo, serial: u64) -> Option<PacketPlace>
+        ensures { result ≡ place_of self.now link serial }
     {
         if serial == 0 {
             return None;
         }
         let on_link = self.links.get(link.place())?;
-        let packet = on_link.packets.get(serial as usize - 1)?;
-        Some(packet.bytes.as_slice())
+        on_link.places.get(serial as usize - 1).copied()
     }
 
     /// One more packet on the link.
-    fn put(&mut self, link: LinkNo, bytes: &[u8]) -> Result<(), AllocError>
-        ensures { OnOk result (self.new ≡ put_at self.old link bytes.now) }
+    fn put(&mut self, link: LinkNo, place: PacketPlace) -> Result<(), AllocError>
+        ensures { OnOk result (self.new ≡ put_at self.old link place) }
     {
-        let copy = Vec::from_slice(self.alloc, bytes)?;
-        let place = link.place();
-        if place < self.links.len() {
-            self.links[place].packets.push(Packet { bytes: copy })?;
+        let on_link = link.place();
+        if on_link < self.links.len() {
+            self.links[on_link].places.push(place)?;
         }
         Ok(())
     }
 
-    /// The packets of the outputs of a step, in their order.
-    pub(crate) fn put_all(&mut self, outputs: &[Output]) -> Result<(), AllocError>
-        ensures { OnOk result (self.new ≡ put_all self.old outputs.now) }
+    /// The packets among the outputs of the entry at this place, in their order.
+    pub(crate) fn put_all(&mut self, entry: usize, outputs: &[Output]) -> Result<(), AllocError>
+        ensures { OnOk result (self.new ≡ put_all self.old entry 0 outputs.now) }
     {
-        for output in outputs {
-            if let Way::Put(link, _) = output.way() {
-                self.put(link, output.bytes())?;
+        for output in 0..outputs.len() {
+            if let Way::Put(link, _) = outputs[output].way() {
+                self.put(link, PacketPlace { entry, output })?;
             }
         }
         Ok(())

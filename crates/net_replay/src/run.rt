@@ -17,12 +17,10 @@ use crate::traces::Traces;
 use net_rows::Tables;
 use replay_script::{MalformedLine, Script};
 use std::alloc::Global;
-use switch_node::Outputs;
 use table_checker::Accepted;
 
 /// Runs the lines on nodes that nothing came to yet.
 fn run_lines<'a>(
-    alloc: Global,
     nodes: Running<'a>,
     tables: &Tables,
     script: &[u8],
@@ -34,13 +32,12 @@ fn run_lines<'a>(
     ensures fault { IfErr result (λ f. f ≢ Memory → Fails tables.now [] 1 (lines script.now) f) }
 {
     let mut running = nodes;
-    let mut outputs = Outputs::new(alloc);
     let mut unread = Script::new(script);
     let mut number = unread.number();
     while let Some(line) = unread.next_line(tables) {
         match line {
             Ok(line) => {
-                if let Err(fault) = running.run_line(number, &line, &mut outputs) {
+                if let Err(fault) = running.run_line(number, &line) {
                     return Err(fault);
                 }
             }
@@ -71,5 +68,5 @@ pub fn replay<'a>(
 {
     let tables = accepted.tables();
     let nodes = Running::new(alloc, accepted)?;
-    run_lines(alloc, nodes, tables, script)
+    run_lines(nodes, tables, script)
 }

@@ -11,14 +11,14 @@ ghost use Rattle.net_replay.specs.Traces.{AreTraces};
 ghost use Rattle.net_replay.specs.Replays.{fault_of};
 
 use crate::fault::ReplayFault;
-use crate::packets::Packets;
+use crate::packets::{Packets, bytes_at};
 use crate::traces::{StepPlace, Traces};
 use card_digits::{LinkNo, NodeNo};
 use net_rows::Tables;
 use network_law::StepFault;
 use replay_script::{Command, ScriptLine};
 use std::alloc::{AllocError, Global};
-use switch_node::{Case, Input, Node, Outputs};
+use switch_node::{Case, Input, Node};
 use table_checker::Accepted;
 
 /// The nodes, what each has put on its links, and where the entries of the lines stand.
@@ -74,8 +74,9 @@ impl<'a> Running<'a> {
         requires own { is_link_of self.now.tables.now node link ≡ true }
         ensures { (steps : List Step) → IsStanding self.now steps → MatchOption result (LacksPacket self.now.tables.now steps node (Take link serial)) (λ b. WasSent self.now.tables.now steps node link serial b.now) }
     {
-        let other = self.tables.other_end(node, link);
-        self.sent[other.place()].get(link, serial)
+        let other = self.tables.other_end(node, link).place();
+        let place = self.sent[other].get(link, serial);
+        bytes_at(self.nodes[other].trace(), place)
     }
 
     /// What comes to the node by a line.
@@ -110,12 +111,7 @@ impl<'a> Running<'a> {
     }
 
     /// Makes the step of a line.
-    pub(crate) fn run_line(
-        &mut self,
-        number: usize,
-        line: &ScriptLine,
-        outputs: &mut Outputs,
-    ) -> Result<(), ReplayFault>
+    pub(crate) fn run_line(&mut self, number: usize, line: &ScriptLine) -> Result<(), ReplayFault>
         requires standing { (steps : List Step) × IsStanding self.old steps }
         requires said { IsSaid self.old.tables.now (said line.now) }
         ensures tables { self.new.tables.now ≡ self.old.tables.now }
@@ -125,11 +121,11 @@ impl<'a> Running<'a> {
         let input = self.input(number, line)?;
         let place = line.node.place();
         let entry = self.nodes[place].trace().len();
-        let stepped = self.nodes[place].step(input, outputs);
-        if let Err(fault) = stepped {
+        if let Err(fault) = self.nodes[place].advance(input) {
             return Err(step_fault(number, fault));
         }
-        self.sent[place].put_all(outputs.as_slice())?;
+        let outputs = self.nodes[place].newest_outputs();
+        self.sent[place].put_all(entry, outputs)?;
         let stands = StepPlace {
             node: line.node,
             entry,

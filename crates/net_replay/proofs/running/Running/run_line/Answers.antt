@@ -7,11 +7,11 @@ use Rattle.network_law.specs.declared.fault.StepFault.TheVariants.{Memory as NoM
 use Rattle.replay_script.specs.Lines.{said, event_of}
 use Rattle.net_replay.specs.Replays.{IsSaidFault}
 use Rattle.net_rows.specs.Network.{Network}
-use Rattle.switch_node.specs.Node.{NodeView}
+use Rattle.switch_node.specs.Node.{NodeView, newest_outputs}
 use Rattle.net_replay.specs.Steps.{entries_at}
 use Rattle.net_replay.specs.Packets.{put_all}
 use Rattle.net_replay.proofs.Reading.{line_placed, own_input}
-use Rattle.net_replay.proofs.Standing.{one_more, view_is, refused, node_at, links_at}
+use Rattle.net_replay.proofs.Standing.{one_more, view_is, refused, node_at, links_at, get_or_set}
 use Rattle.net_replay.proofs.running.Running.run_line.Goals as goal
 
 pub index-requires : goal.index-requires
@@ -23,8 +23,8 @@ index_mut-requires c = omega (arith, c.place-place.ensures.place, (line_placed c
 pub index_mut-requires-2 : goal.index_mut-requires-2
 index_mut-requires-2 c = omega (arith, c.place-place.ensures.place, (line_placed c.args.self.now.tables.now c.requires.said.0 _ c.requires.said.1).0, c.requires.standing.1.1.sent_are.0)
 
-pub step-stepped-requires-clause-own : goal.step-stepped-requires-clause-own
-step-stepped-requires-clause-own c =
+pub advance-requires-clause-own : goal.advance-requires-clause-own
+advance-requires-clause-own c =
     let t = c.args.self.now.tables.now in
     let n = c.args.line.now.node in
     let steps = c.requires.standing.0 in
@@ -44,14 +44,17 @@ returns-in-Err-clause-fault c aside steps standing =
     (refused t steps c.args.number (said c.args.line.now) c.in_ok-input.input c.in-Err.fault (λ e. aside (c.step_fault.ensures ∙ e)) (c.in_ok-input.ensures.input steps standing)
     (subst (λ (v : NodeView). (c.in-Err.fault ≡ NoMemory) ⊎ (step_refusal v.t v.n v.trace c.in_ok-input.input ≡ Some c.in-Err.fault)) view c.in-Err.ensures.fault))
 
+pub index-requires-2 : goal.index-requires-2
+index-requires-2 c = omega (arith, c.place-place.ensures.place, (line_placed c.args.self.now.tables.now c.requires.said.0 _ c.requires.said.1).0, c.requires.standing.1.1.nodes_are.0)
+
 pub returns-clause-made : goal.returns-clause-made
 returns-clause-made c steps standing =
     let t : Network = c.args.self.now.tables.now in
     let n : ℕ = c.args.line.now.node in
     let at = standing.1 in
     let placed = line_placed t c.requires.said.0 _ c.requires.said.1 in
-    let e : Entry = record { input = c.in_ok-input.input; outputs = c.step-stepped.new.out } in
     let es : List Entry = entries_at n steps in
+    let e : Entry = record { input = c.in_ok-input.input; outputs = step_outputs t n es c.in_ok-input.input } in
     let view = node_at t c.args.self.now.nodes.items c.args.self.now.sent.items c.args.self.now.places.items steps at n placed.0 c.place-place.result c.index_mut.result.now c.place-place.ensures.place c.index_mut.ensures.value in
     let first = node_at t c.args.self.now.nodes.items c.args.self.now.sent.items c.args.self.now.places.items steps at n placed.0 c.place-place.result c.index.result.now c.place-place.ensures.place c.index.ensures in
     let links = links_at t c.args.self.now.nodes.items c.args.self.now.sent.items c.args.self.now.places.items steps at n placed.0 c.place-place.result c.index_mut-2.result.now c.place-place.ensures.place c.index_mut-2.ensures.value in
@@ -60,11 +63,13 @@ returns-clause-made c steps standing =
       own = own_input t steps n (event_of c.args.line.now.command) c.in_ok-input.input input placed.1;
       typed = c.in_ok-input.ensures.typed;
       accepted = subst (λ (v : NodeView). step_refusal v.t v.n v.trace c.in_ok-input.input ≡ None) view c.in_default.ensures.accepted;
-      outputs = subst (λ (v : NodeView). c.step-stepped.new.out ≡ step_outputs v.t v.n v.trace c.in_ok-input.input) view c.in_default.ensures.decided;
+      outputs = refl;
     } in
-    let now = view_is c.step-stepped.new.self t n (e ∷ es) (c.in_default.ensures.same.0 ∙ ap (λ (v : NodeView). v.t) view) (c.in_default.ensures.same.1 ∙ ap (λ (v : NodeView). v.n) view) (c.in_default.ensures.entry ∙ ap (λ (v : NodeView). e ∷ v.trace) view) in
-    let sent : c.put_all.new.self ≡ put_all c.index_mut-2.result.now e.outputs = c.in_ok-put_all.ensures ∙ ap (put_all c.index_mut-2.result.now) c.as_slice.ensures in
+    let now = view_is c.advance.new.self t n (e ∷ es) (c.in_default.ensures.same.0 ∙ ap (λ (v : NodeView). v.t) view) (c.in_default.ensures.same.1 ∙ ap (λ (v : NodeView). v.n) view) (c.in_default.ensures.entry ∙ ap (λ (v : NodeView). (record { input = c.in_ok-input.input; outputs = step_outputs v.t v.n v.trace c.in_ok-input.input }) ∷ v.trace) view) in
+    let newest : c.index-2.result.now ≡ c.advance.new.self = c.index-2.ensures ∙ get_or_set c.args.self.now.nodes.items c.place-place.result c.advance.new.self c.index-2.result.now (omega (arith, c.place-place.ensures.place, placed.0, at.nodes_are.0)) in
+    let outs : c.newest_outputs-outputs.result.now ≡ e.outputs = c.newest_outputs-outputs.ensures ∙ ap (λ (v : NodeView). newest_outputs v.trace) (newest ∙ now) in
     let len : length c.trace-entry.result.now ≡ length es = sym (length-reverse c.trace-entry.result.now) ∙ ap length (c.trace-entry.ensures.trace ∙ ap (λ (v : NodeView). v.trace) first) in
+    let sent : c.put_all.new.self ≡ put_all c.index_mut-2.result.now (length es) 0 e.outputs = c.in_ok-put_all.ensures ∙ (ap (λ k. put_all c.index_mut-2.result.now k 0 c.newest_outputs-outputs.result.now) len ∙ ap (put_all c.index_mut-2.result.now (length es) 0) outs) in
     let ok : is_ok c.push.result ≡ true = c.is_err.ensures.negation ∙ ap not c.if-is_err.false in
     let pushed : c.push.new.self.items ≡ c.args.self.now.places.items ++ (record { node = n; entry = length es }) ∷ [] = c.push.ensures.items ∙ rw ok (ap (λ z. c.args.self.now.places.items ++ (record { node = n; entry = z }) ∷ []) len) in
     (record { node = n; entry = e }, record { node = refl; input = input; step = step }, (standing.0, rw (c.place-place.ensures.place, now, sent, pushed) (one_more t c.args.self.now.nodes.items c.args.self.now.sent.items c.args.self.now.places.items steps at n placed.0 e step c.index_mut-2.result.now links)))
