@@ -17,7 +17,7 @@ use net_rows::Tables;
 use rtrb::{Consumer, Producer};
 use std::alloc::{AllocError, Global};
 use std::marker::Model;
-use switch_node::{Entry, Input, Node, Outputs};
+use switch_node::{Entry, Input, Node};
 use table_checker::Accepted;
 
 /// A node, and the ends of its rings. Whoever has one has a legal trace.
@@ -93,11 +93,10 @@ impl<'a> Station<'a> {
         if !is_own(&self.node, &input) {
             return Err(StationFault::StrangeLink);
         }
-        let mut outputs = Outputs::new(self.alloc);
-        if let Err(fault) = self.node.step(input, &mut outputs) {
+        if let Err(fault) = self.node.advance(input) {
             return Err(StationFault::Step(fault));
         }
-        send_all(self.alloc, &mut self.outs, outputs.as_slice());
+        send_all(self.alloc, &mut self.outs, self.node.newest_outputs());
         Ok(())
     }
 

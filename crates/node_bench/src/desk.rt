@@ -5,7 +5,7 @@ use network_law::StepFault;
 use request_book::Way;
 use std::alloc::Global;
 use std::io;
-use switch_node::{Case, Input, Node, Outputs};
+use switch_node::{Case, Input, Node};
 use table_checker::Accepted;
 
 /// Steps that were accepted, and their outputs.
@@ -29,7 +29,6 @@ fn nothing() -> Counts {
 pub(crate) struct Desk<'t> {
     alloc: Global,
     node: Node<'t>,
-    outputs: Outputs,
     counts: Counts,
 }
 
@@ -42,7 +41,6 @@ impl<'t> Desk<'t> {
         Ok(Desk {
             alloc,
             node,
-            outputs: Outputs::new(alloc),
             counts: nothing(),
         })
     }
@@ -59,7 +57,7 @@ impl<'t> Desk<'t> {
             return;
         }
         self.counts.steps = self.counts.steps.wrapping_add(1);
-        for output in self.outputs.as_slice() {
+        for output in self.node.newest_outputs() {
             match output.way() {
                 Way::Put(_, _) => self.counts.puts = self.counts.puts.wrapping_add(1),
                 Way::Answer => self.counts.answers = self.counts.answers.wrapping_add(1),
@@ -71,7 +69,7 @@ impl<'t> Desk<'t> {
     pub(crate) fn enter(&mut self, words: &Words, trace: u32) -> io::Result<()> {
         let bytes = words.written(self.alloc, trace)?;
         let input = Input::new(Case::Enter(bytes));
-        let fault = self.node.step(input, &mut self.outputs).err();
+        let fault = self.node.advance(input).err();
         self.count(fault);
         Ok(())
     }
@@ -89,7 +87,7 @@ impl<'t> Desk<'t> {
         }
         let bytes = words.written(self.alloc, trace)?;
         let input = Input::new(Case::Take(link, trace as u64, bytes));
-        let fault = self.node.step(input, &mut self.outputs).err();
+        let fault = self.node.advance(input).err();
         self.count(fault);
         Ok(fault)
     }
@@ -100,13 +98,13 @@ impl<'t> Desk<'t> {
             return;
         }
         let input = Input::new(Case::LinkDown(link));
-        let fault = self.node.step(input, &mut self.outputs).err();
+        let fault = self.node.advance(input).err();
         self.count(fault);
     }
 
     pub(crate) fn tick(&mut self) -> Option<StepFault> {
         let input = Input::new(Case::Tick);
-        let fault = self.node.step(input, &mut self.outputs).err();
+        let fault = self.node.advance(input).err();
         self.count(fault);
         fault
     }
