@@ -10,6 +10,7 @@ use card_digits::Amount;
 pub fn actual_amount(message: &Message) -> Option<Amount>
     ensures { result ≡ actual_amount message.now }
 {
+    // Every message can be written, so element 95 has 42 bytes.
     let _ = message.kind();
     let amounts = message.get(95)?;
     Amount::read(&amounts[..12]).ok()

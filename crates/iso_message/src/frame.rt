@@ -1,5 +1,10 @@
 //! Frames: a length of two bytes, the high one first, and so many bytes.
 ghost use Rattle.std.specs.Prelude.{◌≡◌, ◌≤◌, ◌<◌, ◌-◌, ◌⊎◌, length, take, IfOk, OnOk, IfErr, option_map};
+ghost use Rattle.std.specs.Int.{w16, to_be_bytes};
+ghost use Rattle.std.specs.Io.KnownBytes.{Consumes, IsAtEnd, Appends};
+ghost use Rattle.card_digits.specs.Stream.{TookTurns};
+ghost use Rattle.iso_message.specs.Frames.{frame, ReadsFrame, FailsToWrite, FailsToRead, FailsInBody};
+ghost use Rattle.iso_message.specs.declared.frame.FrameFault.TheVariants.{Read};
 
 use byteorder::{BigEndian, ByteOrder};
 use card_digits::{ReadFault, Sink, Source, WriteFault, write_all};
@@ -49,12 +54,6 @@ impl From<WriteFault> for FrameFault {
         FrameFault::Write
     }
 }
-
-ghost use Rattle.std.specs.Io.KnownBytes.{Consumes, IsAtEnd, Appends, Keeps};
-ghost use Rattle.card_digits.specs.Stream.{AppendsFront, TookTurns};
-ghost use Rattle.iso_message.specs.Frames.{frame, ReadsFrame, FailsToWrite, FailsToRead, FailsInBody};
-ghost use Rattle.std.specs.Int.{w16, to_be_bytes};
-ghost use Rattle.iso_message.specs.declared.frame.FrameFault.TheVariants.{Read};
 
 /// The bytes of the next frame, none at an end before its first byte. After a fault some bytes of the frame may be gone from
 /// the reader. `Read` is answered where the reader failed, or after 131,074 turns, of which an interrupted read is one.

@@ -74,6 +74,7 @@ pub fn has_own_key(message: &Message) -> bool
 fn own_key(message: &Message) -> Option<Key>
     ensures { result ≡ when (has_own_key message.now) (own_key message.now) }
 {
+    // Every message can be written, so element 32 has at most 11 bytes, element 11 six and element 7 ten.
     let _ = message.kind();
     let acquirer = message.get(32)?;
     let trace = message.get(11)?;
@@ -89,6 +90,7 @@ fn own_key(message: &Message) -> Option<Key>
 pub fn original_key(message: &Message) -> Option<Key>
     ensures { result ≡ when (has message.now 90) (original_key message.now) }
 {
+    // Every message can be written, so element 90 has 42 bytes.
     let _ = message.kind();
     let original = message.get(90)?;
     Some(Key {
@@ -127,6 +129,7 @@ fn advice_kind(kind: Kind) -> Option<AdviceKind>
 fn forwarder_of(message: &Message) -> [u8; 11]
     ensures { result ≡ padded_or_zeros (get message.now 33) }
 {
+    // Every message can be written, so element 33 has at most 11 bytes.
     let _ = message.kind();
     match message.get(33) {
         Some(id) => pad11(id),
@@ -172,6 +175,7 @@ pub fn same_content(first: &Message, second: &Message) -> bool
 pub fn code_of(message: &Message) -> Option<Code>
     ensures { result ≡ get message.now 39 }
 {
+    // Every message can be written, so element 39 has two bytes of text.
     let _ = message.kind();
     let code = message.get(39)?;
     Code::read(code)

@@ -44,6 +44,7 @@ impl Message {
         requires key { has_own_key self.now ≡ true }
         ensures { IfOk result (λ m. m ≡ made_reversal self.now id.now) }
     {
+        // Every message can be written, so the elements of the key are digits, and as many as element 90 takes.
         let _ = self.kind();
         let original = original_data(self)?;
         let mut reversal = self.made_from(Kind::K0420, id, Code::new(*b"68"))?;
@@ -77,6 +78,7 @@ impl Message {
 fn original_data(message: &Message) -> Result<Vec<u8>, AllocError>
     ensures { IfOk result (λ v. v.items ≡ original_data message.now) }
 {
+    // Every message can be written, so element 32 has at most 11 bytes.
     let _ = message.kind();
     let mut data = Vec::with_capacity(message.allocator(), 42)?;
     data.extend_from_slice(b"0100")?;

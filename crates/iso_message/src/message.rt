@@ -178,6 +178,7 @@ pub fn encode(alloc: Global, message: &Message) -> Result<Vec<u8>, AllocError>
 {
     let mut out = Vec::new(alloc);
     encode_into(&mut out, message)?;
+    // Every message can be written, so its spelling spells it.
     let _ = message.kind();
     Ok(out)
 }

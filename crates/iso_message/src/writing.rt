@@ -37,6 +37,7 @@ fn push_hex(out: &mut Vec<u8>, bytes: &[u8]) -> Result<(), AllocError>
     ensures { OnOk result (out.new.items ≡ out.old.items ++ encode_upper bytes.now) }
 {
     let mut digits = [0; 16];
+    // Sixteen digits are as many as eight bytes have, so this is no error.
     let _fits = hex::encode_to_slice(bytes, &mut digits);
     digits.make_ascii_uppercase();
     out.extend_from_slice(&digits)
