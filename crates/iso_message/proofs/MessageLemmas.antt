@@ -26,7 +26,7 @@ use Rattle.iso_message.specs.Spelling.{Ascends, IsGood, AreGood, IsMessage}
 use Rattle.iso_message.specs.declared.elements.Span.{Span}
 use Rattle.iso_message.specs.Spans.{shown, seen, AreWithin}
 use Rattle.iso_message.specs.Made.{is_one_of, kept}
-use Rattle.std.proofs.lemmas.List.{drop_more, drop-map}
+use Rattle.std.proofs.lemmas.List.{drop_more}
 use Rattle.iso_message.proofs.Canonical.{weaker}
 
 -- ---- the table
@@ -297,12 +297,3 @@ original_fits m g h =
 pub copied_there : (r : Option (Bor (List ℕ))) → is_some r ≡ is_some (option_copied r)
 copied_there None = refl
 copied_there (Some v) = refl
-
-pub within_drop : (values : List ℕ) (spans : List Span) (i : ℕ) → AreWithin values spans → AreWithin values (drop i spans)
-within_drop values spans zero h = h
-within_drop values [] (suc i) h = tt
-within_drop values (s ∷ ss) (suc i) h = within_drop values ss i h.1
-
-pub seen_at : (values : List ℕ) (spans : List Span) (i : ℕ) → i < length spans → drop i (seen values spans) ≡ shown values (get_or spans i any) ∷ drop (i + 1) (seen values spans)
-seen_at values spans i h =
-    drop-map (shown values) i spans ∙ ap (seen values) (drop_more spans i any h) ∙ ap (λ es. shown values (get_or spans i any) ∷ es) (sym (drop-map (shown values) (i + 1) spans))

@@ -53,11 +53,6 @@ moved_within values copies run s c r w = record {
   spelled = λ other. moved_from values copies run s s.text c r (IsInRun.text r) (omega arith) ∙ IsWithin.spelled w other ∙ ap (piece (form_of s.number)) (sym (moved_bytes values copies run s c r));
 }
 
-pub within_drop : (values : List ℕ) (spans : List Span) (i : ℕ) → AreWithin values spans → AreWithin values (drop i spans)
-within_drop values spans zero w = w
-within_drop values [] (suc i) w = tt
-within_drop values (s ∷ ss) (suc i) w = within_drop values ss i w.1
-
 pub within_got : (values : List ℕ) (spans : List Span) (i : ℕ) (s : Span) → AreWithin values spans → slice_get spans i ≡ Some s → IsWithin values s
 within_got values [] i s w e = absurd (let wrong : None ≡ Some s = e in cc)
 within_got values (x ∷ xs) zero s w e = let same : x ≡ s = cc in subst (IsWithin values) same w.0

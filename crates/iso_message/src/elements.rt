@@ -8,10 +8,12 @@ ghost use Rattle.iso_message.specs.Table.{form_of};
 ghost use Rattle.iso_message.specs.Spans.{start_of, end_of, seen, IsWithin, AreWithin, IsLonger, placed, numbers, IsInRun, moved, moved_place, IsCopied};
 ghost use Rattle.iso_message.specs.declared.elements.Span.{Span};
 
+mod element_iter;
 mod parts;
 
 use crate::carried::Carried;
 use crate::writing::{is_binary, push_length, push_piece};
+pub use element_iter::ElementIter;
 pub(crate) use parts::Parts;
 use std::alloc::{AllocError, Global};
 use std::marker::Model;
@@ -137,12 +139,15 @@ impl Elements {
         self.spans.len()
     }
 
-    /// The element at a place.
-    pub(crate) fn at(&self, place: usize) -> (u8, &[u8])
-        requires { place < length self.now }
-        ensures { drop place self.now ≡ (result.0, result.1.now) ∷ drop (place + 1) self.now }
+    /// The elements in order.
+    #[inline(always)]
+    pub(crate) fn iter(&self) -> ElementIter<'_>
+        ensures { result ≡ self.now }
     {
-        element_at(&self.spans, &self.values, place)
+        ElementIter {
+            spans: &self.spans,
+            values: &self.values,
+        }
     }
 
     /// Adds the element in its place, instead of one of its number.
@@ -272,16 +277,6 @@ fn value_of<'a>(spans: &[Span], values: &'a [u8], number: u8) -> Option<&'a [u8]
         }
     }
     None
-}
-
-/// The element that the span at a place shows.
-fn element_at<'a>(spans: &[Span], values: &'a [u8], place: usize) -> (u8, &'a [u8])
-    requires within { AreWithin values.now spans.now }
-    requires bound { place < length spans.now }
-    ensures { drop place (seen values.now spans.now) ≡ (result.0, result.1.now) ∷ drop (place + 1) (seen values.now spans.now) }
-{
-    let span = spans[place];
-    (span.number, &values[span.start()..span.end()])
 }
 
 /// Adds the spans of the elements that are carried on to none, where there is room for all.

@@ -19,6 +19,7 @@ mod writing;
 
 pub use amount::actual_amount;
 pub use code::Code;
+pub use elements::ElementIter;
 pub use fault::DecodeFault;
 pub use form::{Class, Form};
 pub use frame::{FrameFault, read_frame, write_frame};

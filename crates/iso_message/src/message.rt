@@ -1,5 +1,5 @@
 //! Messages.
-ghost use Rattle.std.specs.Prelude.{◌≡◌, ◌↔◌, ◌⊎◌, ◌<◌, ◌+◌, ◌^◌, ◌++◌, ◌∷◌, [], length, drop, IsTrue, Some, None, Ok, IfOk, OnOk, OnErr, IfErr};
+ghost use Rattle.std.specs.Prelude.{◌≡◌, ◌↔◌, ◌⊎◌, ◌<◌, ◌^◌, ◌++◌, [], length, IsTrue, Some, None, Ok, IfOk, OnOk, OnErr, IfErr};
 ghost use Rattle.std.specs.Option.{option_copied};
 ghost use Rattle.iso_message.specs.declared.fault.DecodeFault.TheVariants.{Memory};
 ghost use Rattle.iso_message.specs.Elements.{set_fault};
@@ -9,7 +9,7 @@ ghost use Rattle.iso_message.specs.Messages.{read, Gives};
 ghost use Rattle.iso_message.specs.Spelling.{IsMessage, spelling, two_maps};
 ghost use Rattle.iso_message.specs.Fields.{Fields, get, has, set_element, remove_element, as_kind};
 
-use crate::elements::Elements;
+use crate::elements::{ElementIter, Elements};
 use crate::fault::DecodeFault;
 use crate::form::{Form, form_at};
 use crate::kind::Kind;
@@ -84,12 +84,12 @@ impl Message {
         self.elements.len() == 0
     }
 
-    /// The number and the bytes of the element at a place in ascending order.
-    pub fn at(&self, place: usize) -> (u8, &[u8])
-        requires { place < length self.now.elements }
-        ensures { drop place self.now.elements ≡ (result.0, result.1.now) ∷ drop (place + 1) self.now.elements }
+    /// The elements in ascending order of number, each with its bytes.
+    #[inline(always)]
+    pub fn iter(&self) -> ElementIter<'_>
+        ensures { result ≡ self.now.elements }
     {
-        self.elements.at(place)
+        self.elements.iter()
     }
 
     /// Whether an element is there.

@@ -60,8 +60,7 @@ fn push_element(out: &mut Vec<u8>, number: u8, value: &[u8]) -> Result<(), Alloc
 fn push_elements(out: &mut Vec<u8>, message: &Message) -> Result<(), AllocError>
     ensures { OnOk result (out.new.items ≡ out.old.items ++ element_lines message.now.elements) }
 {
-    for place in 0..message.len() {
-        let (number, value) = message.at(place);
+    for (number, value) in message.iter() {
         push_element(out, number, value)?;
     }
     Ok(())
