@@ -14,7 +14,6 @@ pub mod Equality
 pub mod Changes
 pub mod MessageLemmas
 pub mod KeyLemmas
-pub mod FrameLemmas
 pub mod LaneLemmas
 pub mod KnownLemmas
 pub mod PartLemmas

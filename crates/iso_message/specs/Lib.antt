@@ -12,7 +12,6 @@ pub mod Keys
 pub mod Amounts
 pub mod Codes
 pub mod Made
-pub mod Frames
 pub mod Known
 pub mod Parts
 pub mod Carried

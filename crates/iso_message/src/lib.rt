@@ -7,7 +7,6 @@ mod code;
 mod elements;
 mod fault;
 mod form;
-mod frame;
 mod keys;
 mod kind;
 pub mod laws;
@@ -22,7 +21,6 @@ pub use code::Code;
 pub use elements::ElementIter;
 pub use fault::DecodeFault;
 pub use form::{Class, Form};
-pub use frame::{FrameFault, read_frame, write_frame};
 pub use keys::{
     AdviceId, AdviceKind, advice_id, code_of, has_own_key, key_of, original_key, same_content,
     same_identity, same_key,

@@ -3,7 +3,7 @@ ghost use Rattle.std.specs.Prelude.{Some, None};
 
 use crate::fixtures::M;
 use card_digits::{Counted, ReadFault, Sink, Source, WriteFault};
-use iso_message::{FrameFault, read_frame, write_frame};
+use message_frames::{FrameFault, read_frame, write_frame};
 use std::alloc::Global;
 use std::test::Fail;
 

@@ -1,6 +1,6 @@
 -- One more block.
 use Rattle.std.proofs.Common.{◌≡◌, ℕ, suc, Bool, true, false, ◌&&◌, List, [], ◌∷◌, ◌++◌, map, Option, Some, refl, sym, ap, ◌∙◌, append_assoc, append-nil, subst, ◌<◌, ◌≤◌, arith, length-append, length, None}
-use Rattle.iso_message.specs.Frames.{frame, IsCut}
+use Rattle.message_frames.specs.Frames.{frame, IsCut}
 use Rattle.card_digits.specs.Lines.{lines}
 use Rattle.message_text.specs.Parts.{AreFrames}
 use Rattle.message_text.specs.Printed.{block, PrintsBlock, Printed}

@@ -7,8 +7,8 @@ use Rattle.std.proofs.lemmas.Bool.{cases_lt}
 use Rattle.std.proofs.lemmas.List.{length-take-le, length-drop}
 use Rattle.std.proofs.lemmas.Nat.{be_bytes_2}
 use Rattle.card_digits.specs.Stream.{AppendsFront}
-use Rattle.iso_message.specs.Frames.{frame}
-use Rattle.iso_message.proofs.FrameLemmas.{first_front, second_front}
+use Rattle.message_frames.specs.Frames.{frame}
+use Rattle.message_frames.proofs.FrameLemmas.{first_front, second_front}
 use Rattle.message_text.specs.Parts.{AreFrames}
 use Rattle.message_text.specs.Printed.{block, reading, Printed, PrintsBlock, Sends, SendsBlock, SendsFront, WritesFront}
 

@@ -1,6 +1,6 @@
 -- The frames of an input.
 use Rattle.std.specs.Prelude.{◌≡◌, ℕ, ◌<◌, List, [], ◌∷◌, ◌++◌, length, Option, Some, None}
-use Rattle.iso_message.specs.Frames.{frame, IsCut}
+use Rattle.message_frames.specs.Frames.{frame, IsCut}
 
 -- one frame after the other; at the end one that is cut is none of them
 abbrev pub AreFrames : List ℕ → List (Option (List ℕ)) → Type 0

@@ -1,6 +1,6 @@
 //! The frames of an input.
 ghost use Rattle.std.specs.Prelude.{◌≡◌, ◌<◌, ◌++◌, length, MatchOption};
-ghost use Rattle.iso_message.specs.Frames.{frame, IsCut};
+ghost use Rattle.message_frames.specs.Frames.{frame, IsCut};
 
 use byteorder::{BigEndian, ByteOrder};
 

@@ -9,7 +9,7 @@ use Rattle.replay_text.specs.Fronts.{SendsFront}
 use Rattle.std.specs.Io.KnownBytes.{Appends}
 use Rattle.std.proofs.KnownBytes.{Appends-trans}
 use Rattle.card_digits.specs.Stream.{AppendsFront}
-use Rattle.iso_message.proofs.FrameLemmas.{first_front, second_front}
+use Rattle.message_frames.proofs.FrameLemmas.{first_front, second_front}
 use Rattle.message_text.specs.Printed.{Sends}
 
 -- one text behind another

@@ -2,8 +2,8 @@ use Rattle.std.proofs.Common.{◌+◌, ◌++◌, suc, [], ◌∷◌, length, Som
 use Rattle.std.proofs.KnownBytes.{Appends-trans}
 use Rattle.std.proofs.lemmas.Bool.{eqb-true}
 use Rattle.std.proofs.lemmas.List.{nil_from_length}
-use Rattle.iso_message.specs.Frames.{frame}
-use Rattle.iso_message.proofs.FrameLemmas.{second_front}
+use Rattle.message_frames.specs.Frames.{frame}
+use Rattle.message_frames.proofs.FrameLemmas.{second_front}
 use Rattle.message_text.specs.Printed.{Sends, SendsBlock}
 use Rattle.message_text.proofs.PrintLemmas.{frames_step, frames_end, cut_step, cut_some, behind_frame}
 use Rattle.message_text.proofs.WrittenLemmas.{block_printed, front_written, some_frames, small_behind}

@@ -1,6 +1,6 @@
 use Rattle.std.proofs.Common.{◌+◌, ◌++◌, suc, map, List, ℕ, Some, arith, sym, subst}
 use Rattle.std.proofs.KnownBytes.{Appends-trans}
-use Rattle.iso_message.proofs.FrameLemmas.{second_front}
+use Rattle.message_frames.proofs.FrameLemmas.{second_front}
 use Rattle.card_digits.specs.Lines.{lines}
 use Rattle.message_text.specs.Printed.{Printed, Sends, SendsBlock}
 use Rattle.message_text.proofs.PrintLemmas.{lines_step, lines_end}

@@ -4,7 +4,7 @@ use Rattle.std.specs.Io.KnownBytes.{Appends}
 use Rattle.std.proofs.KnownBytes.{Appends-trans}
 use Rattle.std.proofs.lemmas.Result.{on_err_weaker, on_ok_weaker}
 use Rattle.iso_message.proofs.SpansMore.{on_err}
-use Rattle.iso_message.proofs.FrameLemmas.{first_front, second_front}
+use Rattle.message_frames.proofs.FrameLemmas.{first_front, second_front}
 use Rattle.message_text.proofs.FrontLemmas.{front_is, all_sent, memory_pieces}
 use Rattle.message_text.proofs.sending.send_memory.Goals as goal
 

@@ -1,5 +1,5 @@
 use Rattle.std.proofs.lemmas.Result.{on_err_weaker}
-use Rattle.iso_message.proofs.FrameLemmas.{second_front}
+use Rattle.message_frames.proofs.FrameLemmas.{second_front}
 use Rattle.message_text.proofs.sending.send_with.Goals as goal
 
 pub returns-clause-err : goal.returns-clause-err

@@ -1,7 +1,7 @@
 use Rattle.std.proofs.Common.{◌≤◌, ◌-◌, take, length}
 use Rattle.std.specs.Io.KnownBytes.{Consumes}
 use Rattle.card_digits.specs.Stream.{TookTurns}
-use Rattle.iso_message.proofs.frame.fill.Given as goal
+use Rattle.message_frames.proofs.frame.fill.Given as goal
 
 abbrev pub invariant-loop-done : goal.invariant-loop-done
 invariant-loop-done g l = record {

@@ -1,10 +1,10 @@
-//! Frames: a length of two bytes, the high one first, and so many bytes.
+//! Reading and writing of frames.
 ghost use Rattle.std.specs.Prelude.{◌≡◌, ◌≤◌, ◌<◌, ◌-◌, ◌⊎◌, length, take, IfOk, OnOk, IfErr, option_map};
 ghost use Rattle.std.specs.Int.{w16, to_be_bytes};
 ghost use Rattle.std.specs.Io.KnownBytes.{Consumes, IsAtEnd, Appends};
 ghost use Rattle.card_digits.specs.Stream.{TookTurns};
-ghost use Rattle.iso_message.specs.Frames.{frame, ReadsFrame, FailsToWrite, FailsToRead, FailsInBody};
-ghost use Rattle.iso_message.specs.declared.frame.FrameFault.TheVariants.{Read};
+ghost use Rattle.message_frames.specs.Frames.{frame, ReadsFrame, FailsToWrite, FailsToRead, FailsInBody};
+ghost use Rattle.message_frames.specs.declared.frame.FrameFault.TheVariants.{Read};
 
 use byteorder::{BigEndian, ByteOrder};
 use card_digits::{ReadFault, Sink, Source, WriteFault, write_all};
@@ -35,7 +35,7 @@ pub enum FrameFault {
 
 impl From<AllocError> for FrameFault {
     ghost use Rattle.std.specs.Prelude.{◌≡◌};
-    ghost use Rattle.iso_message.specs.declared.frame.FrameFault.TheVariants.{Memory};
+    ghost use Rattle.message_frames.specs.declared.frame.FrameFault.TheVariants.{Memory};
 
     ghost from_gives = { λ _ e. e ≡ Memory };
 
@@ -46,7 +46,7 @@ impl From<AllocError> for FrameFault {
 
 impl From<WriteFault> for FrameFault {
     ghost use Rattle.std.specs.Prelude.{◌≡◌};
-    ghost use Rattle.iso_message.specs.declared.frame.FrameFault.TheVariants.{Write};
+    ghost use Rattle.message_frames.specs.declared.frame.FrameFault.TheVariants.{Write};
 
     ghost from_gives = { λ _ e. e ≡ Write };
 

@@ -1,8 +1,8 @@
 use Rattle.std.proofs.Common.{◌≡◌, length, arith, rules}
 use Rattle.std.specs.Int.{w16, to_be_bytes}
 use Rattle.std.proofs.lemmas.Result.{err_from_is_err_and}
-use Rattle.iso_message.proofs.FrameLemmas.{first_front, second_front}
-use Rattle.iso_message.proofs.frame.write_frame.Goals as goal
+use Rattle.message_frames.proofs.FrameLemmas.{first_front, second_front}
+use Rattle.message_frames.proofs.frame.write_frame.Goals as goal
 
 pub returns-in_err-write_all-clause-fault : goal.returns-in_err-write_all-clause-fault
 returns-in_err-write_all-clause-fault g c =

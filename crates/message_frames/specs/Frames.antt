@@ -3,8 +3,8 @@ use Rattle.std.specs.Prelude.{ℕ, ◌<◌, ◌≤◌, List, [], ◌∷◌, ◌+
 use Rattle.std.specs.Int.{w16, to_be_bytes, from_be_bytes}
 use Rattle.std.specs.Io.KnownBytes.{Consumes, IsAtEnd, Keeps}
 use Rattle.card_digits.specs.Stream.{AppendsFront}
-use Rattle.iso_message.specs.declared.frame.FrameFault.{FrameFault}
-use Rattle.iso_message.specs.declared.frame.FrameFault.TheVariants as faults
+use Rattle.message_frames.specs.declared.frame.FrameFault.{FrameFault}
+use Rattle.message_frames.specs.declared.frame.FrameFault.TheVariants as faults
 
 abbrev pub frame : List ℕ → List ℕ
 frame bytes = to_be_bytes w16 (length bytes) ++ bytes

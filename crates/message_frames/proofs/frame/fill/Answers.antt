@@ -1,7 +1,7 @@
 use Rattle.std.proofs.Common.{◌≡◌, ◌≤◌, ◌-◌, length, arith, rules}
 use Rattle.card_digits.proofs.Known.{Consumes-trans}
-use Rattle.iso_message.proofs.FrameLemmas.{read_part, part_within}
-use Rattle.iso_message.proofs.frame.fill.Goals as goal
+use Rattle.message_frames.proofs.FrameLemmas.{read_part, part_within}
+use Rattle.message_frames.proofs.frame.fill.Goals as goal
 
 pub loop-done-preserved-in-Ok : goal.loop-done-preserved-in-Ok
 loop-done-preserved-in-Ok g c =
