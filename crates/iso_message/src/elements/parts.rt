@@ -8,6 +8,11 @@ use super::{Elements, Span};
 use std::alloc::AllocError;
 use std::marker::Model;
 
+/// For how many elements and bytes more room is made: a settlement date, and the id of the node that forwards.
+const MORE_ELEMENTS: usize = 2;
+
+const MORE_BYTES: usize = 4 + 2 + 11;
+
 /// Elements of a body: places in a copy of it, behind which the bytes of binary elements stand.
 #[derive(Debug, Drop)]
 pub(crate) struct Parts {
@@ -47,8 +52,9 @@ impl Parts {
         if body.len() > u32::MAX as usize {
             return Err(AllocError);
         }
-        spans.reserve(count)?;
-        values.reserve(body.len().saturating_add(binary.saturating_mul(8)))?;
+        spans.reserve(count.saturating_add(MORE_ELEMENTS))?;
+        let bytes = body.len().saturating_add(binary.saturating_mul(8));
+        values.reserve(bytes.saturating_add(MORE_BYTES))?;
         values.extend_from_slice(body)?;
         let size = body.len();
         Ok(Parts {
