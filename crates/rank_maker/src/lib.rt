@@ -2,7 +2,6 @@
 #![tactic(auto)]
 
 mod circle;
-mod in_force;
 mod maker;
 mod walk;
 

@@ -1,9 +1,9 @@
 //! Ranks for all classes.
-use crate::in_force::{InForce, MOST_NODES};
-use crate::walk::{Routes, Stop, Walk};
+use crate::walk::{MOST_NODES, Routes, Stop, Walk};
 use card_digits::{NodeNo, Prefix};
 use net_rows::{Tables, classes};
 use rank_cert::Cert;
+use rows_in_force::InForce;
 use std::alloc::{AllocError, Global};
 
 /// What was made of tables.
@@ -31,9 +31,9 @@ pub fn make(alloc: Global, tables: &Tables) -> Made {
 fn ranks(alloc: Global, tables: &Tables) -> Result<Made, AllocError> {
     let classes = classes(alloc, tables)?;
     let mut cert = Cert::with_room(alloc, count(tables, &classes))?;
-    let mut in_force = InForce::new(alloc, tables)?;
+    let mut in_force = InForce::new(alloc, tables.routes())?;
     for class in &classes {
-        in_force.enter(*class)?;
+        in_force.enter(*class);
         let Some(issuer) = tables.issuer_at(class) else {
             continue;
         };

@@ -1,10 +1,12 @@
 //! Longest walks along the routes for a class.
 ghost use Rattle.std.specs.Prelude.{◌≤◌, length};
 
-use crate::in_force::{InForce, MOST_NODES};
 use card_digits::{LinkNo, NodeNo};
-use net_rows::Tables;
+use net_rows::{Route, Tables};
+use rows_in_force::InForce;
 use std::alloc::{AllocError, AllocFailed, Global};
+
+pub(crate) const MOST_NODES: usize = 64;
 
 /// What is known of a node.
 #[derive(Clone, Copy, Debug)]
@@ -38,7 +40,7 @@ impl<T: Drop> From<AllocFailed<T>> for Stop {
 #[derive(Clone, Copy, Debug)]
 pub(crate) struct Routes<'t> {
     pub(crate) tables: &'t Tables,
-    pub(crate) in_force: &'t InForce,
+    pub(crate) in_force: &'t InForce<'t, Route>,
     pub(crate) home: NodeNo,
 }
 
@@ -47,7 +49,10 @@ impl<'t> Routes<'t> {
         if node == self.home {
             return &[];
         }
-        self.in_force.links(self.tables, node)
+        match self.in_force.row(node) {
+            Some(row) => row.links.as_slice(),
+            None => &[],
+        }
     }
 }
 

@@ -2,16 +2,19 @@
 ghost use Rattle.std.specs.Prelude.{◌≡◌, ◌≤◌, length, Some, None};
 
 use crate::refusal::{Kind, Refusal};
-use card_digits::{NodeNo, Prefix};
+use card_digits::{Amount, NodeNo, Prefix};
 use net_rows::{Issuer, Route, StandIn, Tables};
 use rank_cert::Cert;
+use rows_in_force::InForce;
 
-/// The rules at one class.
+/// The rules at one class, with the rows in force there.
 #[derive(Clone, Copy, Debug)]
 pub(crate) struct At<'a> {
     pub tables: &'a Tables,
     pub cert: &'a Cert,
     pub class: Prefix,
+    pub routes: &'a InForce<'a, Route>,
+    pub stand_ins: &'a InForce<'a, StandIn>,
 }
 
 /// The first refusals of what nodes may approve by themselves.
@@ -25,6 +28,7 @@ impl At<'_> {
     ghost use Rattle.table_checker.specs.Ranks.{rank_at};
     ghost use Rattle.table_checker.specs.Rules.{not_named, over_ceiling, node_refusal, has_row, no_issuer};
     ghost use Rattle.table_checker.specs.Search.{first_below};
+    ghost use Rattle.table_checker.specs.Known.{HasRows};
 
     pub fn rank(&self, node: NodeNo) -> Option<u16>
         ensures { result ≡ rank_at self.now.tables.now self.now.cert.now node self.now.class }
@@ -57,8 +61,20 @@ impl At<'_> {
         }
     }
 
+    /// How much a node may approve by itself for a card and a day.
+    fn day(&self, node: NodeNo) -> Amount
+        requires { HasRows self.now }
+        ensures { result ≡ day_of self.now.tables.now node self.now.class }
+    {
+        match self.stand_ins.row(node) {
+            Some(row) => row.day,
+            None => Amount::new(0),
+        }
+    }
+
     /// What nodes may approve by themselves, each looked up once.
     pub fn by_day(&self, issuer: &Issuer) -> ByDay
+        requires { HasRows self.now }
         ensures not_named { result.not_named ≡ first_below (node_refusal self.now.tables.now self.now.cert.now self.now.class Kind.NotNamed issuer.now) (length self.now.tables.now.nodes) }
         ensures over_ceiling { result.over_ceiling ≡ over_ceiling self.now.tables.now self.now.cert.now self.now.class issuer.now.ceiling }
     {
@@ -66,7 +82,7 @@ impl At<'_> {
         let mut total = 0;
         for i in 0..self.tables.nodes().len() {
             let node = NodeNo::new(i);
-            let day = self.tables.day_at(node, &self.class).value();
+            let day = self.day(node).value();
             not_named = not_named.or(self.not_named(issuer.named.as_slice(), node, day));
             total += day;
         }

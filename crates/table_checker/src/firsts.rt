@@ -4,6 +4,7 @@ ghost use Rattle.std.specs.Option.{option_or};
 ghost use Rattle.table_checker.specs.Firsts.{of_kind};
 ghost use Rattle.table_checker.specs.Rules.{refusal_at, kind_refusal, kinds};
 ghost use Rattle.table_checker.specs.Search.{first_some};
+ghost use Rattle.table_checker.specs.Known.{HasRows};
 
 use crate::class::At;
 use crate::refusal::{Kind, Refusal};
@@ -65,6 +66,7 @@ impl Firsts {
 
     /// Adds the refusals at the next class.
     pub fn add(&mut self, at: &At)
+        requires { HasRows at.now }
         ensures { (kind : Kind) → of_kind self.new kind ≡ option_or (of_kind self.old kind) (refusal_at at.now.tables.now at.now.cert.now kind at.now.class) }
     {
         match at.tables.issuer_at(&at.class) {
@@ -74,6 +76,7 @@ impl Firsts {
     }
 
     fn add_with_issuer(&mut self, at: &At, issuer: &Issuer)
+        requires { HasRows at.now }
         ensures no_rank { self.new.no_rank ≡ option_or self.old.no_rank (kind_refusal at.now.tables.now at.now.cert.now at.now.class Kind.NoRank (Some issuer.now)) }
         ensures not_less { self.new.not_less ≡ option_or self.old.not_less (kind_refusal at.now.tables.now at.now.cert.now at.now.class Kind.NotLess (Some issuer.now)) }
         ensures not_named { self.new.not_named ≡ option_or self.old.not_named (kind_refusal at.now.tables.now at.now.cert.now at.now.class Kind.NotNamed (Some issuer.now)) }

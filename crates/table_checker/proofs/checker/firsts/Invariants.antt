@@ -7,6 +7,10 @@ use Rattle.table_checker.specs.Firsts.{of_kind}
 use Rattle.table_checker.proofs.checker.firsts.Given as goal
 
 abbrev pub invariant-loop-class : goal.invariant-loop-class
-invariant-loop-class l = (kind : Kind) →
-    let f = refusal_at l.tables l.cert kind in
-    option_or (of_kind l.firsts kind) (first_some f (drop l.class-index l.all)) ≡ first_some f l.all
+invariant-loop-class l = record {
+  routes : l.routes.rows ≡ l.tables.routes;
+  stand_ins : l.stand_ins.rows ≡ l.tables.stand_ins;
+  firsts : (kind : Kind) →
+      let f = refusal_at l.tables l.cert kind in
+      option_or (of_kind l.firsts kind) (first_some f (drop l.class-index l.all)) ≡ first_some f l.all;
+}

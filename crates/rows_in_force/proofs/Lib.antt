@@ -1,0 +1,5 @@
+mod Digit
+mod Chain
+mod Put
+mod Made
+mod Fronts

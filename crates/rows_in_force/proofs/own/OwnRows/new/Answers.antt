@@ -1,0 +1,11 @@
+use Rattle.rows_in_force.proofs.Fronts.{at_place}
+use Rattle.rows_in_force.proofs.Made.{chained_key}
+use Rattle.rows_in_force.proofs.own.OwnRows.new.Goals as goal
+
+pub loop-place-preserved : goal.loop-place-preserved
+loop-place-preserved g c =
+    let is = at_place c.args.rows.now c.loop-place.place c.index-rows-place.result c.loop-place-test.true c.index-rows-place.is in
+    let some = rw c.digits.ensures.digits at c.digits.ensures.form.not_short in
+    rw (c.in_ok-push.ensures.items, c.in_ok-insert.ensures.old)
+    (chained_key g.R.Placed.prefix_of c.args.rows.now c.loop-place.place c.index-rows-place.result c.prefix-prefix.result c.loop-place.last.entries c.insert.new.self.entries c.loop-place.before.items
+    c.loop-place.invariant is c.prefix-prefix.ensures some c.in_ok-insert.ensures.updates.0)

@@ -1,0 +1,113 @@
+//! The rows in force, class by class.
+ghost use Rattle.std.specs.Prelude.{◌≡◌, ◌≤◌, ◌<◌, ◌+◌, ◌-◌, [], length, take, IfOk};
+ghost use Rattle.std.specs.Option.{option_copied};
+ghost use Rattle.rows_in_force.specs.InForce.{in_force, row_at, AreKnown};
+ghost use Rattle.rows_in_force.specs.Own.{IsChained};
+
+use crate::own::{MOST_NODES, OwnRows, Places};
+use crate::placed::Placed;
+use card_digits::{NodeNo, Prefix, ShortBytes};
+use std::alloc::{AllocError, Global};
+use std::marker::Model;
+
+const MOST_DIGITS: usize = 12;
+
+/// The rows in force at the class that was entered last, which is none at first.
+///
+/// It has the rows in force at each front of the class, so a class costs a look-up and a copy for each digit that it doesn't share
+/// with the one before: few where classes come in ascending order.
+#[derive(Debug, Drop)]
+pub struct InForce<'t, R: Placed> {
+    rows: &'t [R],
+    own: OwnRows,
+    class: ShortBytes<12>,
+    /// The places of the rows in force at the first digits of the class, by their number.
+    fronts: Vec<Places>,
+}
+
+impl<'t, R: Placed> Model for InForce<'t, R> {
+    ghost use Rattle.rows_in_force.specs.InForce.{Entered};
+    ghost use Rattle.rows_in_force.specs.Kept.{IsKept};
+
+    ghost Value = { Entered R };
+
+    ghost view = { λ a. record { rows = a.rows.now; class = a.class } };
+
+    ghost invariant = { λ a. IsKept R.node_of R.prefix_of a.rows.now a.class a.own.last.entries a.own.before.items a.fronts.items };
+}
+
+impl<'t, R: Placed> InForce<'t, R> {
+    pub fn new(alloc: Global, rows: &'t [R]) -> Result<InForce<'t, R>, AllocError>
+        ensures { IfOk result (λ r. r ≡ record { rows = rows.entry.now; class = [] }) }
+    {
+        Ok(InForce {
+            rows,
+            own: OwnRows::new(alloc, rows)?,
+            class: ShortBytes::from_slice(&[]),
+            fronts: Vec::from_array(alloc, [[None; MOST_NODES]; MOST_DIGITS + 1])?,
+        })
+    }
+
+    /// Goes on to a class.
+    pub fn enter(&mut self, class: Prefix)
+        ensures rows { self.new.rows ≡ self.old.rows }
+        ensures class { self.new.class ≡ class }
+    {
+        let shared = shared(self.class.as_slice(), class.digits());
+        for len in shared..class.digits().len() {
+            add_front(
+                self.rows,
+                &self.own,
+                &class.front(len + 1),
+                &mut self.fronts,
+            );
+        }
+        self.class = ShortBytes::from_slice(class.digits());
+    }
+
+    /// The node's row in force: of those with the most digits whose prefix begins the class the first.
+    pub fn row(&self, node: NodeNo) -> Option<&'t R>
+        ensures { option_copied result ≡ in_force R.node_of R.prefix_of self.now.rows node self.now.class }
+    {
+        row_of(self.rows, &self.fronts[self.class.as_slice().len()], node)
+    }
+}
+
+/// The row at a node's place.
+fn row_of<'t, R>(rows: &'t [R], places: &Places, node: NodeNo) -> Option<&'t R>
+    ensures { option_copied result ≡ row_at rows.now places.now node }
+{
+    match places[node.place()] {
+        Some(place) => rows.get(place),
+        None => None,
+    }
+}
+
+/// How many of the first digits are the same.
+fn shared(digits: &[u8], others: &[u8]) -> usize
+    ensures first { result ≤ length digits.now }
+    ensures second { result ≤ length others.now }
+    ensures same { take result digits.now ≡ take result others.now }
+{
+    let most = digits.len().min(others.len());
+    for i in 0..most {
+        if digits[i] != others[i] {
+            return i;
+        }
+    }
+    most
+}
+
+/// Adds the rows in force at a front to those at its own fronts.
+fn add_front<R: Placed>(rows: &[R], own: &OwnRows, front: &Prefix, fronts: &mut Vec<Places>)
+    requires chained { IsChained R.prefix_of rows.now own.now.last.entries own.now.before.items }
+    requires many { length fronts.old.items ≡ 13 }
+    requires known { AreKnown R.node_of R.prefix_of rows.now front.now (length front.now - 1) fronts.old.items }
+    ensures many { length fronts.new.items ≡ 13 }
+    ensures known { AreKnown R.node_of R.prefix_of rows.now front.now (length front.now) fronts.new.items }
+{
+    let len = front.digits().len();
+    let mut places = fronts[len - 1];
+    own.put(rows, front, &mut places);
+    fronts[len] = places;
+}
