@@ -10,7 +10,7 @@ loop-class-preserved c = record {
   stand_ins = c.enter-in-loop-class.ensures.rows ∙ c.loop-class.invariant.stand_ins;
   firsts = λ kind.
       first_some_next (refusal_at c.args.tables.now c.args.cert.now kind) c.args.all.now c.loop-class.class-index c.class-item.result (of_kind c.loop-class.firsts kind) (of_kind c.add.new.self kind)
-        c.loop-class-test.true c.class-item.is (c.add.ensures kind)
+      c.loop-class-test.true c.class-item.is (c.add.ensures kind)
       ∙ c.loop-class.invariant.firsts kind;
 }
 
