@@ -5,8 +5,8 @@ use Rattle.std.specs.List.{flat_map}
 use Rattle.std.specs.Option.{option_map_or}
 use Rattle.card_digits.specs.Digits.{digits_text}
 use Rattle.net_rows.specs.Network.{Network}
-use Rattle.net_tables.specs.Words as table_words
-use Rattle.net_tables.specs.declared.fault.TableFault.{TableFault}
+use Rattle.table_fields.specs.Words as table_words
+use Rattle.table_fields.specs.declared.fault.TableFault.{TableFault}
 use Rattle.rank_cert.specs.Words as cert_words
 use Rattle.rank_cert.specs.declared.fault.CertFault.{CertFault}
 use Rattle.table_checker.specs.declared.refusal.Refusal.{Refusal}

@@ -1,20 +1,11 @@
 -- A loop over rows reads them all.
 use Rattle.std.proofs.Common.{◌≡◌, ℕ, ◌+◌, ◌<◌, ◌≤◌, List, [], ◌∷◌, ◌++◌, map, length, get_or, drop, Result, Ok, Err, refl, sym, ◌∙◌}
 use Rattle.std.proofs.lemmas.List.{drop_more, drop_all, drop-map}
-use Rattle.net_tables.specs.Fields.{◌>>=◌, Fails}
-use Rattle.net_tables.specs.Shapes.{each}
-use Rattle.net_tables.specs.declared.fault.TableFault.{TableFault}
-use Rattle.net_tables.specs.declared.fault.TableFault.TheVariants.{NotToml, MissingField, BadValue, UnknownName, Twice, TooMany, NotAtLink, Memory}
-
-pub fails_from : {Y : Type 0} (e : TableFault) (read : Result Y TableFault) → read ≡ Err e → Fails e read
-fails_from NotToml read h = h
-fails_from (MissingField p) read h = h
-fails_from (BadValue p) read h = h
-fails_from (UnknownName p) read h = h
-fails_from (Twice p) read h = h
-fails_from (TooMany t) read h = h
-fails_from (NotAtLink p) read h = h
-fails_from Memory read h = tt
+use Rattle.table_fields.specs.Faults.{◌>>=◌, Fails}
+use Rattle.table_fields.proofs.Faults.{fails_from}
+use Rattle.net_tables.specs.AllRows.{each}
+use Rattle.table_fields.specs.declared.fault.TableFault.{TableFault}
+use Rattle.table_fields.specs.declared.fault.TableFault.TheVariants.{NotToml, MissingField, BadValue, UnknownName, Twice, TooMany, NotAtLink, Memory}
 
 turn : {X A R : Type 0} (seen : X → A) (read : List R → A → Result R TableFault) (done : List R) (xs : List X) (i : ℕ) (x : X) → i < length xs → x ≡ get_or xs i x
     → each read done (drop i (map seen xs)) ≡ (read done (seen x) >>= λ r. each read (done ++ r ∷ []) (drop (i + 1) (map seen xs)))
@@ -46,17 +37,6 @@ each_fails_unless seen read done xs i x Memory all lt is same h = tt
 pub each_end : {X A R : Type 0} (seen : X → A) (read : List R → A → Result R TableFault) (done : List R) (xs : List X) (i : ℕ) (all : Result (List R) TableFault) → length xs ≤ i
     → each read done (drop i (map seen xs)) ≡ all → all ≡ Ok done
 each_end seen read done xs i all past same = sym same ∙ rw (drop-map seen i xs, drop_all i xs past) refl
-
--- a step that fails, and what follows it
-pub fails_bind : {Y Z : Type 0} (e : TableFault) (read : Result Y TableFault) (f : Y → Result Z TableFault) → Fails e read → Fails e (read >>= f)
-fails_bind NotToml read f h = rw h
-fails_bind (MissingField p) read f h = rw h
-fails_bind (BadValue p) read f h = rw h
-fails_bind (UnknownName p) read f h = rw h
-fails_bind (Twice p) read f h = rw h
-fails_bind (TooMany t) read f h = rw h
-fails_bind (NotAtLink p) read f h = rw h
-fails_bind Memory read f h = tt
 
 -- the same of plain items
 pub entry_fails : {A R : Type 0} (read : List R → A → Result R TableFault) (done : List R) (xs : List A) (i : ℕ) (x : A) (e : TableFault) (all : Result (List R) TableFault) → i < length xs → x ≡ get_or xs i x

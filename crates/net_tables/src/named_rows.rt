@@ -3,12 +3,11 @@ ghost use Rattle.std.specs.Prelude.{◌≡◌, ◌<◌, length, map, IfOk};
 ghost use Rattle.net_tables.specs.Rows.{AreNamed};
 ghost use Rattle.net_tables.specs.Reading.{named};
 
-use crate::fault::TableFault;
-use crate::place::Place;
 use card_digits::Name;
 use indexmap::IndexSet;
 use net_rows::{Link, Node};
 use std::marker::Model;
+use table_fields::{Place, TableFault};
 
 /// A row with a name.
 pub(crate) trait Named {

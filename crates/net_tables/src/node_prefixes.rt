@@ -2,20 +2,19 @@
 ghost use Rattle.std.specs.Prelude.{◌≡◌, ◌==◌, ◌<◌, not, length, slice_set, OnOk, IfOk};
 ghost use Rattle.indexmap.specs.IndexSet.{insert_key};
 ghost use Rattle.std.specs.Cmp.Lexicographic.{pointwise};
-ghost use Rattle.net_tables.specs.Fields.{row_view, Gives};
+ghost use Rattle.table_fields.specs.Faults.{Gives};
+ghost use Rattle.table_fields.specs.Fields.{row_view};
 ghost use Rattle.net_tables.specs.Rows.{node_names, prefixes_at, AreEmpty, IsTaken};
 ghost use Rattle.net_tables.specs.Reading.{is_among, new_prefix_at};
 
-use crate::fault::TableFault;
-use crate::field::Row;
 use crate::named_rows::NamedRows;
 use crate::node::node_at;
-use crate::place::Key;
 use card_digits::{NodeNo, Prefix};
 use indexmap::IndexSet;
 use net_rows::Node;
 use std::alloc::{AllocError, Global};
 use std::marker::Model;
+use table_fields::{Key, Row, TableFault};
 
 const MOST_ROWS: usize = 4_096;
 

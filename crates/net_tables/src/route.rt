@@ -2,21 +2,19 @@
 ghost use Rattle.std.specs.Prelude.{IfOk};
 ghost use Rattle.net_rows.specs.Sound.{AreOwnLinks};
 ghost use Rattle.toml.specs.View.{table_view};
-ghost use Rattle.net_tables.specs.Fields.{Gives};
-ghost use Rattle.net_tables.specs.Shapes.{all_rows};
+ghost use Rattle.table_fields.specs.Faults.{Gives};
+ghost use Rattle.net_tables.specs.AllRows.{all_rows};
 ghost use Rattle.net_tables.specs.Rows.{node_names};
 ghost use Rattle.net_tables.specs.Reading.{route_of};
-ghost use Rattle.net_tables.specs.declared.place.Table.TheVariants as table;
+ghost use Rattle.table_fields.specs.declared.place.Table.TheVariants as table;
 
-use crate::fault::TableFault;
-use crate::field::Row;
 use crate::named_rows::NamedRows;
 use crate::node_prefixes::{NodePrefixes, new_prefix_at};
-use crate::place::{Key, Table};
 use crate::rows::{RowReader, read_rows};
 use crate::several::links_at;
 use net_rows::{Link, Node, Route};
 use std::alloc::Global;
+use table_fields::{Key, Row, Table, TableFault};
 
 #[derive(Clone, Copy)]
 struct RouteReader<'a> {
@@ -42,7 +40,7 @@ impl<'a> RowReader for RouteReader<'a> {
 
     ghost fits = { λ s r. list_all (is_end s.links.now r.node) r.links ≡ true };
 
-    #[tactic(auto, unfolding(crate::specs::Reading::route_of), using(crate::proofs::Loops::fails_bind))]
+    #[tactic(auto, unfolding(crate::specs::Reading::route_of), using(table_fields::proofs::Faults::fails_bind))]
     fn read(
         &self,
         taken: &mut NodePrefixes,

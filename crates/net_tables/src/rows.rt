@@ -1,22 +1,20 @@
 //! The rows of a table, each read after those before it.
-ghost use Rattle.std.specs.Prelude.{◌≡◌, [], IfOk, option_map};
+ghost use Rattle.std.specs.Prelude.{[], IfOk};
 ghost use Rattle.std.specs.List.{AllByRecursion};
-ghost use Rattle.toml.specs.View.{table_view, items_view};
-ghost use Rattle.net_tables.specs.Fields.{Gives};
-ghost use Rattle.net_tables.specs.Shapes.{tables_view, all_tables, rows_at, shape_of, each, numbered, all_rows};
+ghost use Rattle.toml.specs.View.{table_view};
+ghost use Rattle.table_fields.specs.Faults.{Gives};
+ghost use Rattle.table_fields.specs.Shapes.{tables_view};
+ghost use Rattle.net_tables.specs.AllRows.{each, numbered, all_rows};
 
-use crate::fault::TableFault;
-use crate::field::Row;
-use crate::keys::get;
-use crate::place::{Key, Place, Table};
-use std::alloc::{AllocError, Global};
-use toml::Value;
+use std::alloc::Global;
+use table_fields::{Row, Table, TableFault, rows_at};
 
 /// How a table's rows are read.
 pub(crate) trait RowReader {
     ghost use Rattle.std.specs.Prelude.{List, Result, [], ◌∷◌, ◌++◌, IfOk};
-    ghost use Rattle.net_tables.specs.Fields.{RowText, Gives, row_view};
-    ghost use Rattle.net_tables.specs.declared.fault.TableFault.{TableFault};
+    ghost use Rattle.table_fields.specs.Faults.{Gives};
+    ghost use Rattle.table_fields.specs.Fields.{RowText, row_view};
+    ghost use Rattle.table_fields.specs.declared.fault.TableFault.{TableFault};
 
     type Read: Drop;
 
@@ -43,55 +41,6 @@ pub(crate) trait RowReader {
         ensures value { Gives (λ r. r) result (reads self.now done.now (row_view row.now)) }
         ensures taken { IfOk result (λ r. knows self.now taken.new (done.now ++ r ∷ [])) }
         ensures fits { IfOk result (fits self.now) };
-}
-
-/// A table of another shape.
-pub(crate) fn misshapen(table: Table) -> TableFault
-    ensures { result ≡ TableFault.BadValue (shape_of table) }
-{
-    TableFault::BadValue(Place {
-        table,
-        row: 0,
-        key: Key::Other,
-    })
-}
-
-/// The tables that the values are, where each is one.
-fn all_tables<'a>(
-    alloc: Global,
-    values: &'a [Value],
-) -> Result<Option<Vec<&'a toml::Table>>, AllocError>
-    ensures { IfOk result (λ o. option_map (λ v. tables_view v.items) o ≡ all_tables (items_view values.now)) }
-{
-    let mut tables = Vec::new(alloc);
-    for value in values {
-        match value.as_table() {
-            Some(table) => tables.push(table)?,
-            None => return Ok(None),
-        }
-    }
-    Ok(Some(tables))
-}
-
-/// The rows of an array of tables, which may be absent.
-#[tactic(auto, unfolding(crate::specs::Shapes::rows_at))]
-fn rows_at<'a>(
-    alloc: Global,
-    root: &'a toml::Table,
-    table: Table,
-) -> Result<Vec<&'a toml::Table>, TableFault>
-    ensures { Gives (λ v. tables_view v.items) result (rows_at (table_view root.now) table) }
-{
-    let Some(value) = get(root, table.word()) else {
-        return Ok(Vec::new(alloc));
-    };
-    let Some(values) = value.as_array() else {
-        return Err(misshapen(table));
-    };
-    match all_tables(alloc, values)? {
-        Some(tables) => Ok(tables),
-        None => Err(misshapen(table)),
-    }
 }
 
 fn each_row<R: RowReader>(
@@ -121,7 +70,7 @@ fn each_row<R: RowReader>(
 }
 
 /// All rows of a table, in the order of the text, and what they have taken.
-#[tactic(auto, using(crate::proofs::Loops::fails_bind))]
+#[tactic(auto, using(table_fields::proofs::Faults::fails_bind))]
 pub(crate) fn read_rows<R: RowReader>(
     alloc: Global,
     root: &toml::Table,

@@ -1,22 +1,17 @@
 //! Fields that name several rows.
-ghost use Rattle.std.specs.Prelude.{◌≡◌, ◌≤◌, [], length, map, option_map, IfOk, true};
+ghost use Rattle.std.specs.Prelude.{◌≡◌, ◌≤◌, [], map, IfOk, true};
 ghost use Rattle.std.specs.List.{list_all};
-ghost use Rattle.toml.specs.View.{items_view};
-ghost use Rattle.net_tables.specs.Values.{all_names};
-ghost use Rattle.net_tables.specs.Fields.{Gives, row_view, names_at};
+ghost use Rattle.table_fields.specs.Faults.{Gives};
+ghost use Rattle.table_fields.specs.Fields.{row_view};
 ghost use Rattle.net_tables.specs.Rows.{node_names, link_names};
 ghost use Rattle.net_tables.specs.Reading.{all_named, nodes_at, links_at, is_twice};
 ghost use Rattle.net_rows.specs.Sound.{is_end};
 
-use crate::fault::TableFault;
-use crate::field::Row;
 use crate::named_rows::{Named, NamedRows};
-use crate::place::{Key, Place};
-use crate::value::name_of;
 use card_digits::{LinkNo, Name, NodeNo};
 use net_rows::{Link, Links, Node, Nodes};
 use std::alloc::{AllocError, Global};
-use toml::Value;
+use table_fields::{Key, Place, Row, TableFault};
 
 const MOST_LINKS: usize = 8;
 
@@ -65,33 +60,6 @@ impl Places for Links {
     }
 }
 
-/// The names that the values are, where each is one.
-fn all_names(alloc: Global, values: &[Value]) -> Result<Option<Vec<Name>>, AllocError>
-    ensures { IfOk result (λ o. option_map (λ v. v.items) o ≡ all_names (items_view values.now)) }
-{
-    let mut names = Vec::new(alloc);
-    for value in values {
-        match name_of(value) {
-            Some(name) => names.push(name)?,
-            None => return Ok(None),
-        }
-    }
-    Ok(Some(names))
-}
-
-#[tactic(auto, unfolding(crate::specs::Fields::form_at))]
-fn names_at(alloc: Global, row: &Row, key: Key) -> Result<Vec<Name>, TableFault>
-    ensures { Gives (λ v. v.items) result (names_at (row_view row.now) key) }
-{
-    let Some(values) = row.field(key)?.as_array() else {
-        return Err(row.bad(key));
-    };
-    match all_names(alloc, values)? {
-        Some(names) => Ok(names),
-        None => Err(row.bad(key)),
-    }
-}
-
 /// The rows of these names.
 fn all_named<R: Named, P: Places>(
     alloc: Global,
@@ -119,7 +87,7 @@ fn is_twice<T: PartialEq>(items: &[T]) -> bool
 }
 
 /// The nodes that a field names, none twice.
-#[tactic(auto, unfolding(crate::specs::Reading::nodes_at), using(crate::proofs::Loops::fails_bind))]
+#[tactic(auto, unfolding(crate::specs::Reading::nodes_at), using(table_fields::proofs::Faults::fails_bind))]
 pub(crate) fn nodes_at(
     alloc: Global,
     row: &Row,
@@ -128,7 +96,7 @@ pub(crate) fn nodes_at(
 ) -> Result<Nodes, TableFault>
     ensures { Gives (λ v. v) result (nodes_at (node_names nodes.now) (row_view row.now) key) }
 {
-    let names = names_at(alloc, row, key)?;
+    let names = row.names(alloc, key)?;
     let found: Nodes = all_named(alloc, nodes, &names, row.place(key))?;
     if is_twice(found.as_slice()) {
         return Err(TableFault::Twice(row.place(key)));
@@ -152,7 +120,7 @@ fn all_at(links: &[Link], node: NodeNo, found: &[LinkNo]) -> bool
 }
 
 /// One to eight links of the node that a field names, none twice.
-#[tactic(auto, unfolding(crate::specs::Reading::links_at), using(crate::proofs::Loops::fails_bind))]
+#[tactic(auto, unfolding(crate::specs::Reading::links_at), using(table_fields::proofs::Faults::fails_bind))]
 pub(crate) fn links_at(
     alloc: Global,
     row: &Row,
@@ -163,7 +131,7 @@ pub(crate) fn links_at(
     ensures value { Gives (λ v. v) result (links_at links.now node (row_view row.now) key) }
     ensures own { IfOk result (λ v. list_all (is_end links.now node) v ≡ true) }
 {
-    let names = names_at(alloc, row, key)?;
+    let names = row.names(alloc, key)?;
     let count = names.as_slice().len();
     if count == 0 || count > MOST_LINKS {
         return Err(row.bad(key));

@@ -1,19 +1,17 @@
 //! The table `[[stand_in]]`.
 ghost use Rattle.toml.specs.View.{table_view};
-ghost use Rattle.net_tables.specs.Fields.{Gives};
-ghost use Rattle.net_tables.specs.Shapes.{all_rows};
+ghost use Rattle.table_fields.specs.Faults.{Gives};
+ghost use Rattle.net_tables.specs.AllRows.{all_rows};
 ghost use Rattle.net_tables.specs.Rows.{node_names};
 ghost use Rattle.net_tables.specs.Reading.{stand_in_of};
-ghost use Rattle.net_tables.specs.declared.place.Table.TheVariants as table;
+ghost use Rattle.table_fields.specs.declared.place.Table.TheVariants as table;
 
-use crate::fault::TableFault;
-use crate::field::Row;
 use crate::named_rows::NamedRows;
 use crate::node_prefixes::{NodePrefixes, new_prefix_at};
-use crate::place::{Key, Table};
 use crate::rows::{RowReader, read_rows};
 use net_rows::{Node, StandIn};
 use std::alloc::Global;
+use table_fields::{Key, Row, Table, TableFault};
 
 #[derive(Clone, Copy)]
 struct StandInReader<'a> {
@@ -35,7 +33,7 @@ impl<'a> RowReader for StandInReader<'a> {
 
     ghost fits = { λ _ _. Unit {0} };
 
-    #[tactic(auto, unfolding(crate::specs::Reading::stand_in_of), using(crate::proofs::Loops::fails_bind))]
+    #[tactic(auto, unfolding(crate::specs::Reading::stand_in_of), using(table_fields::proofs::Faults::fails_bind))]
     fn read(
         &self,
         taken: &mut NodePrefixes,

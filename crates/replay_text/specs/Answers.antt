@@ -3,7 +3,7 @@ use Rattle.std.specs.Prelude.{◌≡◌, ◌⊎◌, ℕ, List, [], ◌∷◌, co
 use Rattle.card_digits.specs.Lines.{lines}
 use Rattle.net_rows.specs.Network.{Network}
 use Rattle.net_tables.specs.Reading.{tables_in}
-use Rattle.net_tables.specs.declared.fault.TableFault.{TableFault}
+use Rattle.table_fields.specs.declared.fault.TableFault.{TableFault}
 use Rattle.rank_cert.specs.Reading.{cert_in}
 use Rattle.rank_cert.specs.declared.cert.Rank.{Rank}
 use Rattle.rank_cert.specs.declared.fault.CertFault.{CertFault}

@@ -2,7 +2,7 @@ use Rattle.std.proofs.Common.{[], ◌∷◌, refl, sym, subst, arith}
 use Rattle.std.proofs.lemmas.List.{length-append}
 use Rattle.std.proofs.lemmas.Result.{err_from_is_err_and}
 use Rattle.toml.specs.View.{table_view}
-use Rattle.net_tables.specs.Shapes.{numbered}
+use Rattle.net_tables.specs.AllRows.{numbered}
 use Rattle.net_tables.proofs.Loops.{each_fails_unless, each_on, each_end}
 use Rattle.net_tables.proofs.Taken.{all_pushed}
 use Rattle.net_tables.proofs.rows.each_row.Goals as goal

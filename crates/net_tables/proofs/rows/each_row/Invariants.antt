@@ -1,7 +1,8 @@
 use Rattle.std.proofs.Common.{◌≡◌, ℕ, List, [], drop, length, Result}
 use Rattle.std.specs.List.{AllByRecursion}
-use Rattle.net_tables.specs.Shapes.{tables_view, each, numbered}
-use Rattle.net_tables.specs.declared.fault.TableFault.{TableFault}
+use Rattle.table_fields.specs.Shapes.{tables_view}
+use Rattle.net_tables.specs.AllRows.{each, numbered}
+use Rattle.table_fields.specs.declared.fault.TableFault.{TableFault}
 use Rattle.net_tables.proofs.rows.each_row.Given as goal
 
 pub record AreRead {A R T : Type 0} (read : List R → A → Result R TableFault) (knows : T → List R → Type 0) (fits : R → Type 0) (taken : T) (count : ℕ) (done : List R) (all : List A) : Type 0 where

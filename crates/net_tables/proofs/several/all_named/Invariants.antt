@@ -1,5 +1,5 @@
 use Rattle.std.proofs.Common.{◌≡◌, map, drop}
-use Rattle.net_tables.specs.Shapes.{each}
+use Rattle.net_tables.specs.AllRows.{each}
 use Rattle.net_tables.specs.Reading.{named_entry, all_named}
 use Rattle.net_tables.proofs.several.all_named.Given as goal
 

@@ -1,11 +1,12 @@
 //! What a value of the tree is, where it is of a field's form.
-ghost use Rattle.std.specs.Prelude.{◌≡◌, ◌≤◌, ◌<◌, ◌^◌, length, IfSome};
+ghost use Rattle.std.specs.Prelude.{◌≡◌, ◌≤◌, ◌<◌, ◌^◌, length, option_map, IfSome, IfOk};
 ghost use Rattle.std.specs.List.{list_all};
 ghost use Rattle.toml.specs.View.{view};
 ghost use Rattle.card_digits.specs.Digits.{IsDateLabel, IsId};
-ghost use Rattle.net_tables.specs.Values.{whole_in, name_in, id_in, prefix_in, currency_in, date_in, ends_in, is_printable};
+ghost use Rattle.table_fields.specs.Values.{whole_in, name_in, id_in, prefix_in, currency_in, date_in, ends_in, is_printable};
 
 use card_digits::{DateLabel, Id, Name, Prefix, ShortBytes, all_digits};
+use std::alloc::{AllocError, Global};
 use toml::Value;
 
 /// A whole number from `least` to `most`.
@@ -13,13 +14,10 @@ pub(crate) fn whole_of(value: &Value, least: u64, most: u64) -> Option<u64>
     ensures value { result ≡ whole_in least most (view value.now) }
     ensures within { IfSome result (λ n. (least ≤ n) × (n ≤ most)) }
 {
-    match value.as_integer() {
-        Some(number) => within(number, least, most),
-        None => None,
-    }
+    within(value.as_integer()?, least, most)
 }
 
-ghost use Rattle.net_tables.specs.Values.{whole};
+ghost use Rattle.table_fields.specs.Values.{whole};
 
 fn within(number: i64, least: u64, most: u64) -> Option<u64>
     ensures value { result ≡ whole least most number }
@@ -39,29 +37,20 @@ fn within(number: i64, least: u64, most: u64) -> Option<u64>
 pub(crate) fn name_of(value: &Value) -> Option<Name>
     ensures { result ≡ name_in (view value.now) }
 {
-    match value.as_str() {
-        Some(text) => Name::read(text.as_bytes()),
-        None => None,
-    }
+    Name::read(value.as_str()?.as_bytes())
 }
 
 pub(crate) fn id_of(value: &Value) -> Option<Id>
     ensures value { result ≡ id_in (view value.now) }
     ensures form { IfSome result IsId }
 {
-    match value.as_str() {
-        Some(text) => Id::read(text.as_bytes()),
-        None => None,
-    }
+    Id::read(value.as_str()?.as_bytes())
 }
 
 pub(crate) fn prefix_of(value: &Value) -> Option<Prefix>
     ensures { result ≡ prefix_in (view value.now) }
 {
-    match value.as_str() {
-        Some(text) => Prefix::read(text.as_bytes()).ok(),
-        None => None,
-    }
+    Prefix::read(value.as_str()?.as_bytes()).ok()
 }
 
 fn all_printable(text: &[u8]) -> bool
@@ -70,7 +59,7 @@ fn all_printable(text: &[u8]) -> bool
     text.iter().all(|byte| *byte >= 0x20 && *byte <= 0x7e)
 }
 
-ghost use Rattle.net_tables.specs.Values.{currency_text};
+ghost use Rattle.table_fields.specs.Values.{currency_text};
 
 fn currency_text(text: &[u8]) -> Option<ShortBytes<3>>
     ensures { result ≡ currency_text text.now }
@@ -85,10 +74,7 @@ fn currency_text(text: &[u8]) -> Option<ShortBytes<3>>
 pub(crate) fn currency_of(value: &Value) -> Option<ShortBytes<3>>
     ensures { result ≡ currency_in (view value.now) }
 {
-    match value.as_str() {
-        Some(text) => currency_text(text.as_bytes()),
-        None => None,
-    }
+    currency_text(value.as_str()?.as_bytes())
 }
 
 /// Four digits.
@@ -96,23 +82,17 @@ pub(crate) fn date_of(value: &Value) -> Option<DateLabel>
     ensures value { result ≡ date_in (view value.now) }
     ensures form { IfSome result IsDateLabel }
 {
-    match value.as_str() {
-        Some(text) => DateLabel::read(text.as_bytes()).ok(),
-        None => None,
-    }
+    DateLabel::read(value.as_str()?.as_bytes()).ok()
 }
 
 ghost use Rattle.toml.specs.View.{items_view};
-ghost use Rattle.net_tables.specs.Values.{two_names};
+ghost use Rattle.table_fields.specs.Values.{two_names};
 
 /// Two different names.
 pub(crate) fn ends_of(value: &Value) -> Option<(Name, Name)>
     ensures { result ≡ ends_in (view value.now) }
 {
-    match value.as_array() {
-        Some(values) => two_names(values),
-        None => None,
-    }
+    two_names(value.as_array()?)
 }
 
 #[tactic(auto, using(crate::proofs::Pairs::not_two, crate::proofs::Pairs::two))]
@@ -128,4 +108,20 @@ fn two_names(values: &[Value]) -> Option<(Name, Name)>
         return None;
     }
     Some((first, second))
+}
+
+ghost use Rattle.table_fields.specs.Values.{all_names};
+
+/// The names that the values are, where each is one.
+pub(crate) fn all_names(alloc: Global, values: &[Value]) -> Result<Option<Vec<Name>>, AllocError>
+    ensures { IfOk result (λ o. option_map (λ v. v.items) o ≡ all_names (items_view values.now)) }
+{
+    let mut names = Vec::new(alloc);
+    for value in values {
+        match name_of(value) {
+            Some(name) => names.push(name)?,
+            None => return Ok(None),
+        }
+    }
+    Ok(Some(names))
 }

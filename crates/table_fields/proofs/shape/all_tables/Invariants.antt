@@ -1,7 +1,7 @@
 use Rattle.std.proofs.Common.{◌≡◌, ◌++◌, drop, option_map}
 use Rattle.toml.specs.View.{items_view}
-use Rattle.net_tables.specs.Shapes.{tables_view, all_tables}
-use Rattle.net_tables.proofs.rows.all_tables.Given as goal
+use Rattle.table_fields.specs.Shapes.{tables_view, all_tables}
+use Rattle.table_fields.proofs.shape.all_tables.Given as goal
 
 abbrev pub invariant-loop-value : goal.invariant-loop-value
 invariant-loop-value l =

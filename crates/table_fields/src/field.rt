@@ -4,15 +4,16 @@ ghost use Rattle.std.specs.Prelude.{◌≡◌, ◌≤◌, ◌<◌, ◌^◌, leng
 use crate::fault::TableFault;
 use crate::keys::{get, has_only};
 use crate::place::{Key, Place, Table};
-use crate::value::{currency_of, date_of, ends_of, id_of, name_of, prefix_of, whole_of};
+use crate::value::{all_names, currency_of, date_of, ends_of, id_of, name_of, prefix_of, whole_of};
 use card_digits::{Amount, DateLabel, Id, Name, Prefix, ShortBytes};
+use std::alloc::Global;
 use toml::Value;
 
 const MOST_AMOUNT: u64 = 999_999_999_999;
 
 /// A row of the text, and where it stands.
 #[derive(Clone, Copy)]
-pub(crate) struct Row<'a> {
+pub struct Row<'a> {
     pub members: &'a toml::Table,
     pub table: Table,
     pub number: usize,
@@ -20,8 +21,10 @@ pub(crate) struct Row<'a> {
 
 impl<'a> Row<'a> {
     ghost use Rattle.card_digits.specs.Digits.{IsDateLabel, IsId};
-    ghost use Rattle.net_tables.specs.Fields.{Lent, row_view, place_of, field_at, name_at, id_at, currency_at, date_at, whole_at, prefix_at, ends_at, no_other};
+    ghost use Rattle.table_fields.specs.Faults.{Gives};
+    ghost use Rattle.table_fields.specs.Fields.{Lent, row_view, place_of, field_at, name_at, id_at, currency_at, date_at, whole_at, prefix_at, ends_at, names_at, no_other};
 
+    /// Where the key stands.
     pub fn place(&self, key: Key) -> Place
         ensures { result ≡ place_of (row_view self.now) key }
     {
@@ -32,6 +35,7 @@ impl<'a> Row<'a> {
         }
     }
 
+    /// A value of another form.
     pub fn bad(&self, key: Key) -> TableFault
         ensures { result ≡ TableFault.BadValue (place_of (row_view self.now) key) }
     {
@@ -40,7 +44,7 @@ impl<'a> Row<'a> {
 
     /// What stands at the key.
     #[tactic(auto, unfolding(crate::specs::Fields::field_at))]
-    pub fn field(&self, key: Key) -> Result<&'a Value, TableFault>
+    fn field(&self, key: Key) -> Result<&'a Value, TableFault>
         ensures { Lent result (field_at (row_view self.now) key) }
     {
         match get(self.members, key.word()) {
@@ -49,6 +53,7 @@ impl<'a> Row<'a> {
         }
     }
 
+    /// One to eight letters and digits.
     #[tactic(auto, unfolding(crate::specs::Fields::form_at))]
     pub fn name(&self, key: Key) -> Result<Name, TableFault>
         ensures { result ≡ name_at (row_view self.now) key }
@@ -56,6 +61,7 @@ impl<'a> Row<'a> {
         name_of(self.field(key)?).ok_or(self.bad(key))
     }
 
+    /// At most eleven digits, not all zero.
     #[tactic(auto, unfolding(crate::specs::Fields::form_at))]
     pub fn id(&self, key: Key) -> Result<Id, TableFault>
         ensures value { result ≡ id_at (row_view self.now) key }
@@ -64,6 +70,7 @@ impl<'a> Row<'a> {
         id_of(self.field(key)?).ok_or(self.bad(key))
     }
 
+    /// One to twelve digits.
     #[tactic(auto, unfolding(crate::specs::Fields::form_at))]
     pub fn prefix(&self, key: Key) -> Result<Prefix, TableFault>
         ensures { result ≡ prefix_at (row_view self.now) key }
@@ -71,6 +78,7 @@ impl<'a> Row<'a> {
         prefix_of(self.field(key)?).ok_or(self.bad(key))
     }
 
+    /// Three printable characters.
     #[tactic(auto, unfolding(crate::specs::Fields::form_at))]
     pub fn currency(&self, key: Key) -> Result<ShortBytes<3>, TableFault>
         ensures { result ≡ currency_at (row_view self.now) key }
@@ -78,6 +86,7 @@ impl<'a> Row<'a> {
         currency_of(self.field(key)?).ok_or(self.bad(key))
     }
 
+    /// Four digits.
     #[tactic(auto, unfolding(crate::specs::Fields::form_at))]
     pub fn date(&self, key: Key) -> Result<DateLabel, TableFault>
         ensures value { result ≡ date_at (row_view self.now) key }
@@ -95,7 +104,7 @@ impl<'a> Row<'a> {
         whole_of(self.field(key)?, least, most).ok_or(self.bad(key))
     }
 
-    /// An amount.
+    /// A whole number of at most twelve digits.
     pub fn amount(&self, key: Key) -> Result<Amount, TableFault>
         ensures { result ≡ whole_at 0 999_999_999_999 (row_view self.now) key }
     {
@@ -109,6 +118,20 @@ impl<'a> Row<'a> {
         ensures { result ≡ ends_at (row_view self.now) key }
     {
         ends_of(self.field(key)?).ok_or(self.bad(key))
+    }
+
+    /// Names, as many as there are.
+    #[tactic(auto, unfolding(crate::specs::Fields::form_at))]
+    pub fn names(&self, alloc: Global, key: Key) -> Result<Vec<Name>, TableFault>
+        ensures { Gives (λ v. v.items) result (names_at (row_view self.now) key) }
+    {
+        let Some(values) = self.field(key)?.as_array() else {
+            return Err(self.bad(key));
+        };
+        match all_names(alloc, values)? {
+            Some(names) => Ok(names),
+            None => Err(self.bad(key)),
+        }
     }
 
     /// No key but the listed ones.

@@ -1,0 +1,3 @@
+pub mod Faults
+mod KeyLemmas
+mod Pairs
