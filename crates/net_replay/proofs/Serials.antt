@@ -235,7 +235,7 @@ packet_there l f (Post b ∷ os) c j bytes at = let off : (0 + f l) + j ≡ f l 
 
 -- lists one behind the other
 
-get_left : {X : Type 0} (xs ys : List X) (k : ℕ) (x : X) → slice_get xs k ≡ Some x → slice_get (xs ++ ys) k ≡ Some x
+pub get_left : {X : Type 0} (xs ys : List X) (k : ℕ) (x : X) → slice_get xs k ≡ Some x → slice_get (xs ++ ys) k ≡ Some x
 get_left [] ys k x e = absurd (no e)
   where
     no : None ≡ Some x → ⊥

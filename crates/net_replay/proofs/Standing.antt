@@ -21,6 +21,7 @@ use Rattle.step_draft.specs.Outputs.{bytes_of}
 use Rattle.net_replay.specs.declared.packets.PacketPlace.{PacketPlace}
 use Rattle.net_replay.specs.Packets.{bytes_at, put_at, put_all}
 use Rattle.net_replay.specs.Running.{IsAt, ArePackets, ArePlaces}
+use Rattle.net_replay.proofs.Serials.{get_left}
 
 -- an element of a list is replaced
 
@@ -89,14 +90,6 @@ get_end : {X : Type 0} (xs : List X) (x : X) (ys : List X) → slice_get (xs ++ 
 get_end [] x ys = refl
 get_end (z ∷ xs) x ys = get_end xs x ys
 
-get_more : {X : Type 0} (xs ys : List X) (k : ℕ) (x : X) → slice_get xs k ≡ Some x → slice_get (xs ++ ys) k ≡ Some x
-get_more [] ys k x e = absurd (no e)
-  where
-    no : None ≡ Some x → ⊥
-    no p = cc
-get_more (z ∷ xs) ys zero x e = e
-get_more (z ∷ xs) ys (suc k) x e = get_more xs ys k x e
-
 read_more : (xs ys : List Entry) (p : PacketPlace) (b : Bytes) → bytes_at xs p ≡ Some b → bytes_at (xs ++ ys) p ≡ Some b
 read_more xs ys p b e = go (slice_get xs p.entry) refl
   where
@@ -108,7 +101,7 @@ read_more xs ys p b e = go (slice_get xs p.entry) refl
 
     go : (found : Option Entry) → slice_get xs p.entry ≡ found → bytes_at (xs ++ ys) p ≡ Some b
     go None is = absurd (no (sym (ap read is) ∙ e))
-    go (Some x) is = ap read (get_more xs ys p.entry x is ∙ sym is) ∙ e
+    go (Some x) is = ap read (get_left xs ys p.entry x is ∙ sym is) ∙ e
 
 all_read_more : (xs ys : List Entry) (ps : List PacketPlace) (bs : List Bytes) → map (bytes_at xs) ps ≡ map Some bs → map (bytes_at (xs ++ ys)) ps ≡ map Some bs
 all_read_more xs ys [] bs e = e

@@ -1,6 +1,7 @@
 //! Why a step is refused.
 
 use iso_message::DecodeFault;
+use std::alloc::AllocError;
 use thiserror::Error;
 
 /// Why a node refuses an input. The node and its trace stay as they were.
@@ -38,4 +39,15 @@ pub enum StepFault {
     /// card whose issuer doesn't name this one.
     #[error("an amount that may not be lent")]
     NotLent,
+}
+
+impl From<AllocError> for StepFault {
+    ghost use Rattle.std.specs.Prelude.{◌≡◌};
+    ghost use Rattle.network_law.specs.declared.fault.StepFault.TheVariants.{Memory};
+
+    ghost from_gives = { λ _ e. e ≡ Memory };
+
+    fn from(_e: AllocError) -> StepFault {
+        StepFault::Memory
+    }
 }

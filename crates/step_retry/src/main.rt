@@ -71,10 +71,7 @@ fn step(
     outputs: &mut Outputs,
 ) -> Result<(), StepFault> {
     let case = match event {
-        Event::Request => match request(alloc) {
-            Ok(bytes) => Case::Enter(bytes),
-            Err(_) => return Err(StepFault::Memory),
-        },
+        Event::Request => Case::Enter(request(alloc)?),
         Event::LinkDown => {
             let link = LinkNo::new(0);
             if !node.has_link(link) {

@@ -95,10 +95,7 @@ fn host_answer(
     if let Some(fault) = refuse_host_answer(draft.books(), ask) {
         return Err(fault);
     }
-    match on_host(draft, tables, node, ask, code) {
-        Ok(()) => Ok(()),
-        Err(_) => Err(StepFault::Memory),
-    }
+    Ok(on_host(draft, tables, node, ask, code)?)
 }
 
 /// Bytes that an acquirer enters.
@@ -122,10 +119,7 @@ fn enter_bytes(
     if let Some(fault) = refuse_entered(draft.books(), tables, node, &m) {
         return Err(fault);
     }
-    match enter(draft, tables, node, m) {
-        Ok(()) => Ok(()),
-        Err(_) => Err(StepFault::Memory),
-    }
+    Ok(enter(draft, tables, node, m)?)
 }
 
 /// A taken grant is acknowledged on the link that it came by.
@@ -174,10 +168,7 @@ fn take_read_packet(
     if let Some(fault) = refuse_packet(tables, node, link, packet) {
         return Err(fault);
     }
-    match take_packet(draft, link, packet) {
-        Ok(()) => Ok(()),
-        Err(_) => Err(StepFault::Memory),
-    }
+    Ok(take_packet(draft, link, packet)?)
 }
 
 /// Bytes that come by a link, with their serial.
@@ -225,10 +216,7 @@ fn take_text(
     if let Some(fault) = refuse_taken(draft.books(), tables, node, link, &m) {
         return Err(fault);
     }
-    match take_message(draft, tables, node, link, m) {
-        Ok(()) => Ok(()),
-        Err(_) => Err(StepFault::Memory),
-    }
+    Ok(take_message(draft, tables, node, link, m)?)
 }
 
 /// The node's next grant.
@@ -294,10 +282,7 @@ fn lend_input(
     if let Some(fault) = refuse_lend(draft.books(), tables, node, borrower, card, date, amount) {
         return Err(fault);
     }
-    match lend(draft, tables, node, borrower, card, date, amount) {
-        Ok(()) => Ok(()),
-        Err(_) => Err(StepFault::Memory),
-    }
+    Ok(lend(draft, tables, node, borrower, card, date, amount)?)
 }
 
 /// What the node does for an input; or part of it, and a fault.
@@ -315,22 +300,10 @@ pub(crate) fn step(
     ensures fault { IfErr result (λ f. (f ≡ Memory) ⊎ (fault_in tables.now node draft.old.base (read_input input.now) ≡ Some f)) }
 {
     match input.case() {
-        Case::LinkUp(l) => match link_up(draft, *l) {
-            Ok(()) => Ok(()),
-            Err(_) => Err(StepFault::Memory),
-        },
-        Case::LinkDown(l) => match link_down(draft, tables, node, *l) {
-            Ok(()) => Ok(()),
-            Err(_) => Err(StepFault::Memory),
-        },
-        Case::Tick => match tick(draft, tables, node) {
-            Ok(()) => Ok(()),
-            Err(_) => Err(StepFault::Memory),
-        },
-        Case::NewDate(date) => match new_date(draft, *date) {
-            Ok(()) => Ok(()),
-            Err(_) => Err(StepFault::Memory),
-        },
+        Case::LinkUp(l) => Ok(link_up(draft, *l)?),
+        Case::LinkDown(l) => Ok(link_down(draft, tables, node, *l)?),
+        Case::Tick => Ok(tick(draft, tables, node)?),
+        Case::NewDate(date) => Ok(new_date(draft, *date)?),
         Case::Enter(bytes) => enter_bytes(draft, tables, node, bytes),
         Case::Take(link, serial, bytes) => {
             take_bytes(draft, tables, node, *link, *serial, bytes)

@@ -150,9 +150,7 @@ impl<'a> Node<'a> {
         if self.trace.as_slice().len() >= MOST {
             return Err(StepFault::HistoryFull);
         }
-        if self.trace.reserve(1).is_err() {
-            return Err(StepFault::Memory);
-        }
+        self.trace.reserve(1)?;
         if let Err(fault) = step(&mut self.draft, self.tables, self.node, &input) {
             self.draft.rollback();
             return Err(fault);
