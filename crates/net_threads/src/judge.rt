@@ -173,6 +173,7 @@ pub(crate) fn judge(
     requires legal { All (λ s. IsLegal s.t s.n s.trace) stations.now }
     ensures { IfOk result (Holds tables.now stations.now ended.now) }
 {
+    // There are at most 64 nodes, and what the rows point to is there.
     let _ = tables.nodes();
     if let Some(n) = strange_station(tables, stations) {
         return Ok(Verdict::StationStrange(n));

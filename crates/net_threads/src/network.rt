@@ -113,6 +113,7 @@ fn opened<'t>(alloc: Global, locks: Vec<Mutex<Station<'t>>>) -> Result<Vec<Stati
     let mut stations = Vec::new(alloc);
     for lock in locks {
         let station = lock.into_inner();
+        // The trace is legal and within its limits, as a station keeps it.
         let _ = station.trace();
         stations.push(station)?;
     }

@@ -207,6 +207,7 @@ impl Books {
     pub fn load(&self) -> u128
         ensures { (t : Network) (n : ℕ) → result ≡ load (view t n self.now.lists) }
     {
+        // Each key is there once.
         let _ = self.pending.rows();
         self.advices.len() as u128 + 2 * self.pending.open_count() as u128
     }

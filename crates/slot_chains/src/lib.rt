@@ -88,6 +88,7 @@ impl<T> Chains<T> {
         requires free { ¬ IsMember (lists_in self.old family) slot }
         ensures { self.new ≡ with_lists self.old family (pushed (lists_in self.old family) head slot) }
     {
+        // Each family has links for as many slots as there are, fewer than 2^32.
         let _ = self.slots.capacity();
         let slot = slot.index();
         match family {

@@ -38,6 +38,7 @@ pub fn has_good_card(message: &Message) -> bool
 pub fn label_of(message: &Message) -> Option<DateLabel>
     ensures { result ≡ when (has message.now 15) (label_of message.now) }
 {
+    // Every message can be written, so element 15 has four digits.
     let _ = message.kind();
     let label = message.get(15)?;
     DateLabel::read(label).ok()

@@ -32,6 +32,7 @@ fn part(bytes: &[u8], from: usize, count: usize) -> &[u8]
 pub fn acquirer_of(message: &Message) -> [u8; 11]
     ensures { result ≡ (own_key message.now).acquirer }
 {
+    // Every message can be written, so element 32 has at most 11 digits.
     let _ = message.kind();
     pad11(element(message, 32))
 }
@@ -40,6 +41,7 @@ pub fn acquirer_of(message: &Message) -> [u8; 11]
 pub fn amount_of(message: &Message) -> Amount
     ensures { result ≡ decimal (el message.now 4) }
 {
+    // Every message can be written, so element 4 has 12 digits.
     let _ = message.kind();
     Amount::new(decimal(element(message, 4)))
 }

@@ -25,6 +25,7 @@ fn number_of(message: &Message) -> &[u8]
     ensures card { digits_of result.now ≡ card_of message.now }
     ensures digits { list_all is_ascii_digit result.now ≡ true }
 {
+    // Every message can be written, so element 2 has digits alone.
     let _ = message.kind();
     element(message, 2)
 }

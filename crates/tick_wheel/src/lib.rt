@@ -83,6 +83,7 @@ impl<T> Wheel<T> {
         requires { IsArmed self.old slot }
         ensures { self.new ≡ disarmed self.old slot }
     {
+        // The bucket of the next tick is one of the 4,096.
         let _ = self.next;
         self.chains.unlink(Family::Bucket, slot);
     }
@@ -92,6 +93,7 @@ impl<T> Wheel<T> {
         ensures yes { IsTrue result → IsArmed self.now slot }
         ensures no { IsFalse result → ¬ IsArmed self.now slot }
     {
+        // The bucket of the next tick is one of the 4,096.
         let _ = self.next;
         self.chains.is_member(Family::Bucket, slot)
     }
@@ -147,6 +149,7 @@ impl<T> Wheel<T> {
         ensures len { slab_len self.new.slots + 1 ≡ slab_len self.old.slots }
         ensures lists { self.new ≡ record self.old { slots = self.new.slots } }
     {
+        // The bucket of the next tick is one of the 4,096.
         let _ = self.next;
         self.chains.take(slot)
     }
