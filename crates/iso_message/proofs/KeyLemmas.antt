@@ -43,6 +43,15 @@ here m n h = go (get m n) h
     go None h = absurd cc
     go (Some v) h = refl
 
+-- whose key a message has
+pub key_of_original : (m : Fields) → is_04xx m.kind ≡ true → when (has_key m) (key_of m) ≡ when (has m 90) (original_key m)
+unfolding has_key key_of
+key_of_original m is = rw is
+
+pub key_of_itself : (m : Fields) → is_04xx m.kind ≡ false → when (has_key m) (key_of m) ≡ when (has_own_key m) (own_key m)
+unfolding has_key key_of
+key_of_itself m is = rw is
+
 -- ---- values that are found are good
 
 good_in : (n : ℕ) (v : List ℕ) (es : List (ℕ × List ℕ)) → AreGood es → find_element n es ≡ Some v → IsGood (form_of n) v

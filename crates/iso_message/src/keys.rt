@@ -102,7 +102,6 @@ pub fn original_key(message: &Message) -> Option<Key>
 
 /// The key of a message: that of its original where the type is 04xx, and else its own. None where one of the elements 32, 11
 /// and 7, or for 04xx element 90, is absent.
-#[tactic(auto, unfolding(crate::specs::Keys::has_key, crate::specs::Keys::key_of))]
 pub fn key_of(message: &Message) -> Option<Key>
     ensures { result ≡ when (has_key message.now) (key_of message.now) }
 {
