@@ -1,6 +1,8 @@
 //! Which of several refusals is told.
+use crate::lines::words;
 use crate::networks::{prefix, tables};
 use card_digits::{Id, LinkNo, NodeNo};
+use net_tables::Tables;
 use rank_cert::{Cert, read_cert};
 use std::alloc::Global;
 use std::test::Fail;
@@ -11,31 +13,68 @@ fn ranks_of(alloc: Global, lines: &str) -> Result<Cert, Fail> {
     Ok(read_cert(alloc, text.as_bytes()).ok().ok_or("ranks")?)
 }
 
-/// The refusal of tables with these rows and ranks, or none where they are accepted.
-fn refusal(alloc: Global, rows: &str, ranks: &str) -> Result<Option<Refusal>, Fail> {
+fn node(name: &str) -> Result<NodeNo, Fail> {
+    match name {
+        "A" => Ok(NodeNo::new(0)),
+        "B" => Ok(NodeNo::new(1)),
+        "C" => Ok(NodeNo::new(2)),
+        "H" => Ok(NodeNo::new(3)),
+        _ => Err("node".into()),
+    }
+}
+
+fn link(name: &str) -> Result<LinkNo, Fail> {
+    match name {
+        "AB" => Ok(LinkNo::new(0)),
+        "AC" => Ok(LinkNo::new(1)),
+        "AH" => Ok(LinkNo::new(2)),
+        _ => Err("link".into()),
+    }
+}
+
+fn id(text: &str) -> Result<Id, Fail> {
+    Ok(Id::read(text.as_bytes()).ok_or("id")?)
+}
+
+/// What is wanted of the check, in words; none where it accepts.
+fn wanted(words: &[&'static str]) -> Result<Option<Refusal>, Fail> {
+    match words {
+        ["accepted"] => Ok(None),
+        ["no_rank", at, class] => Ok(Some(Refusal::NoRank(node(at)?, prefix(class)?))),
+        ["not_less", at, class, by] => {
+            Ok(Some(Refusal::NotLess(node(at)?, prefix(class)?, link(by)?)))
+        }
+        ["not_named", at, class] => Ok(Some(Refusal::NotNamed(node(at)?, prefix(class)?))),
+        ["over_ceiling", class, sum, ceiling] => Ok(Some(Refusal::OverCeiling(
+            prefix(class)?,
+            sum.parse()?,
+            ceiling.parse()?,
+        ))),
+        ["no_issuer", at, class] => Ok(Some(Refusal::NoIssuer(node(at)?, prefix(class)?))),
+        ["acquirer_twice", padded] => Ok(Some(Refusal::AcquirerTwice(id(padded)?))),
+        _ => Err("no refusal".into()),
+    }
+}
+
+fn wanted_in(alloc: Global, text: &'static str) -> Result<Option<Refusal>, Fail> {
+    let words = words(alloc, text)?;
+    wanted(words.as_slice())
+}
+
+fn found(alloc: Global, tables: &Tables, cert: &Cert) -> Option<Refusal> {
+    check(alloc, tables, cert).err()
+}
+
+/// Fails where the check of tables with these rows and ranks says something else.
+fn says(alloc: Global, rows: &'static str, ranks: &str, text: &'static str) -> Result<(), Fail> {
+    let wanted = wanted_in(alloc, text)?;
     let tables = tables(alloc, rows)?;
     let cert = ranks_of(alloc, ranks)?;
-    Ok(check(alloc, &tables, &cert).err())
+    if found(alloc, &tables, &cert) != wanted {
+        return Err("the check says something else".into());
+    }
+    Ok(())
 }
-
-fn is_refused(alloc: Global, rows: &str, ranks: &str, wanted: Refusal) -> Result<bool, Fail> {
-    Ok(refusal(alloc, rows, ranks)? == Some(wanted))
-}
-
-/// The nodes and links by their places in the tables.
-const A: usize = 0;
-
-const B: usize = 1;
-
-const C: usize = 2;
-
-const H: usize = 3;
-
-const AB: usize = 0;
-
-const AC: usize = 1;
-
-const AH: usize = 2;
 
 #[test]
 fn accepts_two_classes(rt: HostRuntime) -> Result<(), Fail> {
@@ -51,8 +90,7 @@ H 4 0
 A 5 9
 H 5 3
 ";
-    assert!(rt; refusal(rt.alloc(), rows, ranks)?.is_none());
-    Ok(())
+    says(rt.alloc(), rows, ranks, "accepted")
 }
 
 #[test]
@@ -68,9 +106,7 @@ A 4 1
 H 4 1
 A 5 1
 ";
-    let wanted = Refusal::NoRank(NodeNo::new(H), prefix("5")?);
-    assert!(rt; is_refused(rt.alloc(), rows, ranks, wanted)?);
-    Ok(())
+    says(rt.alloc(), rows, ranks, "no_rank H 5")
 }
 
 #[test]
@@ -86,9 +122,7 @@ A 4 1
 H 4 0
 H 41 0
 ";
-    let wanted = Refusal::NoRank(NodeNo::new(A), prefix("41")?);
-    assert!(rt; is_refused(rt.alloc(), rows, ranks, wanted)?);
-    Ok(())
+    says(rt.alloc(), rows, ranks, "no_rank A 41")
 }
 
 #[test]
@@ -106,9 +140,7 @@ B 4 1
 C 4 1
 H 4 0
 ";
-    let wanted = Refusal::NotLess(NodeNo::new(A), prefix("4")?, LinkNo::new(AC));
-    assert!(rt; is_refused(rt.alloc(), rows, ranks, wanted)?);
-    Ok(())
+    says(rt.alloc(), rows, ranks, "not_less A 4 AC")
 }
 
 /// At 41 the row of 4 would send B to H, and its own sends it back to A.
@@ -129,9 +161,7 @@ A 41 2
 B 41 1
 H 41 0
 ";
-    let wanted = Refusal::NotLess(NodeNo::new(B), prefix("41")?, LinkNo::new(AB));
-    assert!(rt; is_refused(rt.alloc(), rows, ranks, wanted)?);
-    Ok(())
+    says(rt.alloc(), rows, ranks, "not_less B 41 AB")
 }
 
 #[test]
@@ -146,9 +176,7 @@ stand_in C 4 7
 A 5 0
 H 5 0
 ";
-    let wanted = Refusal::NotLess(NodeNo::new(A), prefix("5")?, LinkNo::new(AH));
-    assert!(rt; is_refused(rt.alloc(), rows, ranks, wanted)?);
-    Ok(())
+    says(rt.alloc(), rows, ranks, "not_less A 5 AH")
 }
 
 #[test]
@@ -160,9 +188,7 @@ stand_in A 4 4
 stand_in B 4 6
 stand_in C 5 1
 ";
-    let wanted = Refusal::NotNamed(NodeNo::new(C), prefix("5")?);
-    assert!(rt; is_refused(rt.alloc(), rows, "", wanted)?);
-    Ok(())
+    says(rt.alloc(), rows, "", "not_named C 5")
 }
 
 #[test]
@@ -173,9 +199,7 @@ route B 3 BH
 stand_in A 4 4
 stand_in B 42 6
 ";
-    let wanted = Refusal::OverCeiling(prefix("42")?, 10, 9);
-    assert!(rt; is_refused(rt.alloc(), rows, "", wanted)?);
-    Ok(())
+    says(rt.alloc(), rows, "", "over_ceiling 42 10 9")
 }
 
 #[test]
@@ -188,9 +212,7 @@ stand_in A 7 0
 acquirer 77 A
 acquirer 0077 B
 ";
-    let wanted = Refusal::NoIssuer(NodeNo::new(B), prefix("6")?);
-    assert!(rt; is_refused(rt.alloc(), rows, "", wanted)?);
-    Ok(())
+    says(rt.alloc(), rows, "", "no_issuer B 6")
 }
 
 /// Two acquirers with one padded id.
@@ -201,7 +223,5 @@ issuer 4 H 0
 acquirer 77 A
 acquirer 0077 B
 ";
-    let wanted = Refusal::AcquirerTwice(Id::read(b"00000000077").ok_or("id")?);
-    assert!(rt; is_refused(rt.alloc(), rows, "", wanted)?);
-    Ok(())
+    says(rt.alloc(), rows, "", "acquirer_twice 00000000077")
 }

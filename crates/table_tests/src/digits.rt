@@ -3,7 +3,6 @@ use card_digits::{
     Amount, Card, DateLabel, DigitFault, Id, Name, Prefix, begins, begins_class, cut, first_line,
     luhn, pad11,
 };
-use std::test::Fail;
 
 /// Whether a card's check digit is right. `no card` where the text is none.
 fn check_digit(text: &str) -> &'static str {
@@ -95,36 +94,52 @@ fn names_and_ids(rt: HostRuntime) {
     assert!(rt; !is_id("000"));
 }
 
-fn card(text: &str) -> Result<Card, Fail> {
-    Ok(Card::read(text.as_bytes()).ok().ok_or("card")?)
+/// Whether the prefix begins the card's number. `unread` where a text is neither.
+fn front(text: &str, number: &str) -> &'static str {
+    match (Prefix::read(text.as_bytes()), Card::read(number.as_bytes())) {
+        (Ok(prefix), Ok(card)) => if begins(&prefix, &card) {
+            "begins"
+        } else {
+            "does not"
+        },
+        _ => "unread",
+    }
 }
 
-fn prefix(text: &str) -> Result<Prefix, Fail> {
-    Ok(Prefix::read(text.as_bytes()).ok().ok_or("prefix")?)
-}
-
-fn is_front(text: &str, number: &str) -> Result<bool, Fail> {
-    Ok(begins(&prefix(text)?, &card(number)?))
-}
-
-fn is_class_within(text: &str, class: &str) -> Result<bool, Fail> {
-    Ok(begins_class(&prefix(text)?, &prefix(class)?))
+/// Whether the prefix begins each card's number of the class.
+fn front_of_class(text: &str, class: &str) -> &'static str {
+    match (
+        Prefix::read(text.as_bytes()),
+        Prefix::read(class.as_bytes()),
+    ) {
+        (Ok(prefix), Ok(class)) => if begins_class(&prefix, &class) {
+            "begins"
+        } else {
+            "does not"
+        },
+        _ => "unread",
+    }
 }
 
 #[test]
-fn fronts_of_cards(rt: HostRuntime) -> Result<(), Fail> {
-    assert!(rt; is_front("41", "4111111111111111")?);
-    assert!(rt; !is_front("42", "4111111111111111")?);
-    assert!(rt; is_class_within("41", "411111")?);
-    assert!(rt; !is_class_within("411111", "41")?);
-    Ok(())
+fn fronts_of_cards(rt: HostRuntime) {
+    assert!(rt; front("41", "4111111111111111") == "begins");
+    assert!(rt; front("42", "4111111111111111") == "does not");
+    assert!(rt; front_of_class("41", "411111") == "begins");
+    assert!(rt; front_of_class("411111", "41") == "does not");
+}
+
+/// The number of digits of a card's longest prefix, 0 where the text is no card.
+fn digits_of_front(text: &str) -> usize {
+    match Card::read(text.as_bytes()) {
+        Ok(card) => Prefix::of(&card).digits().len(),
+        Err(_) => 0,
+    }
 }
 
 #[test]
-fn the_longest_front_of_a_card(rt: HostRuntime) -> Result<(), Fail> {
-    let card = card("4111111111111111")?;
-    assert!(rt; Prefix::of(&card).digits().len() == 12);
-    Ok(())
+fn the_longest_front_of_a_card(rt: HostRuntime) {
+    assert!(rt; digits_of_front("4111111111111111") == 12);
 }
 
 /// Whether the bytes before the first space are these.
@@ -146,20 +161,20 @@ fn cutting(rt: HostRuntime) {
     assert!(rt; cut(b"ab", b' ').is_none());
 }
 
-/// What stands behind the first line, where that is this one.
-fn behind<'a>(text: &'a [u8], line: &str) -> Result<&'a [u8], Fail> {
-    match first_line(text) {
-        Some((first, behind)) if first == line.as_bytes() => Ok(behind),
-        _ => Err("another line".into()),
+/// Whether these are all lines of the text.
+fn are_lines(text: &str, wanted: &[&str]) -> bool {
+    let mut rest = text.as_bytes();
+    for line in wanted {
+        match first_line(rest) {
+            Some((first, behind)) if first == line.as_bytes() => rest = behind,
+            _ => return false,
+        }
     }
+    first_line(rest).is_none()
 }
 
 #[test]
-fn lines(rt: HostRuntime) -> Result<(), Fail> {
-    let rest = behind("ab\n\ncd".as_bytes(), "ab")?;
-    let rest = behind(rest, "")?;
+fn lines(rt: HostRuntime) {
     // The last line has no end.
-    let rest = behind(rest, "cd")?;
-    assert!(rt; first_line(rest).is_none());
-    Ok(())
+    assert!(rt; are_lines("ab\n\ncd", &["ab", "", "cd"]));
 }

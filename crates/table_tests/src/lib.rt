@@ -6,6 +6,8 @@ mod checker;
 #[cfg(test)]
 mod digits;
 #[cfg(test)]
+mod lines;
+#[cfg(test)]
 mod maker;
 #[cfg(test)]
 mod networks;

@@ -1,42 +1,64 @@
 //! Ranks that are made, and circles.
 use crate::networks::{prefix, tables};
-use card_digits::NodeNo;
+use card_digits::{NodeNo, Prefix};
 use net_rows::Tables;
 use rank_cert::write_cert;
 use rank_maker::{Made, is_circle, make};
 use std::alloc::Global;
 use std::test::Fail;
 
-/// The text of the ranks that are made.
-fn ranks_text(alloc: Global, tables: &Tables) -> Result<Vec<u8>, Fail> {
+/// The text of the ranks that are made. None where none are.
+fn ranks_text(alloc: Global, tables: &Tables) -> Option<Vec<u8>> {
     match make(alloc, tables) {
-        Made::Ranks(cert) => Ok(write_cert(alloc, &cert)?),
-        Made::Circle(_, _) => Err("circle")?,
-        Made::GaveUp => Err("gave up")?,
+        Made::Ranks(cert) => write_cert(alloc, &cert).ok(),
+        Made::Circle(_, _) => None,
+        Made::GaveUp => None,
     }
 }
 
-fn are_made(alloc: Global, rows: &str, wanted: &str) -> Result<bool, Fail> {
-    let text = ranks_text(alloc, &tables(alloc, rows)?)?;
-    Ok(text.as_slice() == wanted.as_bytes())
+fn are_made(alloc: Global, tables: &Tables, wanted: &str) -> bool {
+    match ranks_text(alloc, tables) {
+        Some(text) => text.as_slice() == wanted.as_bytes(),
+        None => false,
+    }
 }
 
-/// Whether the first circle that is found is this one, by the names of its nodes.
-fn is_found(alloc: Global, rows: &str, class: &str, names: &str) -> Result<bool, Fail> {
+/// Fails where other ranks are made.
+fn makes(alloc: Global, rows: &'static str, wanted: &str) -> Result<(), Fail> {
     let tables = tables(alloc, rows)?;
-    match make(alloc, &tables) {
-        Made::Circle(found, nodes) => {
-            let wanted = places(alloc, &tables, names)?;
-            Ok(found == prefix(class)? && nodes.as_slice() == wanted.as_slice())
-        }
-        _ => Ok(false),
+    if !are_made(alloc, &tables, wanted) {
+        return Err("other ranks".into());
     }
+    Ok(())
+}
+
+/// Whether the first circle that is found is this one.
+fn is_found(alloc: Global, tables: &Tables, class: Prefix, wanted: &[NodeNo]) -> bool {
+    match make(alloc, tables) {
+        Made::Circle(found, nodes) => found == class && nodes.as_slice() == wanted,
+        _ => false,
+    }
+}
+
+/// Fails where the first circle that is found is not this one, by the names of its nodes.
+fn finds(alloc: Global, rows: &'static str, class: &str, names: &str) -> Result<(), Fail> {
+    let class = prefix(class)?;
+    let tables = tables(alloc, rows)?;
+    let wanted = places(alloc, &tables, names)?;
+    if !is_found(alloc, &tables, class, wanted.as_slice()) {
+        return Err("another circle, or none".into());
+    }
+    Ok(())
+}
+
+fn place(tables: &Tables, name: &str) -> Result<NodeNo, Fail> {
+    Ok(tables.node_of(name.as_bytes()).ok_or("node")?)
 }
 
 fn places(alloc: Global, tables: &Tables, names: &str) -> Result<Vec<NodeNo>, Fail> {
     let mut places = Vec::new(alloc);
     for name in names.split_whitespace() {
-        places.push(tables.node_of(name.as_bytes()).ok_or("node")?)?;
+        places.push(place(tables, name)?)?;
     }
     Ok(places)
 }
@@ -57,8 +79,7 @@ C 4 0
 H 4 0
 END
 ";
-    assert!(rt; are_made(rt.alloc(), rows, wanted)?);
-    Ok(())
+    makes(rt.alloc(), rows, wanted)
 }
 
 #[test]
@@ -77,8 +98,7 @@ C 4 1
 H 4 0
 END
 ";
-    assert!(rt; are_made(rt.alloc(), rows, wanted)?);
-    Ok(())
+    makes(rt.alloc(), rows, wanted)
 }
 
 #[test]
@@ -109,8 +129,7 @@ C 42 0
 H 42 0
 END
 ";
-    assert!(rt; are_made(rt.alloc(), rows, wanted)?);
-    Ok(())
+    makes(rt.alloc(), rows, wanted)
 }
 
 #[test]
@@ -145,8 +164,7 @@ C 42 1
 H 42 0
 END
 ";
-    assert!(rt; are_made(rt.alloc(), rows, wanted)?);
-    Ok(())
+    makes(rt.alloc(), rows, wanted)
 }
 
 #[test]
@@ -156,8 +174,7 @@ issuer 4 H 0
 route A 4 AB
 route B 4 BH AB
 ";
-    assert!(rt; is_found(rt.alloc(), rows, "4", "A B A")?);
-    Ok(())
+    finds(rt.alloc(), rows, "4", "A B A")
 }
 
 #[test]
@@ -168,8 +185,7 @@ route A 4 AH AC
 route B 4 AB
 route C 4 BC
 ";
-    assert!(rt; is_found(rt.alloc(), rows, "4", "A C B A")?);
-    Ok(())
+    finds(rt.alloc(), rows, "4", "A C B A")
 }
 
 #[test]
@@ -180,8 +196,7 @@ route A 4 AC
 route B 4 BC
 route C 4 BC
 ";
-    assert!(rt; is_found(rt.alloc(), rows, "4", "B C B")?);
-    Ok(())
+    finds(rt.alloc(), rows, "4", "B C B")
 }
 
 #[test]
@@ -194,8 +209,7 @@ route B 5 AB
 route B 4 BC
 route C 4 BC
 ";
-    assert!(rt; is_found(rt.alloc(), rows, "4", "B C B")?);
-    Ok(())
+    finds(rt.alloc(), rows, "4", "B C B")
 }
 
 #[test]
@@ -207,8 +221,7 @@ route B 4 BH
 route A 41 AB
 route B 41 AB
 ";
-    assert!(rt; is_found(rt.alloc(), rows, "41", "A B A")?);
-    Ok(())
+    finds(rt.alloc(), rows, "41", "A B A")
 }
 
 /// Nobody issues cards of class 5.
@@ -228,24 +241,30 @@ fn tells(alloc: Global, tables: &Tables, line: &str) -> Result<bool, Fail> {
     Ok(is_circle(tables, &prefix(class)?, &nodes))
 }
 
+/// Fails at the first line of which the answer is another.
+fn tell(alloc: Global, lines: &'static str, wanted: bool) -> Result<(), Fail> {
+    let tables = tables(alloc, ROUND)?;
+    for line in lines.lines() {
+        if tells(alloc, &tables, line)? != wanted {
+            return Err(Fail::new(line));
+        }
+    }
+    Ok(())
+}
+
 #[test]
 fn tells_circles(rt: HostRuntime) -> Result<(), Fail> {
-    let tables = tables(rt.alloc(), ROUND)?;
     let circles = "\
 4 A B A
 4 B A B
 4 B A B A B
 5 B H B
 ";
-    for line in circles.lines() {
-        assert!(rt; tells(rt.alloc(), &tables, line)?, "{line}");
-    }
-    Ok(())
+    tell(rt.alloc(), circles, true)
 }
 
 #[test]
 fn tells_what_is_no_circle(rt: HostRuntime) -> Result<(), Fail> {
-    let tables = tables(rt.alloc(), ROUND)?;
     let others = "\
 4
 4 A
@@ -254,8 +273,5 @@ fn tells_what_is_no_circle(rt: HostRuntime) -> Result<(), Fail> {
 4 B H B
 5 A B A
 ";
-    for line in others.lines() {
-        assert!(rt; !tells(rt.alloc(), &tables, line)?, "{line}");
-    }
-    Ok(())
+    tell(rt.alloc(), others, false)
 }

@@ -1,4 +1,5 @@
-//! Networks of four nodes, written in rows.
+//! Networks of four nodes, written in rows. Nothing is promised of these functions, so that they are proved fast.
+use crate::lines::words;
 use card_digits::Prefix;
 use net_tables::{Tables, read_tables};
 use std::alloc::{AllocError, Global};
@@ -49,77 +50,99 @@ ends = ["C", "H"]
 ticks = 3
 "#;
 
-fn word_and_rest(text: &str) -> (&str, &str) {
-    text.split_once(' ').unwrap_or((text, ""))
-}
-
-/// The words as strings of a TOML array, without its brackets.
-fn strings(alloc: Global, words: &str) -> Result<String, AllocError> {
-    let mut text = String::new(alloc);
-    for word in words.split_whitespace() {
-        if !text.is_empty() {
-            text.push_str(", ")?;
-        }
-        text.push_str("\"")?;
-        text.push_str(word)?;
-        text.push_str("\"")?;
+fn push_all(toml: &mut String, pieces: &[&str]) -> Result<(), AllocError> {
+    for piece in pieces {
+        toml.push_str(piece)?;
     }
-    Ok(text)
+    Ok(())
 }
 
-/// `PREFIX HOME CEILING NAMED..`.
-fn issuer(alloc: Global, words: &str) -> Result<String, AllocError> {
-    let (prefix, rest) = word_and_rest(words);
-    let (home, rest) = word_and_rest(rest);
-    let (ceiling, named) = word_and_rest(rest);
-    let named = strings(alloc, named)?;
-    format!(in alloc;
-        "[[issuer]]\nname = \"I{prefix}\"\nprefix = \"{prefix}\"\nhome = \"{home}\"\nnamed = [{named}]\nceiling = {ceiling}\n"
-    )
+fn push_text(toml: &mut String, key: &str, value: &str) -> Result<(), AllocError> {
+    push_all(toml, &[key, " = \"", value, "\"\n"])
 }
 
-/// `NODE PREFIX LINKS..`.
-fn route(alloc: Global, words: &str) -> Result<String, AllocError> {
-    let (node, rest) = word_and_rest(words);
-    let (prefix, links) = word_and_rest(rest);
-    let links = strings(alloc, links)?;
-    format!(in alloc; "[[route]]\nnode = \"{node}\"\nprefix = \"{prefix}\"\nlinks = [{links}]\n")
+fn push_number(toml: &mut String, key: &str, value: &str) -> Result<(), AllocError> {
+    push_all(toml, &[key, " = ", value, "\n"])
 }
 
-/// `NODE PREFIX DAY`.
-fn stand_in(alloc: Global, words: &str) -> Result<String, AllocError> {
-    let (node, rest) = word_and_rest(words);
-    let (prefix, day) = word_and_rest(rest);
-    format!(in alloc;
-        "[[stand_in]]\nnode = \"{node}\"\nprefix = \"{prefix}\"\nday = {day}\nsingle = 0\n"
-    )
+fn push_texts(toml: &mut String, key: &str, values: &[&'static str]) -> Result<(), AllocError> {
+    push_all(toml, &[key, " = ["])?;
+    for value in values {
+        push_all(toml, &["\"", value, "\", "])?;
+    }
+    push_all(toml, &["]\n"])
 }
 
-/// `ID NODE`.
-fn acquirer(alloc: Global, words: &str) -> Result<String, AllocError> {
-    let (id, node) = word_and_rest(words);
-    format!(in alloc; "[[acquirer]]\nid = \"{id}\"\nnode = \"{node}\"\n")
+fn push_issuer(
+    toml: &mut String,
+    prefix: &str,
+    home: &str,
+    ceiling: &str,
+    named: &[&'static str],
+) -> Result<(), AllocError> {
+    push_all(toml, &["[[issuer]]\nname = \"I", prefix, "\"\n"])?;
+    push_text(toml, "prefix", prefix)?;
+    push_text(toml, "home", home)?;
+    push_texts(toml, "named", named)?;
+    push_number(toml, "ceiling", ceiling)
 }
 
-fn row(alloc: Global, line: &str) -> Result<String, Fail> {
-    let (table, words) = word_and_rest(line);
-    match table {
-        "issuer" => Ok(issuer(alloc, words)?),
-        "route" => Ok(route(alloc, words)?),
-        "stand_in" => Ok(stand_in(alloc, words)?),
-        "acquirer" => Ok(acquirer(alloc, words)?),
+fn push_route(
+    toml: &mut String,
+    node: &str,
+    prefix: &str,
+    links: &[&'static str],
+) -> Result<(), AllocError> {
+    push_all(toml, &["[[route]]\n"])?;
+    push_text(toml, "node", node)?;
+    push_text(toml, "prefix", prefix)?;
+    push_texts(toml, "links", links)
+}
+
+fn push_stand_in(toml: &mut String, node: &str, prefix: &str, day: &str) -> Result<(), AllocError> {
+    push_all(toml, &["[[stand_in]]\n"])?;
+    push_text(toml, "node", node)?;
+    push_text(toml, "prefix", prefix)?;
+    push_number(toml, "day", day)?;
+    push_number(toml, "single", "0")
+}
+
+fn push_acquirer(toml: &mut String, id: &str, node: &str) -> Result<(), AllocError> {
+    push_all(toml, &["[[acquirer]]\n"])?;
+    push_text(toml, "id", id)?;
+    push_text(toml, "node", node)
+}
+
+fn push_row(toml: &mut String, words: &[&'static str]) -> Result<(), Fail> {
+    match words {
+        ["issuer", prefix, home, ceiling, named @ ..] => {
+            Ok(push_issuer(toml, prefix, home, ceiling, named)?)
+        }
+        ["route", node, prefix, links @ ..] => Ok(push_route(toml, node, prefix, links)?),
+        ["stand_in", node, prefix, day] => Ok(push_stand_in(toml, node, prefix, day)?),
+        ["acquirer", id, node] => Ok(push_acquirer(toml, id, node)?),
         _ => Err("row".into()),
     }
 }
 
+fn push_line(alloc: Global, toml: &mut String, line: &'static str) -> Result<(), Fail> {
+    let words = words(alloc, line)?;
+    push_row(toml, words.as_slice())
+}
+
+fn toml_of(alloc: Global, rows: &'static str) -> Result<String, Fail> {
+    let mut toml = String::from_str(alloc, FOUR_NODES)?;
+    for line in rows.lines() {
+        push_line(alloc, &mut toml, line)?;
+    }
+    Ok(toml)
+}
+
 /// The tables of the four nodes with these rows, one a line: `issuer PREFIX HOME CEILING NAMED..`, `route NODE PREFIX LINKS..`,
 /// `stand_in NODE PREFIX DAY` or `acquirer ID NODE`.
-pub(crate) fn tables(alloc: Global, rows: &str) -> Result<Tables, Fail> {
-    let mut text = String::from_str(alloc, FOUR_NODES)?;
-    for line in rows.lines() {
-        text.push_str(row(alloc, line)?.as_str())?;
-    }
-    Ok(read_tables(alloc, text.as_bytes()).ok().ok_or("tables")?)
+pub(crate) fn tables(alloc: Global, rows: &'static str) -> Result<Tables, Fail> {
+    let toml = toml_of(alloc, rows)?;
+    Ok(read_tables(alloc, toml.as_bytes()).ok().ok_or("tables")?)
 }
 
 pub(crate) fn prefix(text: &str) -> Result<Prefix, Fail> {

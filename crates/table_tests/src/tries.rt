@@ -1,4 +1,5 @@
 //! Look-ups in a trie.
+use crate::lines::words;
 use card_digits::{Card, Prefix, begins};
 use prefix_trie::{Fault, Trie};
 use std::alloc::Global;
@@ -12,70 +13,114 @@ fn prefix(text: &str) -> Result<Prefix, Fail> {
     Ok(Prefix::read(text.as_bytes()).ok().ok_or("prefix")?)
 }
 
-/// Whether the pair was added; otherwise its refusal.
-fn insert(trie: &mut Trie<u32>, text: &str, value: u32) -> Result<Option<Fault>, Fail> {
-    let prefix = prefix(text)?;
+/// What comes of adding a pair. A refusal gives it back.
+fn added(trie: &mut Trie<u32>, prefix: Prefix, value: u32) -> &'static str {
     match trie.insert(prefix, value) {
-        Ok(()) => Ok(None),
+        Ok(()) => "added",
         Err(refused) => {
             if refused.value != value || refused.prefix != prefix {
-                return Err("the pair is not given back")?;
+                return "another pair";
             }
-            Ok(Some(refused.fault))
+            if refused.fault == Fault::Present {
+                "present"
+            } else {
+                "refused"
+            }
         }
     }
 }
 
-fn three_rows(alloc: Global) -> Result<Trie<u32>, Fail> {
-    let mut trie = Trie::new(alloc);
-    insert(&mut trie, "4", 1)?;
-    insert(&mut trie, "41", 2)?;
-    insert(&mut trie, "411111111111", 3)?;
-    Ok(trie)
-}
-
 /// The value of the longest prefix of a card, 0 where there is none.
-fn found(trie: &Trie<u32>, text: &str) -> Result<u32, Fail> {
-    match trie.longest(&card(text)?) {
-        Some((_, value)) => Ok(*value),
-        None => Ok(0),
+fn found(trie: &Trie<u32>, card: &Card) -> u32 {
+    match trie.longest(card) {
+        Some((_, value)) => *value,
+        None => 0,
     }
 }
 
 /// The same of a class of cards.
-fn found_at(trie: &Trie<u32>, text: &str) -> Result<u32, Fail> {
-    match trie.longest_at(&prefix(text)?) {
-        Some((_, value)) => Ok(*value),
-        None => Ok(0),
+fn found_at(trie: &Trie<u32>, class: &Prefix) -> u32 {
+    match trie.longest_at(class) {
+        Some((_, value)) => *value,
+        None => 0,
     }
+}
+
+fn does(trie: &mut Trie<u32>, words: &[&'static str]) -> Result<bool, Fail> {
+    match words {
+        [] => Ok(true),
+        ["insert", text, value, wanted] => {
+            Ok(added(trie, prefix(text)?, value.parse()?) == *wanted)
+        }
+        ["card", text, wanted] => Ok(found(trie, &card(text)?) == wanted.parse()?),
+        ["class", text, wanted] => Ok(found_at(trie, &prefix(text)?) == wanted.parse()?),
+        _ => Err("no such line".into()),
+    }
+}
+
+fn does_line(alloc: Global, trie: &mut Trie<u32>, line: &'static str) -> Result<bool, Fail> {
+    let words = words(alloc, line)?;
+    does(trie, words.as_slice())
+}
+
+fn go_through(alloc: Global, trie: &mut Trie<u32>, lines: &'static str) -> Result<(), Fail> {
+    for line in lines.lines() {
+        if !does_line(alloc, trie, line)? {
+            return Err(Fail::new(line));
+        }
+    }
+    Ok(())
+}
+
+const THREE_ROWS: &str = "
+    insert 4            1 added
+    insert 41           2 added
+    insert 411111111111 3 added
+";
+
+/// Fails at the first line that a trie of the three rows doesn't do: `insert PREFIX VALUE WHAT`, where WHAT is `added` or `present`;
+/// `card NUMBER VALUE` or `class PREFIX VALUE`, where the value is that of the longest prefix, 0 where there is none.
+fn run(alloc: Global, lines: &'static str) -> Result<(), Fail> {
+    let mut trie = Trie::new(alloc);
+    go_through(alloc, &mut trie, THREE_ROWS)?;
+    go_through(alloc, &mut trie, lines)
 }
 
 #[test]
 fn the_longest_prefix_wins(rt: HostRuntime) -> Result<(), Fail> {
-    let trie = three_rows(rt.alloc())?;
-    assert!(rt; found(&trie, "4111111111111111")? == 3);
-    assert!(rt; found(&trie, "41111111")? == 2);
-    assert!(rt; found(&trie, "4211111111111111")? == 1);
-    assert!(rt; found(&trie, "5555555555554444")? == 0);
-    Ok(())
+    run(
+        rt.alloc(),
+        "
+            card 4111111111111111 3
+            card 41111111         2
+            card 4211111111111111 1
+            card 5555555555554444 0
+        ",
+    )
 }
 
 #[test]
 fn the_longest_prefix_of_a_class_wins(rt: HostRuntime) -> Result<(), Fail> {
-    let trie = three_rows(rt.alloc())?;
-    assert!(rt; found_at(&trie, "4111")? == 2);
-    assert!(rt; found_at(&trie, "5")? == 0);
-    Ok(())
+    run(
+        rt.alloc(),
+        "
+            class 4111 2
+            class 5    0
+        ",
+    )
 }
 
 #[test]
 fn a_prefix_that_is_there_is_refused(rt: HostRuntime) -> Result<(), Fail> {
-    let mut trie = three_rows(rt.alloc())?;
-    assert!(rt; insert(&mut trie, "41", 9)? == Some(Fault::Present));
-    assert!(rt; found(&trie, "41111111")? == 2);
-    assert!(rt; insert(&mut trie, "5", 9)? == None);
-    assert!(rt; found(&trie, "5555555555554444")? == 9);
-    Ok(())
+    run(
+        rt.alloc(),
+        "
+            insert 41 9 present
+            card 41111111 2
+            insert 5 9 added
+            card 5555555555554444 9
+        ",
+    )
 }
 
 /// The row with the longest prefix by a search of all rows.
@@ -93,12 +138,16 @@ fn longest_in(rows: &[Prefix], card: &Card) -> Option<Prefix> {
     found
 }
 
+fn numbered(alloc: Global, number: u32) -> Result<Prefix, Fail> {
+    let text = format!(in alloc; "{number}")?;
+    prefix(text.as_str())
+}
+
 /// The prefixes 1 to 4,096: many begin others.
 fn many_rows(alloc: Global) -> Result<Vec<Prefix>, Fail> {
     let mut rows = Vec::new(alloc);
     for number in 1..4_097u32 {
-        let text = format!(in alloc; "{number}")?;
-        rows.push(prefix(text.as_str())?)?;
+        rows.push(numbered(alloc, number)?)?;
     }
     Ok(rows)
 }
@@ -123,18 +172,29 @@ fn is_same(trie: &Trie<u32>, rows: &[Prefix], card: &Card) -> bool {
     looked <= 13 && row == longest_in(rows, card)
 }
 
-#[test]
-fn as_a_search_of_4096_rows_finds(rt: HostRuntime) -> Result<(), Fail> {
-    let alloc = rt.alloc();
-    let rows = many_rows(alloc)?;
-    let trie = trie_of(alloc, &rows)?;
+/// A card of the last sixteen digits of a number.
+fn card_of(alloc: Global, number: u64) -> Result<Card, Fail> {
+    let text = format!(in alloc; "{:016}", number % 10_000_000_000_000_000)?;
+    card(text.as_str())
+}
+
+/// Fails at the first of a thousand cards whose row is another.
+fn all_same(alloc: Global, trie: &Trie<u32>, rows: &[Prefix]) -> Result<(), Fail> {
     let mut number: u64 = 1;
     for _ in 0..1_000 {
         number = number
             .wrapping_mul(6_364_136_223_846_793_005)
             .wrapping_add(1_442_695_040_888_963_407);
-        let text = format!(in alloc; "{:016}", number % 10_000_000_000_000_000)?;
-        assert!(rt; is_same(&trie, &rows, &card(text.as_str())?));
+        if !is_same(trie, rows, &card_of(alloc, number)?) {
+            return Err("another row".into());
+        }
     }
     Ok(())
+}
+
+#[test]
+fn as_a_search_of_4096_rows_finds(rt: HostRuntime) -> Result<(), Fail> {
+    let rows = many_rows(rt.alloc())?;
+    let trie = trie_of(rt.alloc(), rows.as_slice())?;
+    all_same(rt.alloc(), &trie, rows.as_slice())
 }
