@@ -1,8 +1,9 @@
-//! A node and the inputs of the tests. Nothing is promised of these functions, so that a test is proved fast.
-use crate::messages::Words;
+//! A node and the steps of the tests. Nothing is promised of these functions, so that they are proved fast.
+use crate::lines::{Given, Line, Reader, Wanted};
 use card_digits::{Amount, Card, DateLabel, LinkNo, NodeNo};
 use iso_message::Code;
-use net_tables::{Tables, read_tables};
+use net_rows::Tables;
+use net_tables::read_tables;
 use network_law::StepFault;
 use rank_cert::{Cert, read_cert};
 use request_book::Way;
@@ -12,43 +13,169 @@ use std::test::Fail;
 use switch_node::{Case, Input, Node, Output, Outputs};
 use table_checker::check;
 
-/// An output as a test writes it: links by their place in the tables.
-#[derive(Clone, Copy)]
-pub(crate) enum Wanted {
-    Put(usize, u64, Words),
-    Answer(Words),
-    Ask(u64, Words),
-    Post(Words),
+fn tables_of(alloc: Global, text: &[u8]) -> Result<Tables, Fail> {
+    Ok(read_tables(alloc, text).ok().ok_or("tables")?)
 }
 
-/// An input as a test writes it.
-#[derive(Clone, Copy)]
-pub(crate) enum Given {
-    Enter(Words),
-    Take(usize, u64, Words),
-    LinkDown(usize),
-    LinkUp(usize),
-    /// Some ticks, of which all but the last have no outputs.
-    Ticks(u64),
-    Host(u64, &'static str),
-    /// To lend the second node an amount, for the card and date of the tests.
-    Lend(&'static str),
+fn sample_tables(alloc: Global, sample: Sample) -> Result<Tables, Fail> {
+    tables_of(alloc, sample.tables(alloc)?.as_bytes())
 }
 
-/// A line of a test.
-#[derive(Clone, Copy)]
-pub(crate) enum Step {
-    /// An input that is accepted.
-    In(Given),
-    /// The next output of the last input. All outputs have to be named.
-    Out(Wanted),
-    /// An input that is refused, after which the trace is as long as before.
-    Refused(Given, StepFault),
+fn ranks_of(alloc: Global, text: &[u8]) -> Result<Cert, Fail> {
+    Ok(read_cert(alloc, text).ok().ok_or("ranks")?)
 }
 
-fn is_put(way: Way, place: usize, serial: u64) -> bool {
+fn node_of(tables: &Tables, name: &str) -> Result<NodeNo, Fail> {
+    Ok(tables.node_of(name.as_bytes()).ok_or("node")?)
+}
+
+/// A node of tables that the checker accepts with these ranks.
+fn node_at<'t>(
+    alloc: Global,
+    tables: &'t Tables,
+    cert: &Cert,
+    place: NodeNo,
+) -> Result<Node<'t>, Fail> {
+    if place.place() >= tables.nodes().len() {
+        return Err("node".into());
+    }
+    match check(alloc, tables, cert) {
+        Ok(accepted) => Ok(Node::new(alloc, &accepted, place)?),
+        Err(_) => Err("not accepted".into()),
+    }
+}
+
+fn card_of(text: &str) -> Result<Card, Fail> {
+    Ok(Card::read(text.as_bytes()).ok().ok_or("card")?)
+}
+
+fn date_of(text: &str) -> Result<DateLabel, Fail> {
+    Ok(DateLabel::read(text.as_bytes()).ok().ok_or("date")?)
+}
+
+fn amount_of(text: &str) -> Result<Amount, Fail> {
+    Ok(Amount::read(text.as_bytes()).ok().ok_or("amount")?)
+}
+
+/// A node, and the outputs and the fault of its last step.
+#[derive(Drop)]
+struct Stepped<'t> {
+    alloc: Global,
+    node: Node<'t>,
+    outputs: Outputs,
+    fault: Option<StepFault>,
+}
+
+impl<'t> Stepped<'t> {
+    fn new(
+        alloc: Global,
+        tables: &'t Tables,
+        cert: &Cert,
+        place: NodeNo,
+    ) -> Result<Stepped<'t>, Fail> {
+        Ok(Stepped {
+            alloc,
+            node: node_at(alloc, tables, cert, place)?,
+            outputs: Outputs::new(alloc),
+            fault: None,
+        })
+    }
+
+    fn enter(&mut self, text: &str) -> Result<(), Fail> {
+        let bytes = text.as_bytes().to_vec(self.alloc)?;
+        let input = Input::new(Case::Enter(bytes));
+        self.fault = self.node.step(input, &mut self.outputs).err();
+        Ok(())
+    }
+
+    fn take(&mut self, link: LinkNo, serial: u64, text: &str) -> Result<(), Fail> {
+        let bytes = text.as_bytes().to_vec(self.alloc)?;
+        if !self.node.has_link(link) {
+            return Err("another node's link".into());
+        }
+        let input = Input::new(Case::Take(link, serial, bytes));
+        self.fault = self.node.step(input, &mut self.outputs).err();
+        Ok(())
+    }
+
+    fn link_down(&mut self, link: LinkNo) -> Result<(), Fail> {
+        if !self.node.has_link(link) {
+            return Err("another node's link".into());
+        }
+        let input = Input::new(Case::LinkDown(link));
+        self.fault = self.node.step(input, &mut self.outputs).err();
+        Ok(())
+    }
+
+    fn link_up(&mut self, link: LinkNo) -> Result<(), Fail> {
+        if !self.node.has_link(link) {
+            return Err("another node's link".into());
+        }
+        let input = Input::new(Case::LinkUp(link));
+        self.fault = self.node.step(input, &mut self.outputs).err();
+        Ok(())
+    }
+
+    fn tick(&mut self) {
+        let input = Input::new(Case::Tick);
+        self.fault = self.node.step(input, &mut self.outputs).err();
+    }
+
+    fn ticks(&mut self, count: u64) -> Result<(), Fail> {
+        self.outputs.clear();
+        for _ in 0..count {
+            if !self.outputs.as_slice().is_empty() {
+                return Err("outputs before the last tick".into());
+            }
+            self.tick();
+            if self.fault.is_some() {
+                return Ok(());
+            }
+        }
+        Ok(())
+    }
+
+    fn host(&mut self, ask: u64, text: &str) -> Result<(), Fail> {
+        let code = Code::read(text.as_bytes()).ok_or("code")?;
+        let _text = code.as_slice();
+        let input = Input::new(Case::HostAnswer(ask, code));
+        self.fault = self.node.step(input, &mut self.outputs).err();
+        Ok(())
+    }
+
+    fn date(&mut self, text: &str) -> Result<(), Fail> {
+        let date = date_of(text)?;
+        let _digits = date.digits();
+        let input = Input::new(Case::NewDate(date));
+        self.fault = self.node.step(input, &mut self.outputs).err();
+        Ok(())
+    }
+
+    fn lend(&mut self, node: NodeNo, card: &str, date: &str, amount: &str) -> Result<(), Fail> {
+        let (card, date, amount) = (card_of(card)?, date_of(date)?, amount_of(amount)?);
+        let (_card, _date, _amount) = (card.digits(), date.digits(), amount.value());
+        let input = Input::new(Case::Lend(node, card, date, amount));
+        self.fault = self.node.step(input, &mut self.outputs).err();
+        Ok(())
+    }
+
+    fn give(&mut self, given: &Given) -> Result<(), Fail> {
+        match given {
+            Given::Enter(text) => self.enter(text.as_str()),
+            Given::Take(link, serial, text) => self.take(*link, *serial, text.as_str()),
+            Given::LinkDown(link) => self.link_down(*link),
+            Given::LinkUp(link) => self.link_up(*link),
+            Given::Ticks(count) => self.ticks(*count),
+            Given::Host(ask, code) => self.host(*ask, code),
+            Given::Date(date) => self.date(date),
+            Given::Lend(node, card, date, amount) => self.lend(*node, card, date, amount),
+        }
+    }
+}
+
+fn is_put(way: Way, link: LinkNo, serial: u64) -> bool {
     match way {
-        Way::Put(link, number) => link.place() == place && number == serial,
+        Way::Put(other, number) => other.place() == link.place() && number == serial,
         _ => false,
     }
 }
@@ -74,56 +201,49 @@ fn is_posted(way: Way) -> bool {
     }
 }
 
-fn is_wanted(alloc: Global, output: &Output, wanted: Wanted) -> Result<bool, Fail> {
+fn same_way(a: Way, b: Way) -> bool {
+    match a {
+        Way::Put(link, serial) => is_put(b, link, serial),
+        Way::Answer => is_answered(b),
+        Way::Ask(number) => is_asked(b, number),
+        Way::Post => is_posted(b),
+    }
+}
+
+fn is_wanted(output: &Output, wanted: &Wanted) -> bool {
     let way = output.way();
-    let (goes, words) = match wanted {
-        Wanted::Put(place, serial, words) => (is_put(way, place, serial), words),
-        Wanted::Answer(words) => (is_answered(way), words),
-        Wanted::Ask(number, words) => (is_asked(way, number), words),
-        Wanted::Post(words) => (is_posted(way), words),
+    let (goes, text) = match wanted {
+        Wanted::Put(link, serial, text) => (is_put(way, *link, *serial), text),
+        Wanted::Answer(text) => (is_answered(way), text),
+        Wanted::Ask(number, text) => (is_asked(way, *number), text),
+        Wanted::Post(text) => (is_posted(way), text),
     };
-    let text = words.written(alloc)?;
-    Ok(goes && output.bytes() == text.as_bytes())
+    goes && output.bytes() == text.as_bytes()
 }
 
-fn tables_in(alloc: Global, text: &[u8]) -> Result<Tables, Fail> {
-    Ok(read_tables(alloc, text).ok().ok_or("tables")?)
-}
-
-fn tables(alloc: Global, sample: Sample) -> Result<Tables, Fail> {
-    tables_in(alloc, sample.tables(alloc)?.as_bytes())
-}
-
-fn ranks(alloc: Global, text: &[u8]) -> Result<Cert, Fail> {
-    Ok(read_cert(alloc, text).ok().ok_or("ranks")?)
-}
-
-fn node_of(tables: &Tables, name: &str) -> Result<NodeNo, Fail> {
-    Ok(tables.node_of(name.as_bytes()).ok_or("node")?)
-}
-
-/// A node of tables that the checker accepts with these ranks.
-fn node<'t>(
-    alloc: Global,
-    tables: &'t Tables,
-    cert: &Cert,
-    place: NodeNo,
-) -> Result<Node<'t>, Fail> {
-    if place.place() >= tables.nodes().len() {
-        return Err("node".into());
+fn same_outputs(some: &Outputs, others: &Outputs) -> bool {
+    let (some, others) = (some.as_slice(), others.as_slice());
+    let mut same = some.len() == others.len();
+    for (a, b) in some.iter().zip(others) {
+        same = same && same_way(a.way(), b.way()) && a.bytes() == b.bytes();
     }
-    match check(alloc, tables, cert) {
-        Ok(accepted) => Ok(Node::new(alloc, &accepted, place)?),
-        Err(_) => Err("not accepted".into()),
-    }
+    same
 }
 
-/// A node, and the outputs of its last step.
+fn same_traces(node: &Node, other: &Node) -> bool {
+    let (some, others) = (node.trace(), other.trace());
+    let mut same = some.len() == others.len();
+    for (a, b) in some.iter().zip(others) {
+        same = same && same_outputs(a.outputs(), b.outputs());
+    }
+    same
+}
+
+/// A node, and another one to which everything comes but what the first refuses.
 #[derive(Drop)]
 struct Desk<'t> {
-    alloc: Global,
-    node: Node<'t>,
-    outputs: Outputs,
+    node: Stepped<'t>,
+    twin: Stepped<'t>,
     // How many of the outputs the test named.
     named: usize,
 }
@@ -132,169 +252,88 @@ impl<'t> Desk<'t> {
     fn new(
         alloc: Global,
         tables: &'t Tables,
-        certificate: &[u8],
-        name: &str,
+        cert: &Cert,
+        place: NodeNo,
     ) -> Result<Desk<'t>, Fail> {
-        let place = node_of(tables, name)?;
-        let cert = ranks(alloc, certificate)?;
-        let node = node(alloc, tables, &cert, place)?;
         Ok(Desk {
-            alloc,
-            node,
-            outputs: Outputs::new(alloc),
+            node: Stepped::new(alloc, tables, cert, place)?,
+            twin: Stepped::new(alloc, tables, cert, place)?,
             named: 0,
         })
     }
 
-    fn link(&self, place: usize) -> Result<LinkNo, Fail> {
-        if place >= 256 {
-            return Err("link".into());
-        }
-        let link = LinkNo::new(place);
-        Ok(link)
+    /// Whether the test named all that came of the last input.
+    fn is_done(&self) -> bool {
+        self.node.fault.is_none() && self.named == self.node.outputs.as_slice().len()
     }
 
-    fn copied(&self, words: Words) -> Result<Vec<u8>, Fail> {
-        let text = words.written(self.alloc)?;
-        Ok(text.as_bytes().to_vec(self.alloc)?)
-    }
-
-    fn enter(&mut self, words: Words) -> Result<Option<StepFault>, Fail> {
-        let bytes = self.copied(words)?;
-        let input = Input::new(Case::Enter(bytes));
-        Ok(self.node.step(input, &mut self.outputs).err())
-    }
-
-    fn take(&mut self, place: usize, serial: u64, words: Words) -> Result<Option<StepFault>, Fail> {
-        let link = self.link(place)?;
-        let bytes = self.copied(words)?;
-        if !self.node.has_link(link) {
-            return Err("another node's link".into());
-        }
-        let input = Input::new(Case::Take(link, serial, bytes));
-        Ok(self.node.step(input, &mut self.outputs).err())
-    }
-
-    fn link_down(&mut self, place: usize) -> Result<Option<StepFault>, Fail> {
-        let link = self.link(place)?;
-        if !self.node.has_link(link) {
-            return Err("another node's link".into());
-        }
-        let input = Input::new(Case::LinkDown(link));
-        Ok(self.node.step(input, &mut self.outputs).err())
-    }
-
-    fn link_up(&mut self, place: usize) -> Result<Option<StepFault>, Fail> {
-        let link = self.link(place)?;
-        if !self.node.has_link(link) {
-            return Err("another node's link".into());
-        }
-        let input = Input::new(Case::LinkUp(link));
-        Ok(self.node.step(input, &mut self.outputs).err())
-    }
-
-    fn tick(&mut self) -> Option<StepFault> {
-        self.node
-            .step(Input::new(Case::Tick), &mut self.outputs)
-            .err()
-    }
-
-    fn ticks(&mut self, count: u64) -> Result<Option<StepFault>, Fail> {
-        self.outputs.clear();
-        for _ in 0..count {
-            if !self.outputs.as_slice().is_empty() {
-                return Err("outputs before the last tick".into());
-            }
-            let fault = self.tick();
-            if fault.is_some() {
-                return Ok(fault);
-            }
-        }
-        Ok(None)
-    }
-
-    fn host(&mut self, ask: u64, text: &str) -> Result<Option<StepFault>, Fail> {
-        let code = Code::read(text.as_bytes()).ok_or("code")?;
-        let _text = code.as_slice();
-        let input = Input::new(Case::HostAnswer(ask, code));
-        Ok(self.node.step(input, &mut self.outputs).err())
-    }
-
-    fn lend(&mut self, units: &str) -> Result<Option<StepFault>, Fail> {
-        let card = Card::read(b"4111111111111111").ok().ok_or("card")?;
-        let date = DateLabel::read(b"0314").ok().ok_or("date")?;
-        let amount = Amount::read(units.as_bytes()).ok().ok_or("amount")?;
-        let (_digits, _value) = (card.digits(), amount.value());
-        let input = Input::new(Case::Lend(NodeNo::new(1), card, date, amount));
-        Ok(self.node.step(input, &mut self.outputs).err())
-    }
-
-    fn give(&mut self, given: Given) -> Result<Option<StepFault>, Fail> {
-        match given {
-            Given::Enter(words) => self.enter(words),
-            Given::Take(place, serial, words) => self.take(place, serial, words),
-            Given::LinkDown(place) => self.link_down(place),
-            Given::LinkUp(place) => self.link_up(place),
-            Given::Ticks(count) => self.ticks(count),
-            Given::Host(ask, code) => self.host(ask, code),
-            Given::Lend(amount) => self.lend(amount),
-        }
-    }
-
-    fn all_named(&self) -> bool {
-        self.named == self.outputs.as_slice().len()
-    }
-
-    fn is_accepted(&mut self, given: Given) -> Result<bool, Fail> {
-        let all_named = self.all_named();
-        let fault = self.give(given)?;
+    /// Gives both nodes an input. What the first accepts has the same outputs at the other one.
+    fn give(&mut self, given: &Given) -> Result<bool, Fail> {
+        let done = self.is_done();
         self.named = 0;
-        Ok(all_named && fault.is_none())
+        self.node.give(given)?;
+        if self.node.fault.is_some() {
+            return Ok(done);
+        }
+        self.twin.give(given)?;
+        Ok(
+            done && self.twin.fault.is_none()
+                && same_outputs(&self.node.outputs, &self.twin.outputs),
+        )
     }
 
-    fn is_refused(&mut self, given: Given, wanted: StepFault) -> Result<bool, Fail> {
-        let all_named = self.all_named();
-        let before = self.node.trace().len();
-        let fault = self.give(given)?;
-        self.named = 0;
-        let unchanged = self.node.trace().len() == before;
-        Ok(all_named && fault == Some(wanted) && unchanged && self.all_named())
-    }
-
-    fn is_next(&mut self, wanted: Wanted) -> Result<bool, Fail> {
-        let Some(output) = self.outputs.as_slice().get(self.named) else {
-            return Ok(false);
+    fn is_next(&mut self, wanted: &Wanted) -> bool {
+        let Some(output) = self.node.outputs.as_slice().get(self.named) else {
+            return false;
         };
-        let found = is_wanted(self.alloc, output, wanted)?;
+        let found = is_wanted(output, wanted);
         self.named = self.named.saturating_add(1);
-        Ok(found)
+        found
     }
 
-    fn does(&mut self, step: Step) -> Result<bool, Fail> {
-        match step {
-            Step::In(given) => self.is_accepted(given),
-            Step::Out(wanted) => self.is_next(wanted),
-            Step::Refused(given, fault) => self.is_refused(given, fault),
+    /// Whether the last input was refused so, nothing was put out, and the trace is what it was.
+    fn is_refused(&mut self, wanted: StepFault) -> bool {
+        let found = self.node.fault == Some(wanted);
+        self.node.fault = None;
+        found
+            && self.node.outputs.as_slice().is_empty()
+            && same_traces(&self.node.node, &self.twin.node)
+    }
+
+    fn does(&mut self, line: &Line) -> Result<bool, Fail> {
+        match line {
+            Line::Aside => Ok(true),
+            Line::In(given) => self.give(given),
+            Line::Out(wanted) => Ok(self.is_next(wanted)),
+            Line::Refused(fault) => Ok(self.is_refused(*fault)),
         }
     }
 }
 
-/// The first line of a test that a node of the network doesn't do; the number of lines, where outputs are left over.
-pub(crate) fn first_wrong(
+fn run_lines(reader: &mut Reader, desk: &mut Desk, text: &'static str) -> Result<(), Fail> {
+    for line in text.lines() {
+        let read = reader.read(line)?;
+        if !desk.does(&read)? {
+            return Err(Fail::new(line));
+        }
+    }
+    if desk.is_done() {
+        return Ok(());
+    }
+    Err("left over".into())
+}
+
+/// Fails at the first line of a test's text that the node of this name doesn't do, and where something is left over.
+pub(crate) fn run(
     alloc: Global,
     sample: Sample,
     name: &str,
-    steps: &[Step],
-) -> Result<Option<usize>, Fail> {
-    let tables = tables(alloc, sample)?;
-    let mut desk = Desk::new(alloc, &tables, sample.ranks().as_bytes(), name)?;
-    for (place, step) in steps.iter().enumerate() {
-        if !desk.does(*step)? {
-            return Ok(Some(place));
-        }
-    }
-    if desk.all_named() {
-        return Ok(None);
-    }
-    Ok(Some(steps.len()))
+    text: &'static str,
+) -> Result<(), Fail> {
+    let tables = sample_tables(alloc, sample)?;
+    let cert = ranks_of(alloc, sample.ranks().as_bytes())?;
+    let place = node_of(&tables, name)?;
+    let mut reader = Reader::new(alloc, &tables);
+    let mut desk = Desk::new(alloc, &tables, &cert, place)?;
+    run_lines(&mut reader, &mut desk, text)
 }

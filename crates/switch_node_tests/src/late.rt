@@ -1,6 +1,5 @@
 //! Answers that come late, and links that go down.
-use crate::desk::{Given, Step, Wanted, first_wrong};
-use crate::messages::{Form, ONE, Purchase};
+use crate::desk::run;
 use sample_networks::Sample;
 use std::test::Fail;
 
@@ -8,117 +7,101 @@ use std::test::Fail;
 /// request is never put on another link.
 #[test]
 fn a_link_goes_down(rt: HostRuntime) -> Result<(), Fail> {
-    let wrong = first_wrong(
+    run(
         rt.alloc(),
         Sample::Diamond,
         "A",
-        &[
-            Step::In(Given::Enter(ONE.is(Form::Entered))),
-            Step::Out(Wanted::Put(0, 1, ONE.is(Form::Forwarded))),
-            Step::In(Given::LinkDown(0)),
-            Step::Out(Wanted::Put(1, 1, ONE.is(Form::Reversal("0420", "68")))),
-            Step::Out(Wanted::Answer(ONE.is(Form::Answered("00")))),
-            Step::Out(Wanted::Put(1, 2, ONE.is(Form::StandIn("0120")))),
-        ],
-    )?;
-    assert_eq!(rt; wrong, None);
-    Ok(())
+        "
+            purchase one trace 000001 amount 000000001000
+            enter one request 0100
+                put AP 1 one dated_request 0100
+            link_down AP
+                put AQ 1 one own_reversal 0420 1001 68
+                answer one answered 00
+                put AQ 2 one stand_in 0120 1001 00
+        ",
+    )
 }
 
 #[test]
 fn a_link_goes_down_without_a_limit(rt: HostRuntime) -> Result<(), Fail> {
-    let wrong = first_wrong(
+    run(
         rt.alloc(),
         Sample::DiamondWithoutLimit,
         "A",
-        &[
-            Step::In(Given::Enter(ONE.is(Form::Entered))),
-            Step::Out(Wanted::Put(0, 1, ONE.is(Form::Forwarded))),
-            Step::In(Given::LinkDown(0)),
-            Step::Out(Wanted::Put(1, 1, ONE.is(Form::Reversal("0420", "68")))),
-            Step::Out(Wanted::Answer(ONE.is(Form::Answered("91")))),
-        ],
-    )?;
-    assert_eq!(rt; wrong, None);
-    Ok(())
+        "
+            purchase one trace 000001 amount 000000001000
+            enter one request 0100
+                put AP 1 one dated_request 0100
+            link_down AP
+                put AQ 1 one own_reversal 0420 1001 68
+                answer one answered 91
+        ",
+    )
 }
 
 /// With its first link down a request is put on the second, and on the first again once that is up.
 #[test]
 fn a_link_comes_up(rt: HostRuntime) -> Result<(), Fail> {
-    let wrong = first_wrong(
+    run(
         rt.alloc(),
         Sample::Diamond,
         "A",
-        &[
-            Step::In(Given::LinkDown(0)),
-            Step::In(Given::Enter(ONE.is(Form::Entered))),
-            Step::Out(Wanted::Put(1, 1, ONE.is(Form::Forwarded))),
-            Step::In(Given::LinkUp(0)),
-            Step::In(Given::Enter(Purchase::of("000002", "000000001000").is(Form::Entered))),
-            Step::Out(Wanted::Put(
-                0,
-                1,
-                Purchase::of("000002", "000000001000").is(Form::Forwarded),
-            )),
-        ],
-    )?;
-    assert_eq!(rt; wrong, None);
-    Ok(())
+        "
+            purchase one trace 000001 amount 000000001000
+            purchase two trace 000002 amount 000000001000
+            link_down AP
+            enter one request 0100
+                put AQ 1 one dated_request 0100
+            link_up AP
+            enter two request 0100
+                put AP 1 two dated_request 0100
+        ",
+    )
 }
 
 /// An approval after another answer is reversed, once.
 #[test]
 fn a_late_approval(rt: HostRuntime) -> Result<(), Fail> {
-    let wrong = first_wrong(
+    run(
         rt.alloc(),
         Sample::TwoNodes,
         "A",
-        &[
-            Step::In(Given::Enter(ONE.is(Form::Entered))),
-            Step::Out(Wanted::Put(0, 1, ONE.is(Form::Forwarded))),
-            Step::In(Given::Take(0, 1, ONE.is(Form::Answered("96")))),
-            Step::Out(Wanted::Answer(ONE.is(Form::Answered("96")))),
-            Step::In(Given::Take(0, 2, ONE.is(Form::Answered("00")))),
-            Step::Out(Wanted::Put(0, 2, ONE.is(Form::Reversal("0420", "68")))),
-            Step::In(Given::Take(0, 2, ONE.is(Form::Answered("00")))),
-        ],
-    )?;
-    assert_eq!(rt; wrong, None);
-    Ok(())
+        "
+            purchase one trace 000001 amount 000000001000
+            enter one request 0100
+                put AH 1 one dated_request 0100
+            take AH 1 one answered 96
+                answer one answered 96
+            take AH 2 one answered 00
+                put AH 2 one own_reversal 0420 1001 68
+            take AH 2 one answered 00
+        ",
+    )
 }
 
 /// Only the requests of the link fail, in their order; another's is still pending.
 #[test]
 fn requests_of_one_link(rt: HostRuntime) -> Result<(), Fail> {
-    let wrong = first_wrong(
+    run(
         rt.alloc(),
         Sample::TwoHomes,
         "A",
-        &[
-            Step::In(Given::Enter(ONE.is(Form::Entered))),
-            Step::Out(Wanted::Put(0, 1, ONE.is(Form::Forwarded))),
-            Step::In(Given::Enter(Purchase::of_second_home("000002").is(Form::Entered))),
-            Step::Out(Wanted::Put(1, 1, Purchase::of_second_home("000002").is(Form::Forwarded))),
-            Step::In(Given::Enter(Purchase::of("000003", "000000001000").is(Form::Entered))),
-            Step::Out(Wanted::Put(
-                0,
-                2,
-                Purchase::of("000003", "000000001000").is(Form::Forwarded),
-            )),
-            Step::In(Given::LinkDown(0)),
-            Step::Out(Wanted::Answer(ONE.is(Form::Answered("91")))),
-            Step::Out(Wanted::Answer(Purchase::of("000003", "000000001000").is(Form::Answered(
-                "91",
-            )))),
-            Step::In(Given::Take(
-                1,
-                1,
-                Purchase::of_second_home("000002").is(Form::Answered("00")),
-            )),
-            Step::Out(Wanted::Answer(Purchase::of_second_home("000002").is(Form::Answered("00")))),
-        ],
-    )?;
-    assert_eq!(rt; wrong, None);
-    Ok(())
+        "
+            purchase one         trace 000001 amount 000000001000
+            purchase second_home trace 000002 amount 000000001000 card 5555555555554444
+            purchase three       trace 000003 amount 000000001000
+            enter one request 0100
+                put AH 1 one dated_request 0100
+            enter second_home request 0100
+                put AB 1 second_home dated_request 0100
+            enter three request 0100
+                put AH 2 three dated_request 0100
+            link_down AH
+                answer one answered 91
+                answer three answered 91
+            take AB 1 second_home answered 00
+                answer second_home answered 00
+        ",
+    )
 }

@@ -1,106 +1,97 @@
 //! Reversals that acquirers enter, and those that come by links.
-use crate::desk::{Given, Step, Wanted, first_wrong};
-use crate::messages::{Form, ONE, Purchase};
+use crate::desk::run;
 use sample_networks::Sample;
 use std::test::Fail;
 
 /// A pending request that is reversed is answered 68, and its reversal goes on; the same reversal again is known.
 #[test]
 fn a_pending_request_is_reversed(rt: HostRuntime) -> Result<(), Fail> {
-    let wrong = first_wrong(
+    run(
         rt.alloc(),
         Sample::TwoNodes,
         "A",
-        &[
-            Step::In(Given::Enter(ONE.is(Form::Entered))),
-            Step::Out(Wanted::Put(0, 1, ONE.is(Form::Forwarded))),
-            Step::In(Given::Enter(ONE.is(Form::Reversed("0400")))),
-            Step::Out(Wanted::Answer(ONE.is(Form::Answered("68")))),
-            Step::Out(Wanted::Answer(ONE.is(Form::ReversalReply("0410", "00")))),
-            Step::Out(Wanted::Put(0, 2, ONE.is(Form::Reversed("0420")))),
-            Step::In(Given::Enter(ONE.is(Form::Reversed("0400")))),
-            Step::Out(Wanted::Answer(ONE.is(Form::ReversalReply("0410", "00")))),
-        ],
-    )?;
-    assert_eq!(rt; wrong, None);
-    Ok(())
+        "
+            purchase one trace 000001 amount 000000001000
+            enter one request 0100
+                put AH 1 one dated_request 0100
+            enter one reversal 0400
+                answer one answered 68
+                answer one reversal_response 0410 00
+                put AH 2 one reversal 0420
+            enter one reversal 0400
+                answer one reversal_response 0410 00
+        ",
+    )
 }
 
 /// The home posts the reversal; the request that comes after it is answered 68, and the host isn't asked.
 #[test]
 fn a_reversal_comes_first(rt: HostRuntime) -> Result<(), Fail> {
-    let wrong = first_wrong(
+    run(
         rt.alloc(),
         Sample::TwoNodes,
         "H",
-        &[
-            Step::In(Given::Take(0, 2, ONE.is(Form::Reversed("0420")))),
-            Step::Out(Wanted::Put(0, 1, ONE.is(Form::ReversalReply("0430", "00")))),
-            Step::Out(Wanted::Post(ONE.is(Form::Reversed("0420")))),
-            Step::In(Given::Take(0, 1, ONE.is(Form::Forwarded))),
-            Step::Out(Wanted::Put(0, 2, ONE.is(Form::Answered("68")))),
-        ],
-    )?;
-    assert_eq!(rt; wrong, None);
-    Ok(())
+        "
+            purchase one trace 000001 amount 000000001000
+            take AH 2 one reversal 0420
+                put AH 1 one reversal_response 0430 00
+                post one reversal 0420
+            take AH 1 one dated_request 0100
+                put AH 2 one answered 68
+        ",
+    )
 }
 
 /// A reversal of a key with other content gets 94.
 #[test]
 fn a_reversal_of_another_amount(rt: HostRuntime) -> Result<(), Fail> {
-    let wrong = first_wrong(
+    run(
         rt.alloc(),
         Sample::TwoNodes,
         "A",
-        &[
-            Step::In(Given::Enter(ONE.is(Form::Entered))),
-            Step::Out(Wanted::Put(0, 1, ONE.is(Form::Forwarded))),
-            Step::In(Given::Enter(Purchase::of("000001", "000000002000").is(Form::Reversed(
-                "0400",
-            )))),
-            Step::Out(Wanted::Answer(Purchase::of("000001", "000000002000").is(Form::ReversalReply(
-                "0410", "94",
-            )))),
-        ],
-    )?;
-    assert_eq!(rt; wrong, None);
-    Ok(())
+        "
+            purchase one          trace 000001 amount 000000001000
+            purchase other_amount trace 000001 amount 000000002000
+            enter one request 0100
+                put AH 1 one dated_request 0100
+            enter other_amount reversal 0400
+                answer other_amount reversal_response 0410 94
+        ",
+    )
 }
 
 /// A node's own reversal is posted once by the home, however often it comes.
 #[test]
 fn a_reversal_is_posted_once(rt: HostRuntime) -> Result<(), Fail> {
-    let wrong = first_wrong(
+    run(
         rt.alloc(),
         Sample::TwoNodes,
         "H",
-        &[
-            Step::In(Given::Take(0, 2, ONE.is(Form::Reversal("0420", "68")))),
-            Step::Out(Wanted::Put(0, 1, ONE.is(Form::Reversal("0430", "00")))),
-            Step::Out(Wanted::Post(ONE.is(Form::Reversal("0420", "68")))),
-            Step::In(Given::Take(0, 3, ONE.is(Form::Reversal("0421", "68")))),
-            Step::Out(Wanted::Put(0, 2, ONE.is(Form::Reversal("0430", "00")))),
-        ],
-    )?;
-    assert_eq!(rt; wrong, None);
-    Ok(())
+        "
+            purchase one trace 000001 amount 000000001000
+            take AH 2 one own_reversal 0420 1001 68
+                put AH 1 one own_reversal 0430 1001 00
+                post one own_reversal 0420 1001 68
+            take AH 3 one own_reversal 0421 1001 68
+                put AH 2 one own_reversal 0430 1001 00
+        ",
+    )
 }
 
 /// A node's approval is posted once by the home.
 #[test]
 fn an_approval_is_posted_once(rt: HostRuntime) -> Result<(), Fail> {
-    let wrong = first_wrong(
+    run(
         rt.alloc(),
         Sample::LimitAtA,
         "H",
-        &[
-            Step::In(Given::Take(0, 2, ONE.is(Form::StandIn("0120")))),
-            Step::Out(Wanted::Put(0, 1, ONE.is(Form::StandIn("0130")))),
-            Step::Out(Wanted::Post(ONE.is(Form::StandIn("0120")))),
-            Step::In(Given::Take(0, 3, ONE.is(Form::StandIn("0121")))),
-            Step::Out(Wanted::Put(0, 2, ONE.is(Form::StandIn("0130")))),
-        ],
-    )?;
-    assert_eq!(rt; wrong, None);
-    Ok(())
+        "
+            purchase one trace 000001 amount 000000001000
+            take AH 2 one stand_in 0120 1001 00
+                put AH 1 one stand_in 0130 1001 00
+                post one stand_in 0120 1001 00
+            take AH 3 one stand_in 0121 1001 00
+                put AH 2 one stand_in 0130 1001 00
+        ",
+    )
 }
