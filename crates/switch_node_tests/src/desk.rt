@@ -1,5 +1,5 @@
 //! A node and the steps of the tests. Nothing is promised of these functions, so that they are proved fast.
-use crate::lines::{Given, Line, Reader, Wanted};
+use crate::lines::{Given, Line, Step, Wanted, read_steps};
 use card_digits::{Amount, Card, DateLabel, LinkNo, NodeNo};
 use iso_message::Code;
 use net_rows::Tables;
@@ -308,19 +308,18 @@ impl<'t> Desk<'t> {
             Line::Refused(fault) => Ok(self.is_refused(*fault)),
         }
     }
-}
 
-fn run_lines(reader: &mut Reader, desk: &mut Desk, text: &'static str) -> Result<(), Fail> {
-    for line in text.lines() {
-        let read = reader.read(line)?;
-        if !desk.does(&read)? {
-            return Err(Fail::new(line));
+    fn run(&mut self, steps: &[Step]) -> Result<(), Fail> {
+        for step in steps {
+            if !self.does(&step.line)? {
+                return Err(Fail::new(step.text));
+            }
         }
+        if self.is_done() {
+            return Ok(());
+        }
+        Err("something is left over".into())
     }
-    if desk.is_done() {
-        return Ok(());
-    }
-    Err("left over".into())
 }
 
 /// Fails at the first line of a test's text that the node of this name doesn't do, and where something is left over.
@@ -333,7 +332,7 @@ pub(crate) fn run(
     let tables = sample_tables(alloc, sample)?;
     let cert = ranks_of(alloc, sample.ranks().as_bytes())?;
     let place = node_of(&tables, name)?;
-    let mut reader = Reader::new(alloc, &tables);
+    let steps = read_steps(alloc, &tables, text)?;
     let mut desk = Desk::new(alloc, &tables, &cert, place)?;
-    run_lines(&mut reader, &mut desk, text)
+    desk.run(steps.as_slice())
 }

@@ -94,23 +94,22 @@ fn fault(words: &[&'static str]) -> Result<StepFault, Fail> {
     }
 }
 
+/// A line, as it is written and as it is read.
+#[derive(Drop)]
+pub(crate) struct Step {
+    pub(crate) text: &'static str,
+    pub(crate) line: Line,
+}
+
 /// Reads lines, and keeps the purchases that they name.
 #[derive(Drop)]
-pub(crate) struct Reader<'t> {
+struct Reader<'t> {
     alloc: Global,
     tables: &'t Tables,
     purchases: Vec<Purchase>,
 }
 
 impl<'t> Reader<'t> {
-    pub(crate) fn new(alloc: Global, tables: &'t Tables) -> Reader<'t> {
-        Reader {
-            alloc,
-            tables,
-            purchases: Vec::new(alloc),
-        }
-    }
-
     fn link(&self, name: &str) -> Result<LinkNo, Fail> {
         Ok(self.tables.link_of(name.as_bytes()).ok_or("link")?)
     }
@@ -203,8 +202,27 @@ impl<'t> Reader<'t> {
         }
     }
 
-    pub(crate) fn read(&mut self, line: &'static str) -> Result<Line, Fail> {
-        let words = words(self.alloc, line)?;
-        self.of_words(words.as_slice())
+    fn read(&mut self, text: &'static str) -> Result<Step, Fail> {
+        let words = words(self.alloc, text)?;
+        let line = self.of_words(words.as_slice())?;
+        Ok(Step { text, line })
     }
+}
+
+/// The lines of a test's text, in order.
+pub(crate) fn read_steps(
+    alloc: Global,
+    tables: &Tables,
+    text: &'static str,
+) -> Result<Vec<Step>, Fail> {
+    let mut reader = Reader {
+        alloc,
+        tables,
+        purchases: Vec::new(alloc),
+    };
+    let mut steps = Vec::new(alloc);
+    for line in text.lines() {
+        steps.push(reader.read(line)?)?;
+    }
+    Ok(steps)
 }
