@@ -11,6 +11,7 @@ fn each_date_has_its_sum(rt: HostRuntime) -> Result<(), Fail> {
         Sample::LimitAtHome,
         "A",
         "
+            // The most in one approval, and the rest of the day's 1,000.
             purchase six            trace 000001 amount 000000000600
             purchase four           trace 000002 amount 000000000400
             purchase one_more       trace 000003 amount 000000000001

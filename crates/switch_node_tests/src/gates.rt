@@ -37,9 +37,12 @@ fn elements_that_go_on(rt: HostRuntime) -> Result<(), Fail> {
         Sample::LimitAtHome,
         "A",
         "
+            // A request with a date, a forwarder, a reference, a terminal and an element 48.
             enter text 010072220001888180001641111111111111110000000000000001000314091530000001010106400001049999REFERENCE 01TERMINAL003abc840
+            // With the gate's date, and without the forwarder.
                 put AP 1 text 010072220001088180001641111111111111110000000000000001000314091530000001031406400001REFERENCE 01TERMINAL003abc840
             ticks 3
+            // The gate's reversal, its answer, and its advice that it approved.
                 put AP 2 text 0420F22200018A80800000000040000000001641111111111111110000000000000001000314091530000001031406400001041001REFERENCE 0168TERMINAL840010000000103140915300000040000100000000000
                 answer text 0110722200010A8080001641111111111111110000000000000001000314091530000001031406400001REFERENCE 0100TERMINAL840
                 put AP 3 text 0120722200018A8080001641111111111111110000000000000001000314091530000001031406400001041001REFERENCE 0100TERMINAL840
@@ -95,6 +98,7 @@ fn what_is_declined(rt: HostRuntime) -> Result<(), Fail> {
         Sample::LimitAtHome,
         "A",
         "
+            // Only H knows the way of the first card. The others are above the most in one approval.
             purchase no_route       trace 000002 amount 000000000100 card 5555555555554444 currency 978
             purchase seven_in_euros trace 000001 amount 000000000601 currency 978
             purchase seven          trace 000005 amount 000000000601

@@ -36,6 +36,7 @@ fn a_late_host(rt: HostRuntime) -> Result<(), Fail> {
         Sample::LimitAtHome,
         "H",
         "
+            // The second is above the limit of H.
             purchase at_home    trace 000001 amount 000000000100 acquirer 400002
             purchase above_home trace 000002 amount 000000000501 acquirer 400002
             enter at_home request 0100

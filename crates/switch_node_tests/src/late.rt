@@ -23,6 +23,7 @@ fn a_link_goes_down(rt: HostRuntime) -> Result<(), Fail> {
     )
 }
 
+/// The same where no node may approve by itself: the answer is 91.
 #[test]
 fn a_link_goes_down_without_a_limit(rt: HostRuntime) -> Result<(), Fail> {
     run(

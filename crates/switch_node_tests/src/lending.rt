@@ -47,6 +47,7 @@ fn what_is_borrowed_counts_once(rt: HostRuntime) -> Result<(), Fail> {
     )
 }
 
+/// Without a grant B approves no more than its own limit.
 #[test]
 fn what_is_not_taken_is_not_borrowed(rt: HostRuntime) -> Result<(), Fail> {
     run(
@@ -83,7 +84,7 @@ fn a_grant_is_put_again(rt: HostRuntime) -> Result<(), Fail> {
     )
 }
 
-/// Once it is acknowledged it is not.
+/// A grant that was acknowledged is not put again.
 #[test]
 fn a_grant_is_acknowledged(rt: HostRuntime) -> Result<(), Fail> {
     run(

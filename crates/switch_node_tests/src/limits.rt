@@ -35,6 +35,7 @@ fn a_day_limit(rt: HostRuntime) -> Result<(), Fail> {
     )
 }
 
+/// Another currency than the network's is declined with 57, and an amount above the limit with 61.
 #[test]
 fn single_amounts_and_currencies(rt: HostRuntime) -> Result<(), Fail> {
     run(

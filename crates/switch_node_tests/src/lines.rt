@@ -94,6 +94,25 @@ fn fault(words: &[&'static str]) -> Result<StepFault, Fail> {
     }
 }
 
+fn set_field(purchase: &mut Purchase, pair: &[&'static str]) -> Result<(), Fail> {
+    match pair {
+        [field, value] => purchase.set(field, value),
+        _ => Err("a field without a value".into()),
+    }
+}
+
+fn purchase_of(name: &'static str, fields: &[&'static str]) -> Result<Purchase, Fail> {
+    let mut purchase = Purchase::new(name);
+    for pair in fields.chunks(2) {
+        set_field(&mut purchase, pair)?;
+    }
+    Ok(purchase)
+}
+
+fn is_output(word: &str) -> bool {
+    word == "put" || word == "answer" || word == "ask" || word == "post"
+}
+
 /// A line, as it is written and as it is read.
 #[derive(Drop)]
 pub(crate) struct Step {
@@ -127,19 +146,12 @@ impl<'t> Reader<'t> {
         None
     }
 
-    fn add_purchase(&mut self, name: &'static str, fields: &[&'static str]) -> Result<(), Fail> {
+    fn add_purchase(&mut self, name: &'static str, fields: &[&'static str]) -> Result<Line, Fail> {
         if self.purchase(name).is_some() {
             return Err("a purchase's name twice".into());
         }
-        let mut purchase = Purchase::new(name);
-        for pair in fields.chunks(2) {
-            match pair {
-                [field, value] => purchase.set(field, value)?,
-                _ => return Err("a field without a value".into()),
-            }
-        }
-        self.purchases.push(purchase)?;
-        Ok(())
+        self.purchases.push(purchase_of(name, fields)?)?;
+        Ok(Line::Aside)
     }
 
     fn message(&self, words: &[&'static str]) -> Result<String, Fail> {
@@ -189,16 +201,20 @@ impl<'t> Reader<'t> {
         }
     }
 
+    fn step(&self, word: &str, words: &[&'static str]) -> Result<Line, Fail> {
+        if is_output(word) {
+            return Ok(Line::Out(self.wanted(words)?));
+        }
+        Ok(Line::In(self.given(words)?))
+    }
+
     fn of_words(&mut self, words: &[&'static str]) -> Result<Line, Fail> {
         match words {
-            [] | ["//", ..] => Ok(Line::Aside),
-            ["purchase", name, fields @ ..] => {
-                self.add_purchase(name, fields)?;
-                Ok(Line::Aside)
-            }
-            ["put" | "answer" | "ask" | "post", ..] => Ok(Line::Out(self.wanted(words)?)),
+            [] => Ok(Line::Aside),
+            ["//", ..] => Ok(Line::Aside),
+            ["purchase", name, fields @ ..] => self.add_purchase(name, fields),
             ["refused", words @ ..] => Ok(Line::Refused(fault(words)?)),
-            _ => Ok(Line::In(self.given(words)?)),
+            [word, ..] => self.step(word, words),
         }
     }
 

@@ -3,6 +3,7 @@ use crate::desk::run;
 use sample_networks::Sample;
 use std::test::Fail;
 
+/// The fault of the first byte that cannot be read.
 #[test]
 fn bytes_that_are_no_message(rt: HostRuntime) -> Result<(), Fail> {
     run(
@@ -41,6 +42,7 @@ fn types_for_another_input(rt: HostRuntime) -> Result<(), Fail> {
     )
 }
 
+/// The first element that the type requires and the message lacks.
 #[test]
 fn missing_elements(rt: HostRuntime) -> Result<(), Fail> {
     run(
@@ -113,6 +115,7 @@ fn partial_reversals(rt: HostRuntime) -> Result<(), Fail> {
     )
 }
 
+/// A code for an ask that the node never made.
 #[test]
 fn unknown_asks(rt: HostRuntime) -> Result<(), Fail> {
     run(
