@@ -120,12 +120,13 @@ pub(crate) struct Step {
     pub(crate) line: Line,
 }
 
-/// Reads lines, and keeps the purchases that they name.
+/// Reads lines, and keeps them and the purchases that they name.
 #[derive(Drop)]
 struct Reader<'t> {
     alloc: Global,
     tables: &'t Tables,
     purchases: Vec<Purchase>,
+    steps: Vec<Step>,
 }
 
 impl<'t> Reader<'t> {
@@ -223,6 +224,19 @@ impl<'t> Reader<'t> {
         let line = self.of_words(words.as_slice())?;
         Ok(Step { text, line })
     }
+
+    fn add(&mut self, text: &'static str) -> Result<(), Fail> {
+        let step = self.read(text)?;
+        self.steps.push(step)?;
+        Ok(())
+    }
+
+    fn add_all(&mut self, text: &'static str) -> Result<(), Fail> {
+        for line in text.lines() {
+            self.add(line)?;
+        }
+        Ok(())
+    }
 }
 
 /// The lines of a test's text, in order.
@@ -235,10 +249,9 @@ pub(crate) fn read_steps(
         alloc,
         tables,
         purchases: Vec::new(alloc),
+        steps: Vec::new(alloc),
     };
-    let mut steps = Vec::new(alloc);
-    for line in text.lines() {
-        steps.push(reader.read(line)?)?;
-    }
+    reader.add_all(text)?;
+    let Reader { steps, .. } = reader;
     Ok(steps)
 }
