@@ -1,5 +1,5 @@
 //! A node and the steps of the tests. Nothing is promised of these functions, so that they are proved fast.
-use crate::lines::{Given, Line, Step, Wanted, read_steps};
+use crate::lines::{Given, Line, Step, read_steps};
 use card_digits::{Amount, Card, DateLabel, LinkNo, NodeNo};
 use iso_message::Code;
 use net_rows::Tables;
@@ -10,7 +10,7 @@ use request_book::Way;
 use sample_networks::Sample;
 use std::alloc::Global;
 use std::test::Fail;
-use switch_node::{Case, Input, Node, Output, Outputs};
+use switch_node::{Case, Input, Node, Outputs};
 use table_checker::check;
 
 fn tables_of(alloc: Global, text: &[u8]) -> Result<Tables, Fail> {
@@ -43,18 +43,6 @@ fn node_at<'t>(
         Ok(accepted) => Ok(Node::new(alloc, &accepted, place)?),
         Err(_) => Err("not accepted".into()),
     }
-}
-
-fn card_of(text: &str) -> Result<Card, Fail> {
-    Ok(Card::read(text.as_bytes()).ok().ok_or("card")?)
-}
-
-fn date_of(text: &str) -> Result<DateLabel, Fail> {
-    Ok(DateLabel::read(text.as_bytes()).ok().ok_or("date")?)
-}
-
-fn amount_of(text: &str) -> Result<Amount, Fail> {
-    Ok(Amount::read(text.as_bytes()).ok().ok_or("amount")?)
 }
 
 /// A node, and the outputs and the fault of its last step.
@@ -135,40 +123,46 @@ impl<'t> Stepped<'t> {
         Ok(())
     }
 
-    fn host(&mut self, ask: u64, text: &str) -> Result<(), Fail> {
-        let code = Code::read(text.as_bytes()).ok_or("code")?;
+    fn host(&mut self, ask: u64, code: Code) {
+        // A code has two bytes of text.
         let _text = code.as_slice();
         let input = Input::new(Case::HostAnswer(ask, code));
         self.fault = self.node.step(input, &mut self.outputs).err();
-        Ok(())
     }
 
-    fn date(&mut self, text: &str) -> Result<(), Fail> {
-        let date = date_of(text)?;
+    fn date(&mut self, date: DateLabel) {
+        // A date has four digits.
         let _digits = date.digits();
         let input = Input::new(Case::NewDate(date));
         self.fault = self.node.step(input, &mut self.outputs).err();
-        Ok(())
     }
 
-    fn lend(&mut self, node: NodeNo, card: &str, date: &str, amount: &str) -> Result<(), Fail> {
-        let (card, date, amount) = (card_of(card)?, date_of(date)?, amount_of(amount)?);
+    fn lend(&mut self, node: NodeNo, card: Card, date: DateLabel, amount: Amount) {
+        // A card and a date have digits, and an amount has a bound.
         let (_card, _date, _amount) = (card.digits(), date.digits(), amount.value());
         let input = Input::new(Case::Lend(node, card, date, amount));
         self.fault = self.node.step(input, &mut self.outputs).err();
-        Ok(())
     }
 
-    fn give(&mut self, given: &Given) -> Result<(), Fail> {
+    fn give(&mut self, given: &Given, message: &str) -> Result<(), Fail> {
         match given {
-            Given::Enter(text) => self.enter(text.as_str()),
-            Given::Take(link, serial, text) => self.take(*link, *serial, text.as_str()),
+            Given::Enter => self.enter(message),
+            Given::Take(link, serial) => self.take(*link, *serial, message),
             Given::LinkDown(link) => self.link_down(*link),
             Given::LinkUp(link) => self.link_up(*link),
             Given::Ticks(count) => self.ticks(*count),
-            Given::Host(ask, code) => self.host(*ask, code),
-            Given::Date(date) => self.date(date),
-            Given::Lend(node, card, date, amount) => self.lend(*node, card, date, amount),
+            Given::Host(ask, code) => {
+                self.host(*ask, *code);
+                Ok(())
+            }
+            Given::Date(date) => {
+                self.date(*date);
+                Ok(())
+            }
+            Given::Lend(node, card, date, amount) => {
+                self.lend(*node, *card, *date, *amount);
+                Ok(())
+            }
         }
     }
 }
@@ -208,17 +202,6 @@ fn same_way(a: Way, b: Way) -> bool {
         Way::Ask(number) => is_asked(b, number),
         Way::Post => is_posted(b),
     }
-}
-
-fn is_wanted(output: &Output, wanted: &Wanted) -> bool {
-    let way = output.way();
-    let (goes, text) = match wanted {
-        Wanted::Put(link, serial, text) => (is_put(way, *link, *serial), text),
-        Wanted::Answer(text) => (is_answered(way), text),
-        Wanted::Ask(number, text) => (is_asked(way, *number), text),
-        Wanted::Post(text) => (is_posted(way), text),
-    };
-    goes && output.bytes() == text.as_bytes()
 }
 
 fn same_outputs(some: &Outputs, others: &Outputs) -> bool {
@@ -268,25 +251,25 @@ impl<'t> Desk<'t> {
     }
 
     /// Gives both nodes an input. What the first accepts has the same outputs at the other one.
-    fn give(&mut self, given: &Given) -> Result<bool, Fail> {
+    fn give(&mut self, given: &Given, message: &str) -> Result<bool, Fail> {
         let done = self.is_done();
         self.named = 0;
-        self.node.give(given)?;
+        self.node.give(given, message)?;
         if self.node.fault.is_some() {
             return Ok(done);
         }
-        self.twin.give(given)?;
+        self.twin.give(given, message)?;
         Ok(
             done && self.twin.fault.is_none()
                 && same_outputs(&self.node.outputs, &self.twin.outputs),
         )
     }
 
-    fn is_next(&mut self, wanted: &Wanted) -> bool {
+    fn is_next(&mut self, way: Way, message: &str) -> bool {
         let Some(output) = self.node.outputs.as_slice().get(self.named) else {
             return false;
         };
-        let found = is_wanted(output, wanted);
+        let found = same_way(way, output.way()) && output.bytes() == message.as_bytes();
         self.named = self.named.saturating_add(1);
         found
     }
@@ -300,18 +283,18 @@ impl<'t> Desk<'t> {
             && same_traces(&self.node.node, &self.twin.node)
     }
 
-    fn does(&mut self, line: &Line) -> Result<bool, Fail> {
+    fn does(&mut self, line: &Line, message: &str) -> Result<bool, Fail> {
         match line {
             Line::Aside => Ok(true),
-            Line::In(given) => self.give(given),
-            Line::Out(wanted) => Ok(self.is_next(wanted)),
+            Line::In(given) => self.give(given, message),
+            Line::Out(way) => Ok(self.is_next(*way, message)),
             Line::Refused(fault) => Ok(self.is_refused(*fault)),
         }
     }
 
     fn run(&mut self, steps: &[Step]) -> Result<(), Fail> {
         for step in steps {
-            if !self.does(&step.line)? {
+            if !self.does(&step.line, step.message.as_str())? {
                 return Err(Fail::new(step.text));
             }
         }
@@ -322,6 +305,40 @@ impl<'t> Desk<'t> {
     }
 }
 
+fn run_steps(
+    alloc: Global,
+    tables: &Tables,
+    cert: &Cert,
+    place: NodeNo,
+    steps: &[Step],
+) -> Result<(), Fail> {
+    let mut desk = Desk::new(alloc, tables, cert, place)?;
+    desk.run(steps)
+}
+
+fn run_text(
+    alloc: Global,
+    tables: &Tables,
+    cert: &Cert,
+    name: &str,
+    text: &'static str,
+) -> Result<(), Fail> {
+    let place = node_of(tables, name)?;
+    let steps = read_steps(alloc, tables, text)?;
+    run_steps(alloc, tables, cert, place, steps.as_slice())
+}
+
+fn run_on(
+    alloc: Global,
+    tables: &Tables,
+    ranks: &[u8],
+    name: &str,
+    text: &'static str,
+) -> Result<(), Fail> {
+    let cert = ranks_of(alloc, ranks)?;
+    run_text(alloc, tables, &cert, name, text)
+}
+
 /// Fails at the first line of a test's text that the node of this name doesn't do, and where something is left over.
 pub(crate) fn run(
     alloc: Global,
@@ -330,9 +347,5 @@ pub(crate) fn run(
     text: &'static str,
 ) -> Result<(), Fail> {
     let tables = sample_tables(alloc, sample)?;
-    let cert = ranks_of(alloc, sample.ranks().as_bytes())?;
-    let place = node_of(&tables, name)?;
-    let steps = read_steps(alloc, &tables, text)?;
-    let mut desk = Desk::new(alloc, &tables, &cert, place)?;
-    desk.run(steps.as_slice())
+    run_on(alloc, &tables, sample.ranks().as_bytes(), name, text)
 }

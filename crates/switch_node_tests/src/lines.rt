@@ -24,43 +24,36 @@
 //! Blank lines and lines that begin with `//` are passed over.
 use crate::messages::Purchase;
 use crate::words::{joined, words};
-use card_digits::{LinkNo, NodeNo};
-use iso_message::DecodeFault;
+use card_digits::{Amount, Card, DateLabel, LinkNo, NodeNo};
+use iso_message::{Code, DecodeFault};
 use net_rows::Tables;
 use network_law::StepFault;
+use request_book::Way;
 use std::alloc::Global;
 use std::test::Fail;
 
-/// An input.
-#[derive(Drop)]
+/// An input. The message of one that has a message stands beside it.
+#[derive(Clone, Copy)]
 pub(crate) enum Given {
-    Enter(String),
-    Take(LinkNo, u64, String),
+    Enter,
+    Take(LinkNo, u64),
     LinkDown(LinkNo),
     LinkUp(LinkNo),
     Ticks(u64),
-    Host(u64, &'static str),
-    Date(&'static str),
+    Host(u64, Code),
+    Date(DateLabel),
     /// To a node, for a card and a date, an amount.
-    Lend(NodeNo, &'static str, &'static str, &'static str),
+    Lend(NodeNo, Card, DateLabel, Amount),
 }
 
-/// An output.
-#[derive(Drop)]
-pub(crate) enum Wanted {
-    Put(LinkNo, u64, String),
-    Answer(String),
-    Ask(u64, String),
-    Post(String),
-}
-
-/// What a line says.
-#[derive(Drop)]
+/// What a line says, besides its message.
+#[derive(Clone, Copy)]
 pub(crate) enum Line {
     /// Nothing about the node.
     Aside,
     In(Given),
-    Out(Wanted),
+    /// An output goes this way.
+    Out(Way),
     Refused(StepFault),
 }
 
@@ -109,37 +102,150 @@ fn purchase_of(name: &'static str, fields: &[&'static str]) -> Result<Purchase, 
     Ok(purchase)
 }
 
-fn is_output(word: &str) -> bool {
-    word == "put" || word == "answer" || word == "ask" || word == "post"
+/// The words of a line that name its message; none where it has none.
+fn message_words<'w>(words: &'w [&'static str]) -> &'w [&'static str] {
+    match words {
+        ["enter", message @ ..] => message,
+        ["take", _, _, message @ ..] => message,
+        ["put", _, _, message @ ..] => message,
+        ["answer", message @ ..] => message,
+        ["ask", _, message @ ..] => message,
+        ["post", message @ ..] => message,
+        _ => &[],
+    }
 }
 
-/// A line, as it is written and as it is read.
-#[derive(Drop)]
-pub(crate) struct Step {
-    pub(crate) text: &'static str,
-    pub(crate) line: Line,
+fn link(tables: &Tables, name: &str) -> Result<LinkNo, Fail> {
+    Ok(tables.link_of(name.as_bytes()).ok_or("link")?)
 }
 
-/// Reads lines, and keeps them and the purchases that they name.
+fn node(tables: &Tables, name: &str) -> Result<NodeNo, Fail> {
+    Ok(tables.node_of(name.as_bytes()).ok_or("node")?)
+}
+
+fn code(text: &str) -> Result<Code, Fail> {
+    Ok(Code::read(text.as_bytes()).ok_or("code")?)
+}
+
+fn card(text: &str) -> Result<Card, Fail> {
+    Ok(Card::read(text.as_bytes()).ok().ok_or("card")?)
+}
+
+fn date(text: &str) -> Result<DateLabel, Fail> {
+    Ok(DateLabel::read(text.as_bytes()).ok().ok_or("date")?)
+}
+
+fn amount(text: &str) -> Result<Amount, Fail> {
+    Ok(Amount::read(text.as_bytes()).ok().ok_or("amount")?)
+}
+
+fn take(tables: &Tables, name: &str, serial: &str) -> Result<Given, Fail> {
+    Ok(Given::Take(link(tables, name)?, serial.parse()?))
+}
+
+fn link_down(tables: &Tables, name: &str) -> Result<Given, Fail> {
+    Ok(Given::LinkDown(link(tables, name)?))
+}
+
+fn link_up(tables: &Tables, name: &str) -> Result<Given, Fail> {
+    Ok(Given::LinkUp(link(tables, name)?))
+}
+
+fn ticks(count: &str) -> Result<Given, Fail> {
+    Ok(Given::Ticks(count.parse()?))
+}
+
+fn host(ask: &str, text: &str) -> Result<Given, Fail> {
+    Ok(Given::Host(ask.parse()?, code(text)?))
+}
+
+fn new_date(text: &str) -> Result<Given, Fail> {
+    Ok(Given::Date(date(text)?))
+}
+
+fn loan(card_text: &str, date_text: &str, units: &str) -> Result<(Card, DateLabel, Amount), Fail> {
+    Ok((card(card_text)?, date(date_text)?, amount(units)?))
+}
+
+fn lend(tables: &Tables, name: &str, words: &[&'static str]) -> Result<Given, Fail> {
+    match words {
+        [number, day, units] => {
+            let (card, date, amount) = loan(number, day, units)?;
+            Ok(Given::Lend(node(tables, name)?, card, date, amount))
+        }
+        _ => Err("no loan".into()),
+    }
+}
+
+fn given_by(tables: &Tables, words: &[&'static str]) -> Result<Given, Fail> {
+    match words {
+        ["enter", ..] => Ok(Given::Enter),
+        ["take", name, serial, ..] => take(tables, name, serial),
+        ["link_down", name] => link_down(tables, name),
+        ["link_up", name] => link_up(tables, name),
+        ["ticks", count] => ticks(count),
+        ["host", ask, text] => host(ask, text),
+        ["date", text] => new_date(text),
+        ["lend", name, loan @ ..] => lend(tables, name, loan),
+        _ => Err("no input".into()),
+    }
+}
+
+fn put(tables: &Tables, name: &str, serial: &str) -> Result<Way, Fail> {
+    Ok(Way::Put(link(tables, name)?, serial.parse()?))
+}
+
+fn ask(number: &str) -> Result<Way, Fail> {
+    Ok(Way::Ask(number.parse()?))
+}
+
+/// The way of an output; none where the line says no output.
+fn way_of(tables: &Tables, words: &[&'static str]) -> Result<Option<Way>, Fail> {
+    match words {
+        ["put", name, serial, ..] => Ok(Some(put(tables, name, serial)?)),
+        ["answer", ..] => Ok(Some(Way::Answer)),
+        ["ask", number, ..] => Ok(Some(ask(number)?)),
+        ["post", ..] => Ok(Some(Way::Post)),
+        _ => Ok(None),
+    }
+}
+
+fn is_aside(words: &[&'static str]) -> bool {
+    match words {
+        [] => true,
+        ["//", ..] => true,
+        ["purchase", ..] => true,
+        _ => false,
+    }
+}
+
+fn step_of(tables: &Tables, words: &[&'static str]) -> Result<Line, Fail> {
+    match way_of(tables, words)? {
+        Some(way) => Ok(Line::Out(way)),
+        None => Ok(Line::In(given_by(tables, words)?)),
+    }
+}
+
+fn line_of(tables: &Tables, words: &[&'static str]) -> Result<Line, Fail> {
+    if is_aside(words) {
+        return Ok(Line::Aside);
+    }
+    match words {
+        ["refused", words @ ..] => Ok(Line::Refused(fault(words)?)),
+        _ => step_of(tables, words),
+    }
+}
+
+/// The purchases that a text names.
 #[derive(Drop)]
-struct Reader<'t> {
+struct Purchases {
     alloc: Global,
-    tables: &'t Tables,
-    purchases: Vec<Purchase>,
-    steps: Vec<Step>,
+    items: Vec<Purchase>,
 }
 
-impl<'t> Reader<'t> {
-    fn link(&self, name: &str) -> Result<LinkNo, Fail> {
-        Ok(self.tables.link_of(name.as_bytes()).ok_or("link")?)
-    }
-
-    fn node(&self, name: &str) -> Result<NodeNo, Fail> {
-        Ok(self.tables.node_of(name.as_bytes()).ok_or("node")?)
-    }
-
-    fn purchase(&self, name: &str) -> Option<Purchase> {
-        for purchase in self.purchases.as_slice() {
+impl Purchases {
+    fn find(&self, name: &str) -> Option<Purchase> {
+        for purchase in self.items.as_slice() {
             if purchase.name == name {
                 return Some(*purchase);
             }
@@ -147,96 +253,54 @@ impl<'t> Reader<'t> {
         None
     }
 
-    fn add_purchase(&mut self, name: &'static str, fields: &[&'static str]) -> Result<Line, Fail> {
-        if self.purchase(name).is_some() {
+    fn add(&mut self, name: &'static str, fields: &[&'static str]) -> Result<(), Fail> {
+        if self.find(name).is_some() {
             return Err("a purchase's name twice".into());
         }
-        self.purchases.push(purchase_of(name, fields)?)?;
-        Ok(Line::Aside)
+        let purchase = purchase_of(name, fields)?;
+        self.items.push(purchase)?;
+        Ok(())
+    }
+
+    /// A line may name a purchase.
+    fn note(&mut self, words: &[&'static str]) -> Result<(), Fail> {
+        match words {
+            ["purchase", name, fields @ ..] => self.add(name, fields),
+            ["purchase"] => Err("no name of a purchase".into()),
+            _ => Ok(()),
+        }
     }
 
     fn message(&self, words: &[&'static str]) -> Result<String, Fail> {
         match words {
+            [] => Ok(String::new(self.alloc)),
             ["text", parts @ ..] => Ok(joined(self.alloc, parts)?),
             [name, form @ ..] => {
-                let purchase = self.purchase(name).ok_or("purchase")?;
+                let purchase = self.find(name).ok_or("purchase")?;
                 purchase.written(self.alloc, form)
             }
-            [] => Err("no message".into()),
         }
     }
+}
 
-    fn given(&self, words: &[&'static str]) -> Result<Given, Fail> {
-        match words {
-            ["enter", message @ ..] => Ok(Given::Enter(self.message(message)?)),
-            ["take", link, serial, message @ ..] => Ok(Given::Take(
-                self.link(link)?,
-                serial.parse()?,
-                self.message(message)?,
-            )),
-            ["link_down", link] => Ok(Given::LinkDown(self.link(link)?)),
-            ["link_up", link] => Ok(Given::LinkUp(self.link(link)?)),
-            ["ticks", count] => Ok(Given::Ticks(count.parse()?)),
-            ["host", ask, code] => Ok(Given::Host(ask.parse()?, code)),
-            ["date", date] => Ok(Given::Date(date)),
-            ["lend", node, card, date, amount] => {
-                Ok(Given::Lend(self.node(node)?, card, date, amount))
-            }
-            _ => Err("no input".into()),
-        }
-    }
+/// A line as it is written, and as it is read. Its message is empty where it has none.
+#[derive(Drop)]
+pub(crate) struct Step {
+    pub(crate) text: &'static str,
+    pub(crate) line: Line,
+    pub(crate) message: String,
+}
 
-    fn wanted(&self, words: &[&'static str]) -> Result<Wanted, Fail> {
-        match words {
-            ["put", link, serial, message @ ..] => Ok(Wanted::Put(
-                self.link(link)?,
-                serial.parse()?,
-                self.message(message)?,
-            )),
-            ["answer", message @ ..] => Ok(Wanted::Answer(self.message(message)?)),
-            ["ask", number, message @ ..] => {
-                Ok(Wanted::Ask(number.parse()?, self.message(message)?))
-            }
-            ["post", message @ ..] => Ok(Wanted::Post(self.message(message)?)),
-            _ => Err("no output".into()),
-        }
-    }
-
-    fn step(&self, word: &str, words: &[&'static str]) -> Result<Line, Fail> {
-        if is_output(word) {
-            return Ok(Line::Out(self.wanted(words)?));
-        }
-        Ok(Line::In(self.given(words)?))
-    }
-
-    fn of_words(&mut self, words: &[&'static str]) -> Result<Line, Fail> {
-        match words {
-            [] => Ok(Line::Aside),
-            ["//", ..] => Ok(Line::Aside),
-            ["purchase", name, fields @ ..] => self.add_purchase(name, fields),
-            ["refused", words @ ..] => Ok(Line::Refused(fault(words)?)),
-            [word, ..] => self.step(word, words),
-        }
-    }
-
-    fn read(&mut self, text: &'static str) -> Result<Step, Fail> {
-        let words = words(self.alloc, text)?;
-        let line = self.of_words(words.as_slice())?;
-        Ok(Step { text, line })
-    }
-
-    fn add(&mut self, text: &'static str) -> Result<(), Fail> {
-        let step = self.read(text)?;
-        self.steps.push(step)?;
-        Ok(())
-    }
-
-    fn add_all(&mut self, text: &'static str) -> Result<(), Fail> {
-        for line in text.lines() {
-            self.add(line)?;
-        }
-        Ok(())
-    }
+fn read(tables: &Tables, purchases: &mut Purchases, text: &'static str) -> Result<Step, Fail> {
+    let words = words(purchases.alloc, text)?;
+    purchases.note(words.as_slice())?;
+    let line = line_of(tables, words.as_slice())?;
+    let message = purchases.message(message_words(words.as_slice()))?;
+    Ok(Step {
+        text,
+        line,
+        message,
+    })
 }
 
 /// The lines of a test's text, in order.
@@ -245,13 +309,14 @@ pub(crate) fn read_steps(
     tables: &Tables,
     text: &'static str,
 ) -> Result<Vec<Step>, Fail> {
-    let mut reader = Reader {
+    let mut purchases = Purchases {
         alloc,
-        tables,
-        purchases: Vec::new(alloc),
-        steps: Vec::new(alloc),
+        items: Vec::new(alloc),
     };
-    reader.add_all(text)?;
-    let Reader { steps, .. } = reader;
+    let mut steps = Vec::new(alloc);
+    for line in text.lines() {
+        let step = read(tables, &mut purchases, line)?;
+        steps.push(step)?;
+    }
     Ok(steps)
 }
