@@ -1,5 +1,5 @@
 //! Card numbers.
-ghost use Rattle.std.specs.Prelude.{◌≡◌, ◌≤◌, length};
+ghost use Rattle.std.specs.Prelude.{◌≡◌, ◌≤◌, ◌<◌, length};
 
 use crate::prefix::Prefix;
 use crate::short_bytes::{ShortBytes, all_digits};
@@ -64,6 +64,7 @@ ghost use Rattle.card_digits.specs.Longest.{begins};
 /// From `least` to `N` digits.
 #[tactic(auto, using(crate::proofs::Within::digits_within))]
 pub(crate) fn read<const N: usize>(text: &[u8], least: usize) -> Result<ShortBytes<N>, DigitFault>
+    requires { N < 256 }
     ensures value { result ≡ read_digits least N text.now }
     ensures within { IfOk result (AreDigitsWithin least N) }
 {

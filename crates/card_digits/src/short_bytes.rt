@@ -1,5 +1,5 @@
 //! A few small numbers kept in place.
-ghost use Rattle.std.specs.Prelude.{◌≡◌, ◌≤◌, length, true};
+ghost use Rattle.std.specs.Prelude.{◌≡◌, ◌≤◌, ◌<◌, length, true};
 ghost use Rattle.std.specs.Char.{is_ascii_digit};
 ghost use Rattle.std.specs.List.{list_all};
 ghost use Rattle.card_digits.specs.Digits.{digits_of};
@@ -8,11 +8,11 @@ use std::cmp::Ordering;
 use std::hash::{Hash, Hasher};
 use std::marker::Model;
 
-/// At most `N` bytes, kept in place.
+/// At most `N` bytes, kept in place; `N` is at most 255, so that one more byte says how many there are.
 #[derive(Clone, Copy, Debug)]
 pub struct ShortBytes<const N: usize> {
     bytes: [u8; N],
-    len: usize,
+    len: u8,
 }
 
 impl<const N: usize> Model for ShortBytes<N> {
@@ -35,22 +35,22 @@ impl<const N: usize> Model for ShortBytes<N> {
 impl<const N: usize> ShortBytes<N> {
     /// A copy of the bytes.
     pub fn from_slice(text: &[u8]) -> ShortBytes<N>
-        requires { length text.now ≤ N }
+        requires fits { length text.now ≤ N }
+        requires short { N < 256 }
         ensures { result ≡ text.now }
     {
         let mut bytes = [0; N];
-        for (i, byte) in text.iter().enumerate() {
-            bytes[i] = *byte;
-        }
+        bytes[..text.len()].copy_from_slice(text);
         ShortBytes {
             bytes,
-            len: text.len(),
+            len: text.len() as u8,
         }
     }
 
     /// The numbers that ASCII digits write.
     pub fn from_digits(text: &[u8]) -> ShortBytes<N>
         requires fits { length text.now ≤ N }
+        requires short { N < 256 }
         requires digits { list_all is_ascii_digit text.now ≡ true }
         ensures { result ≡ digits_of text.now }
     {
@@ -60,7 +60,7 @@ impl<const N: usize> ShortBytes<N> {
         }
         ShortBytes {
             bytes,
-            len: text.len(),
+            len: text.len() as u8,
         }
     }
 
@@ -68,7 +68,7 @@ impl<const N: usize> ShortBytes<N> {
     pub fn as_slice(&self) -> &[u8]
         ensures { result.now ≡ self.now }
     {
-        &self.bytes[..self.len]
+        &self.bytes[..self.len as usize]
     }
 }
 
