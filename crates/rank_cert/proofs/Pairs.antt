@@ -1,5 +1,5 @@
 -- One row more, in the rows and in the map.
-use Rattle.std.proofs.Common.{◌≡◌, ℕ, ◌==◌, ◌&&◌, ◌++◌, Bool, true, false, cond, List, [], ◌∷◌, Option, Some, None, is_some, is_none, refl, sym, ◌∙◌, append_assoc, append-nil}
+use Rattle.std.proofs.Common.{◌≡◌, ℕ, ◌==◌, ◌++◌, Bool, true, false, cond, List, [], ◌∷◌, Option, Some, None, refl, sym, ◌∙◌, append_assoc, append-nil}
 use Rattle.std.specs.Option.{option_or}
 use Rattle.std.specs.Cmp.Lexicographic.{pointwise}
 use Rattle.std.specs.HashMap.{HashMap, Updates}
@@ -50,6 +50,19 @@ IsIndex-push rows r old new index fresh updates = λ q.
     ∙ rw (index q) (pushed rows r q (is_of r q.node q.prefix) refl fresh)
     ∙ sym (rank_of-push rows r q.node q.prefix)
 
+again : (rows : List Rank) (r : Rank) (q : Pair) (v : ℕ) (b : Bool) → is_of r q.node q.prefix ≡ b → rank_of rows r.node r.prefix ≡ Some v
+    → cond b (Some v) (cond b (Some r.rank) (rank_of rows q.node q.prefix)) ≡ rank_of rows q.node q.prefix
+again rows r q v true is there =
+    let p = and_parts (pointwise ◌==◌ r.node q.node) (pointwise ◌==◌ r.prefix q.prefix) is in
+    rw (← same_text r.node q.node p.0, ← same_text r.prefix q.prefix p.1) (sym there)
+again rows r q v false is there = refl
+
+-- a pair that was there has its rank again
+pub IsIndex-again : {S : Type 0} (rows : List Rank) (r : Rank) (v : ℕ) (old changed new : HashMap Pair ℕ S) → IsIndex rows old → rank_of rows r.node r.prefix ≡ Some v
+    → Updates pair_eq old changed (pair_of r) (Some r.rank) → Updates pair_eq changed new (pair_of r) (Some v) → IsIndex rows new
+IsIndex-again rows r v old changed new index there first second = λ q.
+    second.0 q ∙ rw (first.0 q, index q) (again rows r q v (is_of r q.node q.prefix) refl there)
+
 adds-push : (done rows : List Rank) (r : Rank) → AddsRows done rows → IsRow r → rank_of (done ++ rows) r.node r.prefix ≡ None → AddsRows done (rows ++ r ∷ [])
 adds-push done [] r h row new = (row, rw append-nil at new, tt)
 adds-push done (s ∷ rows) r h row new =
@@ -58,13 +71,9 @@ adds-push done (s ∷ rows) r h row new =
 pub IsCert-push : (rows : List Rank) (r : Rank) → IsCert rows → IsRow r → rank_of rows r.node r.prefix ≡ None → IsCert (rows ++ r ∷ [])
 IsCert-push rows r h row new = adds-push [] rows r h row new
 
-pub none_of : {A : Type 0} (o : Option A) → false ≡ is_some o → o ≡ None
+pub none_of : {A : Type 0} (o : Option A) → ((x : A) → o ≡ Some x → ⊥) → o ≡ None
 none_of None h = refl
-none_of (Some x) h = cc
-
-pub not_none : {A : Type 0} (o : Option A) → true ≡ is_some o → false ≡ is_none o
-not_none None h = cc
-not_none (Some x) h = refl
+none_of (Some x) h = absurd (h x refl)
 
 pub each_row : (done rows : List Rank) → AddsRows done rows → All IsRow rows
 each_row done [] h = All-nil IsRow

@@ -23,6 +23,17 @@ pub(crate) struct Pair {
     prefix: Prefix,
 }
 
+impl Pair {
+    fn of(row: &Rank) -> Pair
+        ensures { result ≡ record { node = row.now.node; prefix = row.now.prefix } }
+    {
+        Pair {
+            node: row.node,
+            prefix: row.prefix,
+        }
+    }
+}
+
 // The letters at once and the digits at once.
 impl Hash for Pair {
     ghost use Rattle.std.specs.Prelude.{[], ◌∷◌};
@@ -123,15 +134,13 @@ impl Cert {
         ensures no { result ≡ Ok false → self.new ≡ self.old }
         ensures err { OnErr result (self.new ≡ self.old) }
     {
-        let pair = Pair {
-            node: row.node,
-            prefix: row.prefix,
-        };
-        if self.ranks.contains_key(&pair) {
+        self.rows.reserve(1)?;
+        let earlier = self.ranks.insert(Pair::of(&row), row.rank)?;
+        if let Some(rank) = earlier {
+            // The pair was there, and keeps its rank.
+            self.ranks.insert(Pair::of(&row), rank)?;
             return Ok(false);
         }
-        self.rows.reserve(1)?;
-        self.ranks.insert(pair, row.rank)?;
         self.rows.push(row)?;
         Ok(true)
     }
