@@ -103,6 +103,16 @@ impl Cert {
         }
     }
 
+    /// Adds the rank of a node at the end, but not where it has one at the prefix.
+    pub fn add_rank(&mut self, node: Name, prefix: Prefix, rank: u16) -> Result<bool, AllocError>
+        ensures added { IfOk result (λ added. added ≡ is_none (rank_of self.old node prefix)) }
+        ensures yes { result ≡ Ok true → self.new ≡ self.old ++ record { node = node; prefix = prefix; rank = rank } ∷ [] }
+        ensures no { result ≡ Ok false → self.new ≡ self.old }
+        ensures err { OnErr result (self.new ≡ self.old) }
+    {
+        self.add_row(Rank { node, prefix, rank })
+    }
+
     /// The rows in the order in which they were added.
     pub fn rows(&self) -> &[Rank]
         ensures rows { result.now ≡ self.now }

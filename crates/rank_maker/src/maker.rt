@@ -67,7 +67,7 @@ fn add_ranks(alloc: Global, routes: &Routes, class: &Prefix, cert: &mut Cert) ->
     let mut walk = Walk::new(alloc);
     for (i, row) in routes.tables.nodes().iter().enumerate() {
         let rank = walk.rank(routes, NodeNo::new(i), MOST_NODES)?;
-        if !cert.add(row.name.as_slice(), *class, rank)? {
+        if !cert.add_rank(row.name, *class, rank)? {
             return Err(Stop::GaveUp);
         }
     }
