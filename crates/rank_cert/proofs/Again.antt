@@ -1,5 +1,5 @@
 -- The text of a certificate, read again.
-use Rattle.std.proofs.Common.{◌≡◌, ℕ, ◌+◌, ◌-◌, ◌^◌, ◌<◌, ◌==◌, ◌||◌, ◌++◌, Bool, true, false, not, cond, List, [], ◌∷◌, Some, None, Ok, refl, ◌∙◌, ap, arith, rules, length, nat_lt, ne_eqb, append_assoc, append-nil}
+use Rattle.std.proofs.Common.{◌≡◌, ℕ, ◌+◌, ◌-◌, ◌^◌, ◌<◌, ◌==◌, ◌||◌, ◌++◌, Bool, true, false, not, cond, List, [], ◌∷◌, Some, None, Ok, refl, sym, ◌∙◌, ap, arith, rules, length, nat_lt, ne_eqb, append_assoc, append-nil}
 use Rattle.std.specs.Prelude.{codes}
 use Rattle.std.specs.Char.{is_ascii_digit, is_ascii_alphanumeric}
 use Rattle.std.specs.Fmt.{decimal}
@@ -20,7 +20,7 @@ use Rattle.rank_cert.specs.Reading.{fields, three, number_of, row_of, is_line, r
 use Rattle.rank_cert.specs.Writing.{digits_text, line_of, lines_of, text_of}
 use Rattle.card_digits.proofs.Cuts.{Others}
 use Rattle.rank_cert.proofs.Cuts.{three_of_three}
-use Rattle.rank_cert.proofs.Pairs.{same_text}
+use Rattle.std.specs.Cmp.Lexicographic.{same_text}
 
 -- ---- bytes that pass a test are other ones than a byte that doesn't
 
@@ -104,7 +104,7 @@ no_feed r row =
 not_end : (r : Rank) → IsRow r → (t : Bool) → is_line (line_of r) (codes "END") ≡ t → t ≡ false
 not_end r row false is = refl
 not_end r row true is =
-    let same = same_text (line_of r) (codes "END") is in
+    let same = same_text (line_of r) (codes "END") (sym is) in
     let none : row_of (line_of r) ≡ None = rw same refl in
     let some = row_again r row in
     cc

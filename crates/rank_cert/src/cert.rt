@@ -1,46 +1,50 @@
 //! Ranks of pairs of a node's name and a prefix.
-ghost use Rattle.std.specs.Prelude.{◌≡◌, [], ◌∷◌, ◌++◌, false, IfOk, OnErr, Some, None};
+ghost use Rattle.std.specs.Prelude.{◌≡◌, [], ◌∷◌, ◌++◌, IfOk, OnErr};
 ghost use Rattle.rank_cert.specs.Ranks.{rank_of, is_new, IsRow, IsCert};
 
 use card_digits::{Name, Prefix};
+use indexmap::IndexSet;
 use std::alloc::{AllocError, Global};
-use std::collections::HashMap;
 use std::hash::{Hash, Hasher};
 use std::marker::Model;
 
-/// The rank of the node of that name at a prefix.
-#[derive(Clone, Copy, Debug, PartialEq, Eq)]
+/// The rank of the node of that name at a prefix. Two that are of one name and one prefix count as equal, whatever the rank, so a
+/// set holds one of them.
+#[derive(Clone, Copy, Debug)]
 pub struct Rank {
     pub node: Name,
     pub prefix: Prefix,
     pub rank: u16,
 }
 
-/// What has one rank.
-#[derive(Clone, Copy, Debug, PartialEq, Eq)]
-pub(crate) struct Pair {
-    node: Name,
-    prefix: Prefix,
-}
+impl PartialEq for Rank {
+    ghost use Rattle.rank_cert.specs.Ranks.{is_of_one_pair};
+    ghost use Rattle.std.proofs.Common.{rules};
+    ghost use Rattle.std.specs.Cmp.Rules.{comparing};
 
-impl Pair {
-    fn of(row: &Rank) -> Pair
-        ensures { result ≡ record { node = row.now.node; prefix = row.now.prefix } }
-    {
-        Pair {
-            node: row.node,
-            prefix: row.prefix,
-        }
+    ghost eq = { is_of_one_pair };
+
+    ghost laws = { Prim.search (comparing, rules) };
+
+    fn eq(&self, other: &Rank) -> bool {
+        self.node == other.node && self.prefix == other.prefix
     }
 }
 
+impl Eq for Rank {
+    ghost use Rattle.std.proofs.Common.{rules};
+    ghost use Rattle.std.specs.Cmp.Rules.{comparing};
+
+    ghost laws = { Prim.search (comparing, rules) };
+}
+
 // The letters at once and the digits at once.
-impl Hash for Pair {
+impl Hash for Rank {
     ghost use Rattle.std.specs.Prelude.{[], ◌∷◌};
     ghost use Rattle.std.proofs.Common.{rules};
     ghost use Rattle.std.specs.Cmp.Rules.{hashing};
 
-    ghost hash_input = { λ p. p.node ∷ p.prefix ∷ [] };
+    ghost hash_input = { λ r. r.node ∷ r.prefix ∷ [] };
 
     ghost respects_eq = { Prim.search (hashing, rules) };
 
@@ -53,21 +57,19 @@ impl Hash for Pair {
 /// Ranks in the order in which they were added, at most one for a pair of a name and a prefix.
 #[derive(Debug, Drop)]
 pub struct Cert {
-    rows: Vec<Rank>,
-    ranks: HashMap<Pair, u16>,
+    ranks: IndexSet<Rank>,
 }
 
 impl Model for Cert {
     ghost use Rattle.std.specs.Prelude.{List};
     ghost use Rattle.rank_cert.specs.declared.cert.Rank.{Rank};
     ghost use Rattle.rank_cert.specs.Ranks.{IsCert};
-    ghost use Rattle.rank_cert.specs.Index.{IsIndex};
 
     ghost Value = { List Rank };
 
-    ghost view = { λ a. a.rows.items };
+    ghost view = { λ a. a.ranks.keys };
 
-    ghost invariant = { λ a. IsCert a.rows.items × IsIndex a.rows.items a.ranks };
+    ghost invariant = { λ a. IsCert a.ranks.keys };
 }
 
 impl Cert {
@@ -75,8 +77,7 @@ impl Cert {
         ensures { result ≡ [] }
     {
         Cert {
-            rows: Vec::new(alloc),
-            ranks: HashMap::new(alloc),
+            ranks: IndexSet::new(alloc),
         }
     }
 
@@ -85,8 +86,7 @@ impl Cert {
         ensures { IfOk result (λ cert. cert ≡ []) }
     {
         Ok(Cert {
-            rows: Vec::with_capacity(alloc, rows)?,
-            ranks: HashMap::with_capacity(alloc, rows)?,
+            ranks: IndexSet::with_capacity(alloc, rows)?,
         })
     }
 
@@ -120,18 +120,20 @@ impl Cert {
         ensures good { IsCert self.now }
         ensures each { All IsRow self.now }
     {
-        &self.rows
+        self.ranks.as_slice()
     }
 
     /// The rank of a name at a prefix.
     pub fn rank(&self, node: &Name, prefix: &Prefix) -> Option<u16>
         ensures { result ≡ rank_of self.now node.now prefix.now }
     {
-        let pair = Pair {
+        let sought = Rank {
             node: *node,
             prefix: *prefix,
+            rank: 0,
         };
-        self.ranks.get(&pair).copied()
+        let found = self.ranks.get(&sought)?;
+        Some(found.rank)
     }
 }
 
@@ -144,16 +146,8 @@ impl Cert {
         ensures no { result ≡ Ok false → self.new ≡ self.old }
         ensures err { OnErr result (self.new ≡ self.old) }
     {
-        self.rows.reserve(1)?;
-        let earlier = self.ranks.insert(Pair::of(&row), row.rank)?;
-        if let Some(rank) = earlier {
-            // The pair was there, and keeps its rank.
-            self.ranks.insert(Pair::of(&row), rank)?;
-            return Ok(false);
-        }
-        self.rows.push(row)?;
-        Ok(true)
+        Ok(self.ranks.insert(row)?)
     }
 }
 
-ghost use Rattle.std.specs.Prelude.{is_none, true, Ok, All};
+ghost use Rattle.std.specs.Prelude.{is_none, true, false, Ok, All};

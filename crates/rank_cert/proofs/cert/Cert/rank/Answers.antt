@@ -1,6 +1,15 @@
-use Rattle.std.proofs.Common.{◌∙◌}
+use Rattle.std.proofs.Common.{ap, ◌∙◌}
+use Rattle.std.specs.Option.{option_map}
+use Rattle.rank_cert.specs.declared.cert.Rank.{Rank}
+use Rattle.rank_cert.proofs.Pairs.{rank_found}
 use Rattle.rank_cert.proofs.cert.Cert.rank.Goals as goal
+
+pub returns-in_err-found : goal.returns-in_err-found
+returns-in_err-found c =
+    let sought : Rank = record { node = c.args.node.now; prefix = c.args.prefix.now; rank = 0 } in
+    rw (c.from_residual.ensures, ← c.self.view_is) (ap (option_map (λ (r : Rank). r.rank)) c.in_err-found.ensures.key ∙ rank_found c.self.inside.ranks.keys sought)
 
 pub returns : goal.returns
 returns c =
-    rw (← c.self.view_is) (c.copied.ensures ∙ c.get.ensures.value ∙ c.self.invariant.1 (record { node = c.args.node.now; prefix = c.args.prefix.now }))
+    let sought : Rank = record { node = c.args.node.now; prefix = c.args.prefix.now; rank = 0 } in
+    rw (← c.self.view_is) (ap (option_map (λ (r : Rank). r.rank)) c.in_ok-found.ensures.key ∙ rank_found c.self.inside.ranks.keys sought)

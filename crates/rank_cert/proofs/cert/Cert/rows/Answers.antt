@@ -2,4 +2,4 @@ use Rattle.rank_cert.proofs.Pairs.{each_row}
 use Rattle.rank_cert.proofs.cert.Cert.rows.Goals as goal
 
 pub returns-clause-each : goal.returns-clause-each
-returns-clause-each c = rw (← c.self.view_is) (each_row _ _ c.self.invariant.0)
+returns-clause-each c = rw (← c.self.view_is) (each_row _ _ c.self.invariant)
