@@ -1,6 +1,6 @@
 //! A node and the steps of the tests. Nothing is promised of these functions, so that they are proved fast.
-use crate::lines::{Given, Line, Step, read_steps};
-use card_digits::{Amount, Card, DateLabel, LinkNo, NodeNo};
+use crate::lines::{Given, Line, Loan, Step, read_steps};
+use card_digits::{DateLabel, LinkNo, NodeNo};
 use iso_message::Code;
 use net_rows::Tables;
 use net_tables::read_tables;
@@ -137,10 +137,10 @@ impl<'t> Stepped<'t> {
         self.fault = self.node.step(input, &mut self.outputs).err();
     }
 
-    fn lend(&mut self, node: NodeNo, card: Card, date: DateLabel, amount: Amount) {
+    fn lend(&mut self, node: NodeNo, loan: &Loan) {
         // A card and a date have digits, and an amount has a bound.
-        let (_card, _date, _amount) = (card.digits(), date.digits(), amount.value());
-        let input = Input::new(Case::Lend(node, card, date, amount));
+        let (_card, _date, _amount) = (loan.card.digits(), loan.date.digits(), loan.amount.value());
+        let input = Input::new(Case::Lend(node, loan.card, loan.date, loan.amount));
         self.fault = self.node.step(input, &mut self.outputs).err();
     }
 
@@ -159,8 +159,8 @@ impl<'t> Stepped<'t> {
                 self.date(*date);
                 Ok(())
             }
-            Given::Lend(node, card, date, amount) => {
-                self.lend(*node, *card, *date, *amount);
+            Given::Lend(node, loan) => {
+                self.lend(*node, loan);
                 Ok(())
             }
         }

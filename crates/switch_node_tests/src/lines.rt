@@ -42,8 +42,16 @@ pub(crate) enum Given {
     Ticks(u64),
     Host(u64, Code),
     Date(DateLabel),
-    /// To a node, for a card and a date, an amount.
-    Lend(NodeNo, Card, DateLabel, Amount),
+    /// To a node.
+    Lend(NodeNo, Loan),
+}
+
+/// An amount for a card and a settlement date.
+#[derive(Clone, Copy)]
+pub(crate) struct Loan {
+    pub(crate) card: Card,
+    pub(crate) date: DateLabel,
+    pub(crate) amount: Amount,
 }
 
 /// What a line says, besides its message.
@@ -163,24 +171,25 @@ fn new_date(text: &str) -> Result<Given, Fail> {
     Ok(Given::Date(date(text)?))
 }
 
-fn loan(card_text: &str, date_text: &str, units: &str) -> Result<(Card, DateLabel, Amount), Fail> {
-    Ok((card(card_text)?, date(date_text)?, amount(units)?))
-}
-
-fn lend(tables: &Tables, name: &str, words: &[&'static str]) -> Result<Given, Fail> {
+fn loan(words: &[&'static str]) -> Result<Loan, Fail> {
     match words {
-        [number, day, units] => {
-            let (card, date, amount) = loan(number, day, units)?;
-            Ok(Given::Lend(node(tables, name)?, card, date, amount))
-        }
+        [number, day, units] => Ok(Loan {
+            card: card(number)?,
+            date: date(day)?,
+            amount: amount(units)?,
+        }),
         _ => Err("no loan".into()),
     }
 }
 
+fn lend(tables: &Tables, name: &str, words: &[&'static str]) -> Result<Given, Fail> {
+    Ok(Given::Lend(node(tables, name)?, loan(words)?))
+}
+
 fn given_by(tables: &Tables, words: &[&'static str]) -> Result<Given, Fail> {
     match words {
-        ["enter", ..] => Ok(Given::Enter),
-        ["take", name, serial, ..] => take(tables, name, serial),
+        ["enter", _, ..] => Ok(Given::Enter),
+        ["take", name, serial, _, ..] => take(tables, name, serial),
         ["link_down", name] => link_down(tables, name),
         ["link_up", name] => link_up(tables, name),
         ["ticks", count] => ticks(count),
@@ -202,10 +211,10 @@ fn ask(number: &str) -> Result<Way, Fail> {
 /// The way of an output; none where the line says no output.
 fn way_of(tables: &Tables, words: &[&'static str]) -> Result<Option<Way>, Fail> {
     match words {
-        ["put", name, serial, ..] => Ok(Some(put(tables, name, serial)?)),
-        ["answer", ..] => Ok(Some(Way::Answer)),
-        ["ask", number, ..] => Ok(Some(ask(number)?)),
-        ["post", ..] => Ok(Some(Way::Post)),
+        ["put", name, serial, _, ..] => Ok(Some(put(tables, name, serial)?)),
+        ["answer", _, ..] => Ok(Some(Way::Answer)),
+        ["ask", number, _, ..] => Ok(Some(ask(number)?)),
+        ["post", _, ..] => Ok(Some(Way::Post)),
         _ => Ok(None),
     }
 }
