@@ -171,7 +171,7 @@ fn new_date(text: &str) -> Result<Given, Fail> {
     Ok(Given::Date(date(text)?))
 }
 
-fn loan(words: &[&'static str]) -> Result<Loan, Fail> {
+fn loan_of(words: &[&'static str]) -> Result<Loan, Fail> {
     match words {
         [number, day, units] => Ok(Loan {
             card: card(number)?,
@@ -183,7 +183,7 @@ fn loan(words: &[&'static str]) -> Result<Loan, Fail> {
 }
 
 fn lend(tables: &Tables, name: &str, words: &[&'static str]) -> Result<Given, Fail> {
-    Ok(Given::Lend(node(tables, name)?, loan(words)?))
+    Ok(Given::Lend(node(tables, name)?, loan_of(words)?))
 }
 
 fn given_by(tables: &Tables, words: &[&'static str]) -> Result<Given, Fail> {
