@@ -45,7 +45,9 @@ fn main(rt: HostRuntime) -> io::Result<()> {
         }
     }
     let alloc = rt.alloc();
-    if let (Ok(tables), Ok(cert)) = (read_tables(alloc, tables()), read_cert(alloc, ranks())) {
+    let tables = read_tables(alloc, tables().as_bytes());
+    let cert = read_cert(alloc, ranks().as_bytes());
+    if let (Ok(tables), Ok(cert)) = (tables, cert) {
         if let Ok(accepted) = check(alloc, &tables, &cert) {
             if full {
                 Part::Full.measure(&rt, &accepted, 0)?;

@@ -1,6 +1,6 @@
 //! The network of the measurement: the gate A and the home H.
 
-const TABLES: &[u8] = b"\
+const TABLES: &str = "\
 [network]
 currency = \"840\"
 date = \"0314\"
@@ -51,10 +51,10 @@ links = [\"QUICK\"]
 
 /// Requests of cards that begin with 4 wait for 4,000 ticks on the first link, or on the second where that is down; those that
 /// begin with 5 wait for one tick on the third.
-pub(crate) fn tables() -> &'static [u8] {
+pub(crate) fn tables() -> &'static str {
     TABLES
 }
 
-pub(crate) fn ranks() -> &'static [u8] {
-    b"RANKS 1\nA 4 1\nH 4 0\nA 5 1\nH 5 0\nEND\n"
+pub(crate) fn ranks() -> &'static str {
+    "RANKS 1\nA 4 1\nH 4 0\nA 5 1\nH 5 0\nEND\n"
 }
