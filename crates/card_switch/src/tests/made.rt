@@ -8,16 +8,192 @@ const EMPTY: &str =
     "[network]\ncurrency = \"840\"\ndate = \"0314\"\nhost_ticks = 100\nadvice_ticks = 50\n";
 
 /// A request may go from A to H by B or by C.
-const DIAMOND: &str =
-    "[network]\ncurrency = \"840\"\ndate = \"0314\"\nhost_ticks = 100\nadvice_ticks = 50\n[[node]]\nname = \"A\"\nid = \"1001\"\n[[node]]\nname = \"B\"\nid = \"1003\"\n[[node]]\nname = \"C\"\nid = \"1004\"\n[[node]]\nname = \"H\"\nid = \"1002\"\n[[link]]\nname = \"AB\"\nends = [\"A\", \"B\"]\nticks = 3\n[[link]]\nname = \"AC\"\nends = [\"A\", \"C\"]\nticks = 3\n[[link]]\nname = \"BH\"\nends = [\"B\", \"H\"]\nticks = 3\n[[link]]\nname = \"CH\"\nends = [\"C\", \"H\"]\nticks = 3\n[[link]]\nname = \"BC\"\nends = [\"B\", \"C\"]\nticks = 3\n[[issuer]]\nname = \"I\"\nprefix = \"4\"\nhome = \"H\"\nnamed = []\nceiling = 0\n[[route]]\nnode = \"A\"\nprefix = \"4\"\nlinks = [\"AB\", \"AC\"]\n[[route]]\nnode = \"B\"\nprefix = \"4\"\nlinks = [\"BH\"]\n[[route]]\nnode = \"C\"\nprefix = \"4\"\nlinks = [\"CH\"]\n";
+const DIAMOND: &str = r#"[network]
+currency = "840"
+date = "0314"
+host_ticks = 100
+advice_ticks = 50
+[[node]]
+name = "A"
+id = "1001"
+[[node]]
+name = "B"
+id = "1003"
+[[node]]
+name = "C"
+id = "1004"
+[[node]]
+name = "H"
+id = "1002"
+[[link]]
+name = "AB"
+ends = ["A", "B"]
+ticks = 3
+[[link]]
+name = "AC"
+ends = ["A", "C"]
+ticks = 3
+[[link]]
+name = "BH"
+ends = ["B", "H"]
+ticks = 3
+[[link]]
+name = "CH"
+ends = ["C", "H"]
+ticks = 3
+[[link]]
+name = "BC"
+ends = ["B", "C"]
+ticks = 3
+[[issuer]]
+name = "I"
+prefix = "4"
+home = "H"
+named = []
+ceiling = 0
+[[route]]
+node = "A"
+prefix = "4"
+links = ["AB", "AC"]
+[[route]]
+node = "B"
+prefix = "4"
+links = ["BH"]
+[[route]]
+node = "C"
+prefix = "4"
+links = ["CH"]
+"#;
 
 /// A request goes from A to H by B and C.
-const CHAIN: &str =
-    "[network]\ncurrency = \"840\"\ndate = \"0314\"\nhost_ticks = 100\nadvice_ticks = 50\n[[node]]\nname = \"A\"\nid = \"1001\"\n[[node]]\nname = \"B\"\nid = \"1003\"\n[[node]]\nname = \"C\"\nid = \"1004\"\n[[node]]\nname = \"H\"\nid = \"1002\"\n[[link]]\nname = \"AB\"\nends = [\"A\", \"B\"]\nticks = 3\n[[link]]\nname = \"AC\"\nends = [\"A\", \"C\"]\nticks = 3\n[[link]]\nname = \"BH\"\nends = [\"B\", \"H\"]\nticks = 3\n[[link]]\nname = \"CH\"\nends = [\"C\", \"H\"]\nticks = 3\n[[link]]\nname = \"BC\"\nends = [\"B\", \"C\"]\nticks = 3\n[[issuer]]\nname = \"I\"\nprefix = \"4\"\nhome = \"H\"\nnamed = []\nceiling = 0\n[[route]]\nnode = \"A\"\nprefix = \"4\"\nlinks = [\"AB\"]\n[[route]]\nnode = \"B\"\nprefix = \"4\"\nlinks = [\"BC\"]\n[[route]]\nnode = \"C\"\nprefix = \"4\"\nlinks = [\"CH\"]\n";
+const CHAIN: &str = r#"[network]
+currency = "840"
+date = "0314"
+host_ticks = 100
+advice_ticks = 50
+[[node]]
+name = "A"
+id = "1001"
+[[node]]
+name = "B"
+id = "1003"
+[[node]]
+name = "C"
+id = "1004"
+[[node]]
+name = "H"
+id = "1002"
+[[link]]
+name = "AB"
+ends = ["A", "B"]
+ticks = 3
+[[link]]
+name = "AC"
+ends = ["A", "C"]
+ticks = 3
+[[link]]
+name = "BH"
+ends = ["B", "H"]
+ticks = 3
+[[link]]
+name = "CH"
+ends = ["C", "H"]
+ticks = 3
+[[link]]
+name = "BC"
+ends = ["B", "C"]
+ticks = 3
+[[issuer]]
+name = "I"
+prefix = "4"
+home = "H"
+named = []
+ceiling = 0
+[[route]]
+node = "A"
+prefix = "4"
+links = ["AB"]
+[[route]]
+node = "B"
+prefix = "4"
+links = ["BC"]
+[[route]]
+node = "C"
+prefix = "4"
+links = ["CH"]
+"#;
 
 /// Cards that begin with 41 go to C, all other cards that begin with 4 go to H.
-const NESTED: &str =
-    "[network]\ncurrency = \"840\"\ndate = \"0314\"\nhost_ticks = 100\nadvice_ticks = 50\n[[node]]\nname = \"A\"\nid = \"1001\"\n[[node]]\nname = \"B\"\nid = \"1003\"\n[[node]]\nname = \"C\"\nid = \"1004\"\n[[node]]\nname = \"H\"\nid = \"1002\"\n[[link]]\nname = \"AB\"\nends = [\"A\", \"B\"]\nticks = 3\n[[link]]\nname = \"AC\"\nends = [\"A\", \"C\"]\nticks = 3\n[[link]]\nname = \"BH\"\nends = [\"B\", \"H\"]\nticks = 3\n[[link]]\nname = \"CH\"\nends = [\"C\", \"H\"]\nticks = 3\n[[link]]\nname = \"BC\"\nends = [\"B\", \"C\"]\nticks = 3\n[[issuer]]\nname = \"I\"\nprefix = \"4\"\nhome = \"H\"\nnamed = []\nceiling = 0\n[[issuer]]\nname = \"J\"\nprefix = \"41\"\nhome = \"C\"\nnamed = []\nceiling = 0\n[[route]]\nnode = \"A\"\nprefix = \"4\"\nlinks = [\"AB\", \"AC\"]\n[[route]]\nnode = \"B\"\nprefix = \"4\"\nlinks = [\"BH\"]\n[[route]]\nnode = \"C\"\nprefix = \"4\"\nlinks = [\"CH\"]\n[[route]]\nnode = \"B\"\nprefix = \"41\"\nlinks = [\"BC\"]\n[[route]]\nnode = \"H\"\nprefix = \"41\"\nlinks = [\"CH\"]\n";
+const NESTED: &str = r#"[network]
+currency = "840"
+date = "0314"
+host_ticks = 100
+advice_ticks = 50
+[[node]]
+name = "A"
+id = "1001"
+[[node]]
+name = "B"
+id = "1003"
+[[node]]
+name = "C"
+id = "1004"
+[[node]]
+name = "H"
+id = "1002"
+[[link]]
+name = "AB"
+ends = ["A", "B"]
+ticks = 3
+[[link]]
+name = "AC"
+ends = ["A", "C"]
+ticks = 3
+[[link]]
+name = "BH"
+ends = ["B", "H"]
+ticks = 3
+[[link]]
+name = "CH"
+ends = ["C", "H"]
+ticks = 3
+[[link]]
+name = "BC"
+ends = ["B", "C"]
+ticks = 3
+[[issuer]]
+name = "I"
+prefix = "4"
+home = "H"
+named = []
+ceiling = 0
+[[issuer]]
+name = "J"
+prefix = "41"
+home = "C"
+named = []
+ceiling = 0
+[[route]]
+node = "A"
+prefix = "4"
+links = ["AB", "AC"]
+[[route]]
+node = "B"
+prefix = "4"
+links = ["BH"]
+[[route]]
+node = "C"
+prefix = "4"
+links = ["CH"]
+[[route]]
+node = "B"
+prefix = "41"
+links = ["BC"]
+[[route]]
+node = "H"
+prefix = "41"
+links = ["CH"]
+"#;
 
 /// Whether the ranks that are made for tables are accepted with them.
 fn made_is_accepted(alloc: Global, tables: &str) -> Result<bool, AllocError> {

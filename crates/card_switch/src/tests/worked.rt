@@ -1,324 +1,763 @@
+//! Verdicts, ranks and messages that are worked out by hand.
 use crate::tests::says;
 use command_line::Job;
+use std::alloc::{AllocError, Global};
 use std::test::Fail;
 
+/// A gate and the home of the cards that begin with 4, joined by a link.
+const FIRST: &str = r#"[network]
+currency = "840"
+date = "0314"
+host_ticks = 100
+advice_ticks = 50
+[[node]]
+name = "A"
+id = "1001"
+[[node]]
+name = "H"
+id = "1002"
+[[link]]
+name = "AH"
+ends = ["A", "H"]
+ticks = 3
+[[acquirer]]
+id = "400001"
+node = "A"
+[[issuer]]
+name = "I"
+prefix = "4"
+home = "H"
+named = []
+ceiling = 0
+[[route]]
+node = "A"
+prefix = "4"
+links = ["AH"]
+%%
+RANKS 1
+A 4 1
+H 4 0
+END
+"#;
+
+/// No rows at all.
+const NO_NODES: &str = r#"[network]
+currency = "840"
+date = "0314"
+host_ticks = 100
+advice_ticks = 50
+%%
+RANKS 1
+END
+"#;
+
+/// B sends what it can't send to the home back to A.
+const THERE_AND_BACK: &str = r#"[network]
+currency = "840"
+date = "0314"
+host_ticks = 100
+advice_ticks = 50
+[[node]]
+name = "A"
+id = "1001"
+[[node]]
+name = "B"
+id = "1003"
+[[node]]
+name = "H"
+id = "1002"
+[[link]]
+name = "AB"
+ends = ["A", "B"]
+ticks = 3
+[[link]]
+name = "BH"
+ends = ["B", "H"]
+ticks = 3
+[[acquirer]]
+id = "400001"
+node = "A"
+[[issuer]]
+name = "I"
+prefix = "4"
+home = "H"
+named = []
+ceiling = 0
+[[route]]
+node = "A"
+prefix = "4"
+links = ["AB"]
+[[route]]
+node = "B"
+prefix = "4"
+links = ["BH", "AB"]
+%%
+RANKS 1
+A 4 2
+B 4 1
+H 4 0
+END
+"#;
+
+/// Two nodes share the ceiling of an issuer.
+const SHARED: &str = r#"[network]
+currency = "840"
+date = "0314"
+host_ticks = 100
+advice_ticks = 50
+[[node]]
+name = "A"
+id = "1001"
+[[node]]
+name = "B"
+id = "1003"
+[[node]]
+name = "H"
+id = "1002"
+[[link]]
+name = "AH"
+ends = ["A", "H"]
+ticks = 3
+[[link]]
+name = "BH"
+ends = ["B", "H"]
+ticks = 3
+[[acquirer]]
+id = "400001"
+node = "A"
+[[issuer]]
+name = "I"
+prefix = "4"
+home = "H"
+named = ["A", "B"]
+ceiling = 500
+[[route]]
+node = "A"
+prefix = "4"
+links = ["AH"]
+[[route]]
+node = "B"
+prefix = "4"
+links = ["BH"]
+[[stand_in]]
+node = "A"
+prefix = "4"
+day = 300
+single = 300
+[[stand_in]]
+node = "B"
+prefix = "4"
+day = 200
+single = 200
+%%
+RANKS 1
+A 4 1
+B 4 1
+H 4 0
+END
+"#;
+
+/// A node may approve for cards that begin with 4, but not for those that begin with 411111, which have another issuer.
+const NESTED: &str = r#"[network]
+currency = "840"
+date = "0314"
+host_ticks = 100
+advice_ticks = 50
+[[node]]
+name = "A"
+id = "1001"
+[[node]]
+name = "H"
+id = "1002"
+[[link]]
+name = "AH"
+ends = ["A", "H"]
+ticks = 3
+[[acquirer]]
+id = "400001"
+node = "A"
+[[issuer]]
+name = "I"
+prefix = "4"
+home = "H"
+named = ["A"]
+ceiling = 100
+[[issuer]]
+name = "J"
+prefix = "411111"
+home = "H"
+named = []
+ceiling = 0
+[[route]]
+node = "A"
+prefix = "4"
+links = ["AH"]
+[[stand_in]]
+node = "A"
+prefix = "4"
+day = 100
+single = 100
+[[stand_in]]
+node = "A"
+prefix = "411111"
+day = 0
+single = 0
+%%
+RANKS 1
+A 4 1
+H 4 0
+A 411111 1
+H 411111 0
+END
+"#;
+
+/// Whether `check` says this of a network with its ranks, where one piece of them is another.
+fn says_with(
+    alloc: Global,
+    bundle: &str,
+    old: &str,
+    new: &str,
+    want: &str,
+    status: u8,
+) -> Result<bool, AllocError> {
+    let Some((front, back)) = bundle.split_once(old) else {
+        return Ok(false);
+    };
+    let input = format!(in alloc; "{front}{new}{back}")?;
+    says(alloc, Job::Check, input.as_bytes(), want.as_bytes(), status)
+}
+
+/// Whether `make` prints this for the tables of a network.
+fn makes(alloc: Global, bundle: &str, want: &str, status: u8) -> Result<bool, AllocError> {
+    match bundle.split_once("%%\n") {
+        Some((tables, _)) => says(alloc, Job::Make, tables.as_bytes(), want.as_bytes(), status),
+        None => Ok(false),
+    }
+}
+
+/// Whether `decode` prints this for lines.
+fn decodes(alloc: Global, lines: &str, want: &str, status: u8) -> Result<bool, AllocError> {
+    let job = Job::Decode { frames: false };
+    says(alloc, job, lines.as_bytes(), want.as_bytes(), status)
+}
+
+/// A network of so many nodes and nothing else, with ranks.
+fn many_nodes(alloc: Global, count: usize) -> Result<String, AllocError> {
+    let mut input = String::from_str(
+        alloc,
+        "[network]\ncurrency = \"840\"\ndate = \"0314\"\nhost_ticks = 100\nadvice_ticks = 50\n",
+    )?;
+    for i in 1..=count {
+        let node = format!(in alloc; "[[node]]\nname = \"N{i}\"\nid = \"{i}\"\n")?;
+        input.push_str(&node)?;
+    }
+    input.push_str("%%\nRANKS 1\nA 4 1\nH 4 0\nEND\n")?;
+    Ok(input)
+}
+
 #[test]
-fn worked_check_1(rt: HostRuntime) -> Result<(), Fail> {
-    let cases: [(&str, Job, &[u8], &[u8], u8); 9] = [
-        (
-            "accepted",
+fn two_nodes_with_ranks_that_fall_are_accepted(rt: HostRuntime) -> Result<(), Fail> {
+    assert!(rt; says(rt.alloc(), Job::Check, FIRST.as_bytes(), b"accepted\n", 0)?);
+    Ok(())
+}
+
+#[test]
+fn an_input_without_parts_is_a_fault(rt: HostRuntime) -> Result<(), Fail> {
+    assert!(rt; says(rt.alloc(), Job::Check, b"", b"fault bundle 1 parts\n", 2)?);
+    Ok(())
+}
+
+#[test]
+fn a_network_without_nodes_is_accepted(rt: HostRuntime) -> Result<(), Fail> {
+    assert!(rt;
+        says(
+            rt.alloc(),
             Job::Check,
-            b"[network]\ncurrency = \"840\"\ndate = \"0314\"\nhost_ticks = 100\nadvice_ticks = 50\n[[node]]\nname = \"A\"\nid = \"1001\"\n[[node]]\nname = \"H\"\nid = \"1002\"\n[[link]]\nname = \"AH\"\nends = [\"A\", \"H\"]\nticks = 3\n[[acquirer]]\nid = \"400001\"\nnode = \"A\"\n[[issuer]]\nname = \"I\"\nprefix = \"4\"\nhome = \"H\"\nnamed = []\nceiling = 0\n[[route]]\nnode = \"A\"\nprefix = \"4\"\nlinks = [\"AH\"]\n%%\nRANKS 1\nA 4 1\nH 4 0\nEND\n",
+            NO_NODES.as_bytes(),
             b"accepted\n",
-            0,
-        ),
-        (
-            "no_rank",
+            0
+        )?
+    );
+    Ok(())
+}
+
+#[test]
+fn a_rank_has_to_be_there(rt: HostRuntime) -> Result<(), Fail> {
+    assert!(rt;
+        says_with(
+            rt.alloc(),
+            FIRST,
+            r#"A 4 1
+H 4 0
+"#,
+            "",
+            "refused 1 no rank: node A prefix 4\n",
+            1
+        )?
+    );
+    Ok(())
+}
+
+#[test]
+fn a_rank_has_to_be_less_at_the_other_end(rt: HostRuntime) -> Result<(), Fail> {
+    assert!(rt;
+        says(
+            rt.alloc(),
             Job::Check,
-            b"[network]\ncurrency = \"840\"\ndate = \"0314\"\nhost_ticks = 100\nadvice_ticks = 50\n[[node]]\nname = \"A\"\nid = \"1001\"\n[[node]]\nname = \"H\"\nid = \"1002\"\n[[link]]\nname = \"AH\"\nends = [\"A\", \"H\"]\nticks = 3\n[[acquirer]]\nid = \"400001\"\nnode = \"A\"\n[[issuer]]\nname = \"I\"\nprefix = \"4\"\nhome = \"H\"\nnamed = []\nceiling = 0\n[[route]]\nnode = \"A\"\nprefix = \"4\"\nlinks = [\"AH\"]\n%%\nRANKS 1\nEND\n",
-            b"refused 1 no rank: node A prefix 4\n",
-            1,
-        ),
-        ("empty", Job::Check, b"", b"fault bundle 1 parts\n", 2),
-        (
-            "network_only",
-            Job::Check,
-            b"[network]\ncurrency = \"840\"\ndate = \"0314\"\nhost_ticks = 100\nadvice_ticks = 50\n%%\nRANKS 1\nEND\n",
-            b"accepted\n",
-            0,
-        ),
-        (
-            "not_less",
-            Job::Check,
-            b"[network]\ncurrency = \"840\"\ndate = \"0314\"\nhost_ticks = 100\nadvice_ticks = 50\n[[node]]\nname = \"A\"\nid = \"1001\"\n[[node]]\nname = \"B\"\nid = \"1003\"\n[[node]]\nname = \"H\"\nid = \"1002\"\n[[link]]\nname = \"AB\"\nends = [\"A\", \"B\"]\nticks = 3\n[[link]]\nname = \"BH\"\nends = [\"B\", \"H\"]\nticks = 3\n[[acquirer]]\nid = \"400001\"\nnode = \"A\"\n[[issuer]]\nname = \"I\"\nprefix = \"4\"\nhome = \"H\"\nnamed = []\nceiling = 0\n[[route]]\nnode = \"A\"\nprefix = \"4\"\nlinks = [\"AB\"]\n[[route]]\nnode = \"B\"\nprefix = \"4\"\nlinks = [\"BH\", \"AB\"]\n%%\nRANKS 1\nA 4 2\nB 4 1\nH 4 0\nEND\n",
+            THERE_AND_BACK.as_bytes(),
             b"refused 2 not less: node B prefix 4 link AB\n",
-            1,
-        ),
-        (
-            "at_ceiling",
-            Job::Check,
-            b"[network]\ncurrency = \"840\"\ndate = \"0314\"\nhost_ticks = 100\nadvice_ticks = 50\n[[node]]\nname = \"A\"\nid = \"1001\"\n[[node]]\nname = \"B\"\nid = \"1003\"\n[[node]]\nname = \"H\"\nid = \"1002\"\n[[link]]\nname = \"AH\"\nends = [\"A\", \"H\"]\nticks = 3\n[[link]]\nname = \"BH\"\nends = [\"B\", \"H\"]\nticks = 3\n[[acquirer]]\nid = \"400001\"\nnode = \"A\"\n[[issuer]]\nname = \"I\"\nprefix = \"4\"\nhome = \"H\"\nnamed = [\"A\", \"B\"]\nceiling = 500\n[[route]]\nnode = \"A\"\nprefix = \"4\"\nlinks = [\"AH\"]\n[[route]]\nnode = \"B\"\nprefix = \"4\"\nlinks = [\"BH\"]\n[[stand_in]]\nnode = \"A\"\nprefix = \"4\"\nday = 300\nsingle = 300\n[[stand_in]]\nnode = \"B\"\nprefix = \"4\"\nday = 200\nsingle = 200\n%%\nRANKS 1\nA 4 1\nB 4 1\nH 4 0\nEND\n",
-            b"accepted\n",
-            0,
-        ),
-        (
-            "over_ceiling",
-            Job::Check,
-            b"[network]\ncurrency = \"840\"\ndate = \"0314\"\nhost_ticks = 100\nadvice_ticks = 50\n[[node]]\nname = \"A\"\nid = \"1001\"\n[[node]]\nname = \"B\"\nid = \"1003\"\n[[node]]\nname = \"H\"\nid = \"1002\"\n[[link]]\nname = \"AH\"\nends = [\"A\", \"H\"]\nticks = 3\n[[link]]\nname = \"BH\"\nends = [\"B\", \"H\"]\nticks = 3\n[[acquirer]]\nid = \"400001\"\nnode = \"A\"\n[[issuer]]\nname = \"I\"\nprefix = \"4\"\nhome = \"H\"\nnamed = [\"A\", \"B\"]\nceiling = 500\n[[route]]\nnode = \"A\"\nprefix = \"4\"\nlinks = [\"AH\"]\n[[route]]\nnode = \"B\"\nprefix = \"4\"\nlinks = [\"BH\"]\n[[stand_in]]\nnode = \"A\"\nprefix = \"4\"\nday = 300\nsingle = 300\n[[stand_in]]\nnode = \"B\"\nprefix = \"4\"\nday = 201\nsingle = 201\n%%\nRANKS 1\nA 4 1\nB 4 1\nH 4 0\nEND\n",
-            b"refused 4 over ceiling: prefix 4 sum 501 ceiling 500\n",
-            1,
-        ),
-        (
-            "further_row",
-            Job::Check,
-            b"[network]\ncurrency = \"840\"\ndate = \"0314\"\nhost_ticks = 100\nadvice_ticks = 50\n[[node]]\nname = \"A\"\nid = \"1001\"\n[[node]]\nname = \"H\"\nid = \"1002\"\n[[link]]\nname = \"AH\"\nends = [\"A\", \"H\"]\nticks = 3\n[[acquirer]]\nid = \"400001\"\nnode = \"A\"\n[[issuer]]\nname = \"I\"\nprefix = \"4\"\nhome = \"H\"\nnamed = [\"A\"]\nceiling = 100\n[[issuer]]\nname = \"J\"\nprefix = \"411111\"\nhome = \"H\"\nnamed = []\nceiling = 0\n[[route]]\nnode = \"A\"\nprefix = \"4\"\nlinks = [\"AH\"]\n[[stand_in]]\nnode = \"A\"\nprefix = \"4\"\nday = 100\nsingle = 100\n[[stand_in]]\nnode = \"A\"\nprefix = \"411111\"\nday = 0\nsingle = 0\n%%\nRANKS 1\nA 4 1\nH 4 0\nA 411111 1\nH 411111 0\nEND\n",
-            b"accepted\n",
-            0,
-        ),
-        (
-            "not_named",
-            Job::Check,
-            b"[network]\ncurrency = \"840\"\ndate = \"0314\"\nhost_ticks = 100\nadvice_ticks = 50\n[[node]]\nname = \"A\"\nid = \"1001\"\n[[node]]\nname = \"H\"\nid = \"1002\"\n[[link]]\nname = \"AH\"\nends = [\"A\", \"H\"]\nticks = 3\n[[acquirer]]\nid = \"400001\"\nnode = \"A\"\n[[issuer]]\nname = \"I\"\nprefix = \"4\"\nhome = \"H\"\nnamed = [\"A\"]\nceiling = 100\n[[issuer]]\nname = \"J\"\nprefix = \"411111\"\nhome = \"H\"\nnamed = []\nceiling = 0\n[[route]]\nnode = \"A\"\nprefix = \"4\"\nlinks = [\"AH\"]\n[[stand_in]]\nnode = \"A\"\nprefix = \"4\"\nday = 100\nsingle = 100\n%%\nRANKS 1\nA 4 1\nH 4 0\nA 411111 1\nH 411111 0\nEND\n",
-            b"refused 3 not named: node A prefix 411111\n",
-            1,
-        ),
-    ];
-    for (name, job, input, want, status) in cases.iter() {
-        assert!(rt; says(rt.alloc(), *job, input, want, *status)?, "{name}");
-    }
+            1
+        )?
+    );
     Ok(())
 }
 
 #[test]
-fn worked_check_2(rt: HostRuntime) -> Result<(), Fail> {
-    let cases: [(&str, Job, &[u8], &[u8], u8); 9] = [
-        (
-            "advice_ticks_0",
-            Job::Check,
-            b"[network]\ncurrency = \"840\"\ndate = \"0314\"\nhost_ticks = 100\nadvice_ticks = 0\n[[node]]\nname = \"A\"\nid = \"1001\"\n[[node]]\nname = \"H\"\nid = \"1002\"\n[[link]]\nname = \"AH\"\nends = [\"A\", \"H\"]\nticks = 3\n[[acquirer]]\nid = \"400001\"\nnode = \"A\"\n[[issuer]]\nname = \"I\"\nprefix = \"4\"\nhome = \"H\"\nnamed = []\nceiling = 0\n[[route]]\nnode = \"A\"\nprefix = \"4\"\nlinks = [\"AH\"]\n%%\nRANKS 1\nA 4 1\nH 4 0\nEND\n",
-            b"fault tables 3 bad value: network 1 advice_ticks\n",
-            2,
-        ),
-        (
-            "ticks_4000",
-            Job::Check,
-            b"[network]\ncurrency = \"840\"\ndate = \"0314\"\nhost_ticks = 100\nadvice_ticks = 50\n[[node]]\nname = \"A\"\nid = \"1001\"\n[[node]]\nname = \"H\"\nid = \"1002\"\n[[link]]\nname = \"AH\"\nends = [\"A\", \"H\"]\nticks = 4000\n[[acquirer]]\nid = \"400001\"\nnode = \"A\"\n[[issuer]]\nname = \"I\"\nprefix = \"4\"\nhome = \"H\"\nnamed = []\nceiling = 0\n[[route]]\nnode = \"A\"\nprefix = \"4\"\nlinks = [\"AH\"]\n%%\nRANKS 1\nA 4 1\nH 4 0\nEND\n",
-            b"accepted\n",
-            0,
-        ),
-        (
-            "ticks_4001",
-            Job::Check,
-            b"[network]\ncurrency = \"840\"\ndate = \"0314\"\nhost_ticks = 100\nadvice_ticks = 50\n[[node]]\nname = \"A\"\nid = \"1001\"\n[[node]]\nname = \"H\"\nid = \"1002\"\n[[link]]\nname = \"AH\"\nends = [\"A\", \"H\"]\nticks = 4001\n[[acquirer]]\nid = \"400001\"\nnode = \"A\"\n[[issuer]]\nname = \"I\"\nprefix = \"4\"\nhome = \"H\"\nnamed = []\nceiling = 0\n[[route]]\nnode = \"A\"\nprefix = \"4\"\nlinks = [\"AH\"]\n%%\nRANKS 1\nA 4 1\nH 4 0\nEND\n",
-            b"refused 8 timer too long: link AH\n",
-            1,
-        ),
-        (
-            "acquirer_twice",
-            Job::Check,
-            b"[network]\ncurrency = \"840\"\ndate = \"0314\"\nhost_ticks = 100\nadvice_ticks = 50\n[[node]]\nname = \"A\"\nid = \"1001\"\n[[node]]\nname = \"H\"\nid = \"1002\"\n[[link]]\nname = \"AH\"\nends = [\"A\", \"H\"]\nticks = 3\n[[acquirer]]\nid = \"400001\"\nnode = \"A\"\n[[acquirer]]\nid = \"0400001\"\nnode = \"H\"\n[[issuer]]\nname = \"I\"\nprefix = \"4\"\nhome = \"H\"\nnamed = []\nceiling = 0\n[[route]]\nnode = \"A\"\nprefix = \"4\"\nlinks = [\"AH\"]\n%%\nRANKS 1\nA 4 1\nH 4 0\nEND\n",
-            b"refused 6 acquirer twice: 00000400001\n",
-            1,
-        ),
-        (
-            "no_issuer",
-            Job::Check,
-            b"[network]\ncurrency = \"840\"\ndate = \"0314\"\nhost_ticks = 100\nadvice_ticks = 50\n[[node]]\nname = \"A\"\nid = \"1001\"\n[[node]]\nname = \"H\"\nid = \"1002\"\n[[link]]\nname = \"AH\"\nends = [\"A\", \"H\"]\nticks = 3\n[[acquirer]]\nid = \"400001\"\nnode = \"A\"\n[[issuer]]\nname = \"I\"\nprefix = \"4\"\nhome = \"H\"\nnamed = []\nceiling = 0\n[[route]]\nnode = \"A\"\nprefix = \"4\"\nlinks = [\"AH\"]\n[[route]]\nnode = \"A\"\nprefix = \"5\"\nlinks = [\"AH\"]\n%%\nRANKS 1\nA 4 1\nH 4 0\nEND\n",
-            b"refused 5 no issuer: node A prefix 5\n",
-            1,
-        ),
-        (
-            "node_id_twice",
-            Job::Check,
-            b"[network]\ncurrency = \"840\"\ndate = \"0314\"\nhost_ticks = 100\nadvice_ticks = 50\n[[node]]\nname = \"A\"\nid = \"1001\"\n[[node]]\nname = \"H\"\nid = \"01001\"\n[[link]]\nname = \"AH\"\nends = [\"A\", \"H\"]\nticks = 3\n[[acquirer]]\nid = \"400001\"\nnode = \"A\"\n[[issuer]]\nname = \"I\"\nprefix = \"4\"\nhome = \"H\"\nnamed = []\nceiling = 0\n[[route]]\nnode = \"A\"\nprefix = \"4\"\nlinks = [\"AH\"]\n%%\nRANKS 1\nA 4 1\nH 4 0\nEND\n",
-            b"refused 7 node id twice: 00000001001\n",
-            1,
-        ),
-        (
-            "after_end",
-            Job::Check,
-            b"[network]\ncurrency = \"840\"\ndate = \"0314\"\nhost_ticks = 100\nadvice_ticks = 50\n[[node]]\nname = \"A\"\nid = \"1001\"\n[[node]]\nname = \"H\"\nid = \"1002\"\n[[link]]\nname = \"AH\"\nends = [\"A\", \"H\"]\nticks = 3\n[[acquirer]]\nid = \"400001\"\nnode = \"A\"\n[[issuer]]\nname = \"I\"\nprefix = \"4\"\nhome = \"H\"\nnamed = []\nceiling = 0\n[[route]]\nnode = \"A\"\nprefix = \"4\"\nlinks = [\"AH\"]\n%%\nRANKS 1\nA 4 1\nH 4 0\nEND\nA 5 1\n",
-            b"fault ranks 5 after end\n",
-            2,
-        ),
-        (
-            "header",
-            Job::Check,
-            b"[network]\ncurrency = \"840\"\ndate = \"0314\"\nhost_ticks = 100\nadvice_ticks = 50\n[[node]]\nname = \"A\"\nid = \"1001\"\n[[node]]\nname = \"H\"\nid = \"1002\"\n[[link]]\nname = \"AH\"\nends = [\"A\", \"H\"]\nticks = 3\n[[acquirer]]\nid = \"400001\"\nnode = \"A\"\n[[issuer]]\nname = \"I\"\nprefix = \"4\"\nhome = \"H\"\nnamed = []\nceiling = 0\n[[route]]\nnode = \"A\"\nprefix = \"4\"\nlinks = [\"AH\"]\n%%\nRANKS 2\nA 4 1\nH 4 0\nEND\n",
-            b"fault ranks 1 header\n",
-            2,
-        ),
-        (
-            "line",
-            Job::Check,
-            b"[network]\ncurrency = \"840\"\ndate = \"0314\"\nhost_ticks = 100\nadvice_ticks = 50\n[[node]]\nname = \"A\"\nid = \"1001\"\n[[node]]\nname = \"H\"\nid = \"1002\"\n[[link]]\nname = \"AH\"\nends = [\"A\", \"H\"]\nticks = 3\n[[acquirer]]\nid = \"400001\"\nnode = \"A\"\n[[issuer]]\nname = \"I\"\nprefix = \"4\"\nhome = \"H\"\nnamed = []\nceiling = 0\n[[route]]\nnode = \"A\"\nprefix = \"4\"\nlinks = [\"AH\"]\n%%\nRANKS 1\nA 4 65536\nH 4 0\nEND\n",
-            b"fault ranks 2 line 2\n",
-            2,
-        ),
-    ];
-    for (name, job, input, want, status) in cases.iter() {
-        assert!(rt; says(rt.alloc(), *job, input, want, *status)?, "{name}");
-    }
+fn limits_may_add_up_to_the_ceiling(rt: HostRuntime) -> Result<(), Fail> {
+    assert!(rt; says(rt.alloc(), Job::Check, SHARED.as_bytes(), b"accepted\n", 0)?);
     Ok(())
 }
 
 #[test]
-fn worked_check_3(rt: HostRuntime) -> Result<(), Fail> {
-    let cases: [(&str, Job, &[u8], &[u8], u8); 8] = [
-        (
-            "no_end",
-            Job::Check,
-            b"[network]\ncurrency = \"840\"\ndate = \"0314\"\nhost_ticks = 100\nadvice_ticks = 50\n[[node]]\nname = \"A\"\nid = \"1001\"\n[[node]]\nname = \"H\"\nid = \"1002\"\n[[link]]\nname = \"AH\"\nends = [\"A\", \"H\"]\nticks = 3\n[[acquirer]]\nid = \"400001\"\nnode = \"A\"\n[[issuer]]\nname = \"I\"\nprefix = \"4\"\nhome = \"H\"\nnamed = []\nceiling = 0\n[[route]]\nnode = \"A\"\nprefix = \"4\"\nlinks = [\"AH\"]\n%%\nRANKS 1\nA 4 1\nH 4 0\n",
-            b"fault ranks 4 no end\n",
-            2,
-        ),
-        (
-            "twice",
-            Job::Check,
-            b"[network]\ncurrency = \"840\"\ndate = \"0314\"\nhost_ticks = 100\nadvice_ticks = 50\n[[node]]\nname = \"A\"\nid = \"1001\"\n[[node]]\nname = \"H\"\nid = \"1002\"\n[[link]]\nname = \"AH\"\nends = [\"A\", \"H\"]\nticks = 3\n[[acquirer]]\nid = \"400001\"\nnode = \"A\"\n[[issuer]]\nname = \"I\"\nprefix = \"4\"\nhome = \"H\"\nnamed = []\nceiling = 0\n[[route]]\nnode = \"A\"\nprefix = \"4\"\nlinks = [\"AH\"]\n%%\nRANKS 1\nA 4 1\nA 4 1\nEND\n",
-            b"fault ranks 3 twice 3\n",
-            2,
-        ),
-        (
-            "missing",
-            Job::Check,
-            b"[network]\ncurrency = \"840\"\ndate = \"0314\"\nhost_ticks = 100\nadvice_ticks = 50\n[[node]]\nname = \"A\"\n[[node]]\nname = \"H\"\nid = \"1002\"\n[[link]]\nname = \"AH\"\nends = [\"A\", \"H\"]\nticks = 3\n[[acquirer]]\nid = \"400001\"\nnode = \"A\"\n[[issuer]]\nname = \"I\"\nprefix = \"4\"\nhome = \"H\"\nnamed = []\nceiling = 0\n[[route]]\nnode = \"A\"\nprefix = \"4\"\nlinks = [\"AH\"]\n%%\nRANKS 1\nA 4 1\nH 4 0\nEND\n",
-            b"fault tables 2 missing field: node 1 id\n",
-            2,
-        ),
-        (
-            "not_at_link",
-            Job::Check,
-            b"[network]\ncurrency = \"840\"\ndate = \"0314\"\nhost_ticks = 100\nadvice_ticks = 50\n[[node]]\nname = \"A\"\nid = \"1001\"\n[[node]]\nname = \"B\"\nid = \"1003\"\n[[node]]\nname = \"H\"\nid = \"1002\"\n[[link]]\nname = \"AB\"\nends = [\"A\", \"B\"]\nticks = 3\n[[link]]\nname = \"BH\"\nends = [\"B\", \"H\"]\nticks = 3\n[[acquirer]]\nid = \"400001\"\nnode = \"A\"\n[[issuer]]\nname = \"I\"\nprefix = \"4\"\nhome = \"H\"\nnamed = []\nceiling = 0\n[[route]]\nnode = \"A\"\nprefix = \"4\"\nlinks = [\"BH\"]\n%%\nRANKS 1\nA 4 1\nH 4 0\nEND\n",
-            b"fault tables 7 not at link: route 1 links\n",
-            2,
-        ),
-        (
-            "not_toml",
+fn limits_may_not_add_up_to_more(rt: HostRuntime) -> Result<(), Fail> {
+    assert!(rt;
+        says_with(
+            rt.alloc(),
+            SHARED,
+            r#"day = 200
+single = 200
+"#,
+            r#"day = 201
+single = 201
+"#,
+            "refused 4 over ceiling: prefix 4 sum 501 ceiling 500\n",
+            1
+        )?
+    );
+    Ok(())
+}
+
+#[test]
+fn a_further_row_takes_a_limit_back(rt: HostRuntime) -> Result<(), Fail> {
+    assert!(rt; says(rt.alloc(), Job::Check, NESTED.as_bytes(), b"accepted\n", 0)?);
+    Ok(())
+}
+
+#[test]
+fn a_limit_goes_on_at_a_further_prefix(rt: HostRuntime) -> Result<(), Fail> {
+    assert!(rt;
+        says_with(
+            rt.alloc(),
+            NESTED,
+            r#"[[stand_in]]
+node = "A"
+prefix = "411111"
+day = 0
+single = 0
+"#,
+            "",
+            "refused 3 not named: node A prefix 411111\n",
+            1
+        )?
+    );
+    Ok(())
+}
+
+#[test]
+fn advices_are_sent_again_after_one_tick_at_least(rt: HostRuntime) -> Result<(), Fail> {
+    assert!(rt;
+        says_with(
+            rt.alloc(),
+            FIRST,
+            "advice_ticks = 50",
+            "advice_ticks = 0",
+            "fault tables 3 bad value: network 1 advice_ticks\n",
+            2
+        )?
+    );
+    Ok(())
+}
+
+#[test]
+fn a_timer_runs_for_4000_ticks_at_most(rt: HostRuntime) -> Result<(), Fail> {
+    assert!(rt;
+        says_with(
+            rt.alloc(),
+            FIRST,
+            "ticks = 3\n",
+            "ticks = 4000\n",
+            "accepted\n",
+            0
+        )?
+    );
+    assert!(rt;
+        says_with(
+            rt.alloc(),
+            FIRST,
+            "ticks = 3\n",
+            "ticks = 4001\n",
+            "refused 8 timer too long: link AH\n",
+            1
+        )?
+    );
+    Ok(())
+}
+
+#[test]
+fn an_acquirer_has_one_gate(rt: HostRuntime) -> Result<(), Fail> {
+    assert!(rt;
+        says_with(
+            rt.alloc(),
+            FIRST,
+            "[[issuer]]\n",
+            r#"[[acquirer]]
+id = "0400001"
+node = "H"
+[[issuer]]
+"#,
+            "refused 6 acquirer twice: 00000400001\n",
+            1
+        )?
+    );
+    Ok(())
+}
+
+#[test]
+fn a_row_has_an_issuer(rt: HostRuntime) -> Result<(), Fail> {
+    assert!(rt;
+        says_with(
+            rt.alloc(),
+            FIRST,
+            "%%\n",
+            r#"[[route]]
+node = "A"
+prefix = "5"
+links = ["AH"]
+%%
+"#,
+            "refused 5 no issuer: node A prefix 5\n",
+            1
+        )?
+    );
+    Ok(())
+}
+
+#[test]
+fn ids_of_nodes_are_told_apart_with_their_zeros(rt: HostRuntime) -> Result<(), Fail> {
+    assert!(rt;
+        says_with(
+            rt.alloc(),
+            FIRST,
+            "id = \"1002\"",
+            "id = \"01001\"",
+            "refused 7 node id twice: 00000001001\n",
+            1
+        )?
+    );
+    Ok(())
+}
+
+#[test]
+fn ranks_begin_with_their_header(rt: HostRuntime) -> Result<(), Fail> {
+    assert!(rt;
+        says_with(
+            rt.alloc(),
+            FIRST,
+            "RANKS 1\n",
+            "RANKS 2\n",
+            "fault ranks 1 header\n",
+            2
+        )?
+    );
+    Ok(())
+}
+
+#[test]
+fn a_rank_has_16_bits(rt: HostRuntime) -> Result<(), Fail> {
+    assert!(rt;
+        says_with(
+            rt.alloc(),
+            FIRST,
+            "A 4 1\n",
+            "A 4 65536\n",
+            "fault ranks 2 line 2\n",
+            2
+        )?
+    );
+    Ok(())
+}
+
+#[test]
+fn a_pair_has_one_rank(rt: HostRuntime) -> Result<(), Fail> {
+    assert!(rt;
+        says_with(
+            rt.alloc(),
+            FIRST,
+            "H 4 0\n",
+            "A 4 1\n",
+            "fault ranks 3 twice 3\n",
+            2
+        )?
+    );
+    Ok(())
+}
+
+#[test]
+fn ranks_have_an_end(rt: HostRuntime) -> Result<(), Fail> {
+    assert!(rt; says_with(rt.alloc(), FIRST, "END\n", "", "fault ranks 4 no end\n", 2)?);
+    Ok(())
+}
+
+#[test]
+fn nothing_stands_behind_the_end(rt: HostRuntime) -> Result<(), Fail> {
+    assert!(rt;
+        says_with(
+            rt.alloc(),
+            FIRST,
+            "END\n",
+            r#"END
+A 5 1
+"#,
+            "fault ranks 5 after end\n",
+            2
+        )?
+    );
+    Ok(())
+}
+
+#[test]
+fn a_node_has_an_id(rt: HostRuntime) -> Result<(), Fail> {
+    assert!(rt;
+        says_with(
+            rt.alloc(),
+            FIRST,
+            "id = \"1001\"\n",
+            "",
+            "fault tables 2 missing field: node 1 id\n",
+            2
+        )?
+    );
+    Ok(())
+}
+
+#[test]
+fn a_name_stands_for_one_node(rt: HostRuntime) -> Result<(), Fail> {
+    assert!(rt;
+        says_with(
+            rt.alloc(),
+            FIRST,
+            "name = \"H\"",
+            "name = \"A\"",
+            "fault tables 5 twice: node 2 name\n",
+            2
+        )?
+    );
+    Ok(())
+}
+
+#[test]
+fn a_link_ends_at_nodes_of_the_tables(rt: HostRuntime) -> Result<(), Fail> {
+    assert!(rt;
+        says_with(
+            rt.alloc(),
+            FIRST,
+            "ends = [\"A\", \"H\"]",
+            "ends = [\"A\", \"Z\"]",
+            "fault tables 4 unknown name: link 1 ends\n",
+            2
+        )?
+    );
+    Ok(())
+}
+
+#[test]
+fn a_route_goes_over_links_of_its_node(rt: HostRuntime) -> Result<(), Fail> {
+    assert!(rt;
+        says_with(
+            rt.alloc(),
+            THERE_AND_BACK,
+            r#"links = ["AB"]
+[[route]]
+node = "B"
+prefix = "4"
+links = ["BH", "AB"]
+"#,
+            "links = [\"BH\"]\n",
+            "fault tables 7 not at link: route 1 links\n",
+            2
+        )?
+    );
+    Ok(())
+}
+
+#[test]
+fn tables_are_toml(rt: HostRuntime) -> Result<(), Fail> {
+    assert!(rt;
+        says(
+            rt.alloc(),
             Job::Check,
             b"[\n%%\nRANKS 1\nA 4 1\nH 4 0\nEND\n",
             b"fault tables 1 not toml\n",
-            2,
-        ),
-        (
-            "too_many",
+            2
+        )?
+    );
+    Ok(())
+}
+
+#[test]
+fn there_are_at_most_64_nodes(rt: HostRuntime) -> Result<(), Fail> {
+    let input = many_nodes(rt.alloc(), 65)?;
+    assert!(rt;
+        says(
+            rt.alloc(),
             Job::Check,
-            b"[network]\ncurrency = \"840\"\ndate = \"0314\"\nhost_ticks = 100\nadvice_ticks = 50\n[[node]]\nname = \"N1\"\nid = \"1\"\n[[node]]\nname = \"N2\"\nid = \"2\"\n[[node]]\nname = \"N3\"\nid = \"3\"\n[[node]]\nname = \"N4\"\nid = \"4\"\n[[node]]\nname = \"N5\"\nid = \"5\"\n[[node]]\nname = \"N6\"\nid = \"6\"\n[[node]]\nname = \"N7\"\nid = \"7\"\n[[node]]\nname = \"N8\"\nid = \"8\"\n[[node]]\nname = \"N9\"\nid = \"9\"\n[[node]]\nname = \"N10\"\nid = \"10\"\n[[node]]\nname = \"N11\"\nid = \"11\"\n[[node]]\nname = \"N12\"\nid = \"12\"\n[[node]]\nname = \"N13\"\nid = \"13\"\n[[node]]\nname = \"N14\"\nid = \"14\"\n[[node]]\nname = \"N15\"\nid = \"15\"\n[[node]]\nname = \"N16\"\nid = \"16\"\n[[node]]\nname = \"N17\"\nid = \"17\"\n[[node]]\nname = \"N18\"\nid = \"18\"\n[[node]]\nname = \"N19\"\nid = \"19\"\n[[node]]\nname = \"N20\"\nid = \"20\"\n[[node]]\nname = \"N21\"\nid = \"21\"\n[[node]]\nname = \"N22\"\nid = \"22\"\n[[node]]\nname = \"N23\"\nid = \"23\"\n[[node]]\nname = \"N24\"\nid = \"24\"\n[[node]]\nname = \"N25\"\nid = \"25\"\n[[node]]\nname = \"N26\"\nid = \"26\"\n[[node]]\nname = \"N27\"\nid = \"27\"\n[[node]]\nname = \"N28\"\nid = \"28\"\n[[node]]\nname = \"N29\"\nid = \"29\"\n[[node]]\nname = \"N30\"\nid = \"30\"\n[[node]]\nname = \"N31\"\nid = \"31\"\n[[node]]\nname = \"N32\"\nid = \"32\"\n[[node]]\nname = \"N33\"\nid = \"33\"\n[[node]]\nname = \"N34\"\nid = \"34\"\n[[node]]\nname = \"N35\"\nid = \"35\"\n[[node]]\nname = \"N36\"\nid = \"36\"\n[[node]]\nname = \"N37\"\nid = \"37\"\n[[node]]\nname = \"N38\"\nid = \"38\"\n[[node]]\nname = \"N39\"\nid = \"39\"\n[[node]]\nname = \"N40\"\nid = \"40\"\n[[node]]\nname = \"N41\"\nid = \"41\"\n[[node]]\nname = \"N42\"\nid = \"42\"\n[[node]]\nname = \"N43\"\nid = \"43\"\n[[node]]\nname = \"N44\"\nid = \"44\"\n[[node]]\nname = \"N45\"\nid = \"45\"\n[[node]]\nname = \"N46\"\nid = \"46\"\n[[node]]\nname = \"N47\"\nid = \"47\"\n[[node]]\nname = \"N48\"\nid = \"48\"\n[[node]]\nname = \"N49\"\nid = \"49\"\n[[node]]\nname = \"N50\"\nid = \"50\"\n[[node]]\nname = \"N51\"\nid = \"51\"\n[[node]]\nname = \"N52\"\nid = \"52\"\n[[node]]\nname = \"N53\"\nid = \"53\"\n[[node]]\nname = \"N54\"\nid = \"54\"\n[[node]]\nname = \"N55\"\nid = \"55\"\n[[node]]\nname = \"N56\"\nid = \"56\"\n[[node]]\nname = \"N57\"\nid = \"57\"\n[[node]]\nname = \"N58\"\nid = \"58\"\n[[node]]\nname = \"N59\"\nid = \"59\"\n[[node]]\nname = \"N60\"\nid = \"60\"\n[[node]]\nname = \"N61\"\nid = \"61\"\n[[node]]\nname = \"N62\"\nid = \"62\"\n[[node]]\nname = \"N63\"\nid = \"63\"\n[[node]]\nname = \"N64\"\nid = \"64\"\n[[node]]\nname = \"N65\"\nid = \"65\"\n%%\nRANKS 1\nA 4 1\nH 4 0\nEND\n",
+            input.as_bytes(),
             b"fault tables 6 too many: node\n",
-            2,
-        ),
-        (
-            "twice",
-            Job::Check,
-            b"[network]\ncurrency = \"840\"\ndate = \"0314\"\nhost_ticks = 100\nadvice_ticks = 50\n[[node]]\nname = \"A\"\nid = \"1001\"\n[[node]]\nname = \"A\"\nid = \"1002\"\n[[link]]\nname = \"AH\"\nends = [\"A\", \"H\"]\nticks = 3\n[[acquirer]]\nid = \"400001\"\nnode = \"A\"\n[[issuer]]\nname = \"I\"\nprefix = \"4\"\nhome = \"H\"\nnamed = []\nceiling = 0\n[[route]]\nnode = \"A\"\nprefix = \"4\"\nlinks = [\"AH\"]\n%%\nRANKS 1\nA 4 1\nH 4 0\nEND\n",
-            b"fault tables 5 twice: node 2 name\n",
-            2,
-        ),
-        (
-            "unknown",
-            Job::Check,
-            b"[network]\ncurrency = \"840\"\ndate = \"0314\"\nhost_ticks = 100\nadvice_ticks = 50\n[[node]]\nname = \"A\"\nid = \"1001\"\n[[node]]\nname = \"H\"\nid = \"1002\"\n[[link]]\nname = \"AH\"\nends = [\"A\", \"Z\"]\nticks = 3\n[[acquirer]]\nid = \"400001\"\nnode = \"A\"\n[[issuer]]\nname = \"I\"\nprefix = \"4\"\nhome = \"H\"\nnamed = []\nceiling = 0\n[[route]]\nnode = \"A\"\nprefix = \"4\"\nlinks = [\"AH\"]\n%%\nRANKS 1\nA 4 1\nH 4 0\nEND\n",
-            b"fault tables 4 unknown name: link 1 ends\n",
-            2,
-        ),
-    ];
-    for (name, job, input, want, status) in cases.iter() {
-        assert!(rt; says(rt.alloc(), *job, input, want, *status)?, "{name}");
-    }
+            2
+        )?
+    );
     Ok(())
 }
 
 #[test]
-fn worked_make_1(rt: HostRuntime) -> Result<(), Fail> {
-    let cases: [(&str, Job, &[u8], &[u8], u8); 2] = [
-        (
-            "circle",
-            Job::Make,
-            b"[network]\ncurrency = \"840\"\ndate = \"0314\"\nhost_ticks = 100\nadvice_ticks = 50\n[[node]]\nname = \"A\"\nid = \"1001\"\n[[node]]\nname = \"B\"\nid = \"1003\"\n[[node]]\nname = \"H\"\nid = \"1002\"\n[[link]]\nname = \"AB\"\nends = [\"A\", \"B\"]\nticks = 3\n[[link]]\nname = \"BH\"\nends = [\"B\", \"H\"]\nticks = 3\n[[acquirer]]\nid = \"400001\"\nnode = \"A\"\n[[issuer]]\nname = \"I\"\nprefix = \"4\"\nhome = \"H\"\nnamed = []\nceiling = 0\n[[route]]\nnode = \"A\"\nprefix = \"4\"\nlinks = [\"AB\"]\n[[route]]\nnode = \"B\"\nprefix = \"4\"\nlinks = [\"BH\", \"AB\"]\n",
-            b"circle 4 A B A\n",
-            1,
-        ),
-        (
-            "make",
-            Job::Make,
-            b"[network]\ncurrency = \"840\"\ndate = \"0314\"\nhost_ticks = 100\nadvice_ticks = 50\n[[node]]\nname = \"A\"\nid = \"1001\"\n[[node]]\nname = \"H\"\nid = \"1002\"\n[[link]]\nname = \"AH\"\nends = [\"A\", \"H\"]\nticks = 3\n[[acquirer]]\nid = \"400001\"\nnode = \"A\"\n[[issuer]]\nname = \"I\"\nprefix = \"4\"\nhome = \"H\"\nnamed = []\nceiling = 0\n[[route]]\nnode = \"A\"\nprefix = \"4\"\nlinks = [\"AH\"]\n",
-            b"RANKS 1\nA 4 1\nH 4 0\nEND\n",
-            0,
-        ),
-    ];
-    for (name, job, input, want, status) in cases.iter() {
-        assert!(rt; says(rt.alloc(), *job, input, want, *status)?, "{name}");
-    }
+fn a_route_there_and_back_is_a_circle(rt: HostRuntime) -> Result<(), Fail> {
+    assert!(rt; makes(rt.alloc(), THERE_AND_BACK, "circle 4 A B A\n", 1)?);
     Ok(())
 }
 
 #[test]
-fn worked_decode_1(rt: HostRuntime) -> Result<(), Fail> {
-    let cases: [(&str, Job, &[u8], &[u8], u8); 9] = [
-        (
-            "element_65",
-            Job::Decode { frames: false },
-            b"010080000000000000008000000000000000\n",
-            b"message 1\nfault message 4 element 65\n",
-            2,
-        ),
-        (
-            "length",
-            Job::Decode { frames: false },
-            b"01007220000100008000204111111111111111000000000000001000031409153000000106400001840\n",
-            b"message 1\nfault message 5 length 2\n",
-            2,
-        ),
-        (
-            "lower_case",
-            Job::Decode { frames: false },
-            b"0400f2200001000080000000004000000000164111111111111111000000000000001000031409160000000206400001840010000000103140915300000040000100000000000\n",
-            b"message 1\ntype 0400\n2 4111111111111111\n3 000000\n4 000000001000\n7 0314091600\n11 000002\n32 400001\n49 840\n90 010000000103140915300000040000100000000000\n",
-            0,
-        ),
-        (
-            "no_elements",
-            Job::Decode { frames: false },
-            b"01000000000000000000\n",
-            b"message 1\ntype 0100\n",
-            0,
-        ),
-        (
-            "short",
-            Job::Decode { frames: false },
-            b"0100722000010000800016411111111111111100000000000000100003140915300000010640000184\n",
-            b"message 1\nfault message 1 short\n",
-            2,
-        ),
-        (
-            "trailing",
-            Job::Decode { frames: false },
-            b"01007220000100008000164111111111111111000000000000001000031409153000000106400001840X\n",
-            b"message 1\nfault message 7 trailing\n",
-            2,
-        ),
-        (
-            "type",
-            Job::Decode { frames: false },
-            b"02000000000000000000",
-            b"message 1\nfault message 2 type\n",
-            2,
-        ),
-        (
-            "decode",
-            Job::Decode { frames: false },
-            b"01007220000100008000164111111111111111000000000000001000031409153000000106400001840\n02000000000000000000\n",
-            b"message 1\ntype 0100\n2 4111111111111111\n3 000000\n4 000000001000\n7 0314091530\n11 000001\n32 400001\n49 840\nmessage 2\nfault message 2 type\n",
-            2,
-        ),
-        (
-            "empty_line",
-            Job::Decode { frames: false },
-            b"\n",
-            b"message 1\nfault message 1 short\n",
-            2,
-        ),
-    ];
-    for (name, job, input, want, status) in cases.iter() {
-        assert!(rt; says(rt.alloc(), *job, input, want, *status)?, "{name}");
-    }
+fn a_rank_is_the_number_of_links_to_the_home(rt: HostRuntime) -> Result<(), Fail> {
+    assert!(rt; makes(rt.alloc(), FIRST, "RANKS 1\nA 4 1\nH 4 0\nEND\n", 0)?);
     Ok(())
 }
 
 #[test]
-fn worked_decode_2(rt: HostRuntime) -> Result<(), Fail> {
-    let cases: [(&str, Job, &[u8], &[u8], u8); 2] = [
-        ("no_bytes", Job::Decode { frames: false }, b"", b"", 0),
-        (
-            "frames",
-            Job::Decode { frames: true },
+fn element_65_is_a_fault(rt: HostRuntime) -> Result<(), Fail> {
+    assert!(rt;
+        decodes(
+            rt.alloc(),
+            "010080000000000000008000000000000000\n",
+            "message 1\nfault message 4 element 65\n",
+            2
+        )?
+    );
+    Ok(())
+}
+
+#[test]
+fn a_card_number_has_at_most_19_digits(rt: HostRuntime) -> Result<(), Fail> {
+    assert!(rt;
+        decodes(
+            rt.alloc(),
+            "01007220000100008000204111111111111111000000000000001000031409153000000106400001840\n",
+            "message 1\nfault message 5 length 2\n",
+            2
+        )?
+    );
+    Ok(())
+}
+
+#[test]
+fn bit_maps_may_be_in_lower_case(rt: HostRuntime) -> Result<(), Fail> {
+    assert!(rt;
+        decodes(
+            rt.alloc(),
+            "0400f2200001000080000000004000000000164111111111111111000000000000001000031409160000000206400001840010000000103140915300000040000100000000000\n",
+            "message 1\ntype 0400\n2 4111111111111111\n3 000000\n4 000000001000\n7 0314091600\n11 000002\n32 400001\n49 840\n90 010000000103140915300000040000100000000000\n",
+            0
+        )?
+    );
+    Ok(())
+}
+
+#[test]
+fn a_message_may_have_no_elements(rt: HostRuntime) -> Result<(), Fail> {
+    assert!(rt;
+        decodes(
+            rt.alloc(),
+            "01000000000000000000\n",
+            "message 1\ntype 0100\n",
+            0
+        )?
+    );
+    Ok(())
+}
+
+#[test]
+fn a_message_that_ends_early_is_short(rt: HostRuntime) -> Result<(), Fail> {
+    assert!(rt;
+        decodes(
+            rt.alloc(),
+            "0100722000010000800016411111111111111100000000000000100003140915300000010640000184\n",
+            "message 1\nfault message 1 short\n",
+            2
+        )?
+    );
+    Ok(())
+}
+
+#[test]
+fn nothing_stands_behind_the_last_element(rt: HostRuntime) -> Result<(), Fail> {
+    assert!(rt;
+        decodes(
+            rt.alloc(),
+            "01007220000100008000164111111111111111000000000000001000031409153000000106400001840X\n",
+            "message 1\nfault message 7 trailing\n",
+            2
+        )?
+    );
+    Ok(())
+}
+
+#[test]
+fn a_type_is_one_of_twelve(rt: HostRuntime) -> Result<(), Fail> {
+    assert!(rt;
+        decodes(
+            rt.alloc(),
+            "02000000000000000000",
+            "message 1\nfault message 2 type\n",
+            2
+        )?
+    );
+    Ok(())
+}
+
+#[test]
+fn messages_are_printed_one_after_another(rt: HostRuntime) -> Result<(), Fail> {
+    assert!(rt;
+        decodes(
+            rt.alloc(),
+            "01007220000100008000164111111111111111000000000000001000031409153000000106400001840\n02000000000000000000\n",
+            "message 1\ntype 0100\n2 4111111111111111\n3 000000\n4 000000001000\n7 0314091530\n11 000001\n32 400001\n49 840\nmessage 2\nfault message 2 type\n",
+            2
+        )?
+    );
+    Ok(())
+}
+
+#[test]
+fn an_empty_line_is_a_short_message(rt: HostRuntime) -> Result<(), Fail> {
+    assert!(rt; decodes(rt.alloc(), "\n", "message 1\nfault message 1 short\n", 2)?);
+    Ok(())
+}
+
+#[test]
+fn an_empty_input_has_no_messages(rt: HostRuntime) -> Result<(), Fail> {
+    assert!(rt; decodes(rt.alloc(), "", "", 0)?);
+    Ok(())
+}
+
+#[test]
+fn a_frame_that_ends_early_is_short(rt: HostRuntime) -> Result<(), Fail> {
+    let frames = Job::Decode { frames: true };
+    assert!(rt;
+        says(
+            rt.alloc(),
+            frames,
             b"\x00S01007220000100008000164111111111111111000000000000001000031409153000000106400001840\x00\x050",
             b"message 1\ntype 0100\n2 4111111111111111\n3 000000\n4 000000001000\n7 0314091530\n11 000001\n32 400001\n49 840\nmessage 2\nfault message 1 short\n",
-            2,
-        ),
-    ];
-    for (name, job, input, want, status) in cases.iter() {
-        assert!(rt; says(rt.alloc(), *job, input, want, *status)?, "{name}");
-    }
+            2
+        )?
+    );
     Ok(())
 }
