@@ -2,7 +2,7 @@
 ghost use Rattle.std.specs.Prelude.{◌≡◌, false, IsTrue};
 ghost use Rattle.pending_book.specs.Requests.{is_open, IsPending};
 
-use crate::words::{Shape, card, key, link, request};
+use crate::requests::words::{Shape, card, key, link, request};
 use card_digits::Key;
 use pending_book::{BookFault, PendingBook, Request};
 use std::alloc::{AllocError, Global};

@@ -1,6 +1,6 @@
 //! The orders in which a book lists its requests, and what it knows of keys.
-use crate::desk::{Step, first_wrong};
-use crate::words::{due_at_once, of_card, plain};
+use crate::requests::desk::{Step, first_wrong};
+use crate::requests::words::{due_at_once, of_card, plain};
 use std::test::*;
 
 const FIRST: &str = "4111111111111111";

@@ -1,5 +1,5 @@
 //! Scripts, and what they give.
-use crate::scripts::{End, Wanted, end_of};
+use crate::replays::scripts::{End, Wanted, end_of};
 use net_replay::ReplayFault;
 use network_law::StepFault;
 use std::test::Fail;

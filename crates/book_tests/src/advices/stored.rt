@@ -1,5 +1,5 @@
 //! Advices, stored, put and acknowledged.
-use crate::desk::{Step, first_wrong};
+use crate::advices::desk::{Step, first_wrong};
 use std::test::*;
 
 /// The advices of stand-in approvals, with trace numbers 000001 and 000002.

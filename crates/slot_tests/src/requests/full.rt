@@ -1,6 +1,6 @@
 //! A book with as many pending requests as it may have.
-use crate::desk::{Step, first_wrong};
-use crate::words::plain;
+use crate::requests::desk::{Step, first_wrong};
+use crate::requests::words::plain;
 use std::test::*;
 
 /// One more is refused and leaves nothing behind, a tick looks at none of them, and a place that is given up is free again.

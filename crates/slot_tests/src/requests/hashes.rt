@@ -1,6 +1,6 @@
 //! Keys that a map can't tell apart by their hashes.
-use crate::desk::{Step, first_wrong};
-use crate::words::{SAME_HASH, hash, plain};
+use crate::requests::desk::{Step, first_wrong};
+use crate::requests::words::{SAME_HASH, hash, plain};
 use std::test::*;
 
 const FIRST: u32 = SAME_HASH[0];

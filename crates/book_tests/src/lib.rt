@@ -1,0 +1,11 @@
+//! Tests of a node's books, of the changes of an entry, and of the packets of lent amounts. Nothing is promised of these functions.
+#![tactic(auto)]
+
+#[cfg(test)]
+mod advices;
+#[cfg(test)]
+mod approvals;
+#[cfg(test)]
+mod looks;
+#[cfg(test)]
+mod packets;

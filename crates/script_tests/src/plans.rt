@@ -1,0 +1,4 @@
+//! The text of plans.
+mod lines;
+mod malformed;
+mod network;

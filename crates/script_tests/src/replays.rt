@@ -1,0 +1,3 @@
+//! Scripts that run on a network of two nodes.
+mod scripts;
+mod tests;

@@ -1,0 +1,6 @@
+//! The book of requests that wait.
+mod desk;
+mod full;
+mod hashes;
+mod orders;
+mod words;
