@@ -1,4 +1,5 @@
-mod Pairs
-mod Cuts
 mod Again
 mod Behind
+mod Cuts
+mod Pairs
+pub mod Together

@@ -1,5 +1,5 @@
 //! Ranks of pairs of a node's name and a prefix.
-ghost use Rattle.std.specs.Prelude.{◌≡◌, [], ◌∷◌, ◌++◌, IfOk, OnErr};
+ghost use Rattle.std.specs.Prelude.{◌≡◌, ◌≤◌, [], ◌∷◌, ◌++◌, drop, Some, IfOk, IfSome, OnErr};
 ghost use Rattle.rank_cert.specs.Ranks.{rank_of, is_new, IsRow, IsCert};
 
 use card_digits::{Name, Prefix};
@@ -134,6 +134,79 @@ impl Cert {
         };
         let found = self.ranks.get(&sought)?;
         Some(found.rank)
+    }
+
+    /// The same for look-ups at one prefix, where its rows stand together: `near` is where they begin, or any other place, and is
+    /// moved there. The rows from that place on are gone through first, at most 64, which costs less than a look-up by hash.
+    #[tactic(auto, using(crate::proofs::Together::rank_here))]
+    pub fn rank_near(&self, near: &mut usize, node: &Name, prefix: &Prefix) -> Option<u16>
+        ensures { result ≡ rank_of self.now node.now prefix.now }
+    {
+        if let Some(rank) = rank_in(rows_from(self.rows(), *near), node, prefix) {
+            return Some(rank);
+        }
+        *near = self.begin_of(node, prefix);
+        self.rank(node, prefix)
+    }
+
+    /// Where the rows begin that stand together with the one of this pair and have its prefix; 0 where there is none.
+    fn begin_of(&self, node: &Name, prefix: &Prefix) -> usize {
+        let sought = Rank {
+            node: *node,
+            prefix: *prefix,
+            rank: 0,
+        };
+        match self.ranks.get_index_of(&sought) {
+            Some(place) => place - count_before(self.rows(), place, prefix),
+            None => 0,
+        }
+    }
+}
+
+/// The most rows of one prefix that are gone through: as many as a network has nodes.
+const NEAR: usize = 64;
+
+/// The rows from a place on.
+fn rows_from(rows: &[Rank], place: usize) -> &[Rank]
+    ensures { result.now ≡ drop place rows.now }
+{
+    &rows[place.min(rows.len())..]
+}
+
+/// The rank of a pair among the first rows, up to one of another prefix.
+fn rank_in(rows: &[Rank], node: &Name, prefix: &Prefix) -> Option<u16>
+    ensures { IfSome result (λ rank. rank_of rows.now node.now prefix.now ≡ Some rank) }
+{
+    for i in 0..NEAR {
+        let row = rows.get(i)?;
+        if row.prefix != *prefix {
+            return None;
+        }
+        if row.node == *node {
+            return Some(row.rank);
+        }
+    }
+    None
+}
+
+/// How many rows of this prefix stand right before a place, of the 64 there.
+fn count_before(rows: &[Rank], place: usize, prefix: &Prefix) -> usize
+    ensures { result ≤ place }
+{
+    let most = place.min(NEAR);
+    for count in 0..most {
+        if !is_at(rows, place - count - 1, prefix) {
+            return count;
+        }
+    }
+    most
+}
+
+/// Whether a row of this prefix stands at a place.
+fn is_at(rows: &[Rank], place: usize, prefix: &Prefix) -> bool {
+    match rows.get(place) {
+        Some(row) => row.prefix == *prefix,
+        None => false,
     }
 }
 

@@ -92,6 +92,10 @@ fn keeps_one_rank_for_a_pair(rt: HostRuntime) -> Result<(), Fail> {
     assert_eq!(rt; cert.rank(&node, &b), Some(2));
     assert_eq!(rt; cert.rank(&home, &a), Some(0));
     assert_eq!(rt; cert.rank(&home, &b), None);
+    let mut near = 2;
+    assert_eq!(rt; cert.rank_near(&mut near, &node, &b), Some(2));
+    assert_eq!(rt; cert.rank_near(&mut near, &node, &a), Some(1));
+    assert_eq!(rt; cert.rank_near(&mut near, &home, &b), None);
     assert_eq!(rt; cert.rows().len(), 3);
     let text = write_cert(rt.alloc(), &cert)?;
     assert!(rt; text.as_slice() == b"RANKS 1\nA 4 1\nA 41 2\nH 4 0\nEND\n".as_slice());

@@ -30,11 +30,12 @@ impl At<'_> {
     ghost use Rattle.table_checker.specs.Search.{first_below};
     ghost use Rattle.table_checker.specs.Known.{HasRows};
 
-    pub fn rank(&self, node: NodeNo) -> Option<u16>
+    /// The rank of a node; `near` as in `Cert::rank_near`.
+    pub fn rank(&self, near: &mut usize, node: NodeNo) -> Option<u16>
         ensures { result ≡ rank_at self.now.tables.now self.now.cert.now node self.now.class }
     {
         let row = self.tables.nodes().get(node.place())?;
-        self.cert.rank(&row.name, &self.class)
+        self.cert.rank_near(near, &row.name, &self.class)
     }
 
     /// The refusal of a node that may approve so much by itself, and so isn't among the named.

@@ -7,7 +7,7 @@ use Rattle.table_checker.proofs.class.At.by_rank.Given as goal
 
 abbrev pub invariant-loop-i : goal.invariant-loop-i
 invariant-loop-i l = record {
-  known : AreKnown l.self l.known;
+  known : AreKnown l.self l.known.ranks;
   no_rank : l.first.no_rank ≡ first_below (node_refusal l.self.tables.now l.self.cert.now l.self.class kind.NoRank l.issuer) l.i;
   not_less : l.first.not_less ≡ first_below (node_refusal l.self.tables.now l.self.cert.now l.self.class kind.NotLess l.issuer) l.i;
 }
