@@ -4,6 +4,7 @@ ghost use Rattle.card_digits.specs.declared.key.Key.{Key};
 ghost use Rattle.entry_changes.specs.SoFar.{link_from, forward_from, advice_from, count_from};
 ghost use Rattle.entry_changes.specs.Late.{few};
 ghost use Rattle.node_books.specs.Effects.{applied};
+ghost use Rattle.node_books.specs.Values.{AreFew};
 ghost use Rattle.entry_changes.specs.declared.so_far.Forwarding.{Forwarding};
 
 use crate::late::{FEW, LateChanges};
@@ -40,8 +41,10 @@ impl Model for Changes {
 }
 
 /// Does the changes to the books, in their order.
+#[tactic(auto, using(node_books::proofs::Few::few_before))]
 fn apply_each(effects: &mut Vec<Effect>, books: &mut Books)
     requires room { length effects.old.items ≤ books.old.room }
+    requires few { AreFew (applied effects.old.items books.old.lists) }
     ensures books { books.new.lists ≡ applied effects.old.items books.old.lists }
     ensures none { effects.new.items ≡ [] }
 {
@@ -119,6 +122,7 @@ impl Changes {
     /// Does the changes to the books, in their order, and none are left. The memory of a short list is kept for the next entry.
     pub fn apply_to(&mut self, books: &mut Books)
         requires room { length self.old ≤ books.old.room }
+        requires few { AreFew (applied self.old books.old.lists) }
         ensures books { books.new.lists ≡ applied self.old books.old.lists }
         ensures none { self.new ≡ [] }
     {

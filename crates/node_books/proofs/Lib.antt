@@ -3,3 +3,4 @@ pub mod Asks
 pub mod Fresh
 pub mod Loads
 pub mod Packets
+pub mod Few

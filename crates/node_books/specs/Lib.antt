@@ -1,4 +1,3 @@
 pub mod Values
 pub mod Ways
-pub mod Links
 pub mod Effects

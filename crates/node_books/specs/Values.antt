@@ -1,9 +1,10 @@
 -- What contracts see of the books' rows.
-use Rattle.std.specs.Prelude.{◌≤◌, ◌+◌, ◌^◌, ℕ, List, Bool, ◌&&◌, not, if◌then◌else◌, Option, Some, None}
+use Rattle.std.specs.Prelude.{◌≤◌, ◌+◌, ◌^◌, ℕ, Bool, ◌&&◌, not, if◌then◌else◌, Option, Some, None}
 use Rattle.card_digits.specs.declared.key.Key.{Key}
 use Rattle.iso_message.specs.Fields.{Fields}
 use Rattle.iso_message.specs.Groups.{is_04xx}
 use Rattle.iso_message.specs.Keys.{key_of, key_eq}
+use Rattle.node_machine.specs.Counts.{PutsAreWithin}
 use Rattle.node_machine.specs.Lists.{Lists, leaves}
 
 -- an advice that was made here, or accepted; whether this node is the home of its card, and whether it was put
@@ -24,11 +25,14 @@ pub record Roomy : Type 0 where
   pub room : ℕ
 
 -- each book has room for as much
-pub record HasRooms (room pending standin advices lending links len capacity count : ℕ) : Type 0 where
+pub record HasRooms (room pending standin advices lending len capacity : ℕ) : Type 0 where
   pub in_pending : room ≤ pending
   pub in_standin : room ≤ standin
   pub in_advices : room ≤ advices
   pub in_lending : room ≤ lending
-  pub in_links : room ≤ links
   pub in_asks : len + room ≤ capacity
-  pub in_count : count + room ≤ 2 ^ 62
+
+-- on no link was put more than 2^62 times, and there were no more ticks
+pub record AreFew (x : Lists) : Type 0 where
+  pub puts : PutsAreWithin (2 ^ 62) x.links
+  pub ticks : x.count ≤ 2 ^ 62

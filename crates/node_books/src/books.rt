@@ -3,7 +3,8 @@ ghost use Rattle.std.specs.Prelude.{◌≡◌, ◌+◌, ◌-◌, ◌<◌, ◌≤
 ghost use Rattle.node_machine.specs.Lists.{row_after, after_output, ask_at, of_key, is_marked, left_marks, is_among, fresh};
 ghost use Rattle.std.specs.Option.{option_copied};
 ghost use Rattle.node_books.specs.Effects.{applied_one, keep_in};
-ghost use Rattle.node_books.specs.Links.{IsFar};
+ghost use Rattle.node_books.specs.Values.{AreFew};
+ghost use Rattle.node_machine.specs.Counts.{PutsAreWithin};
 ghost use Rattle.request_book.specs.Values.{AreBetween, AreCovered, IsUnique, waits_on};
 ghost use Rattle.net_rows.specs.Network.{Network};
 ghost use Rattle.node_machine.specs.Machine.{borrowed_for, is_due, lent_for, load};
@@ -50,14 +51,14 @@ pub struct Books {
 }
 
 impl Model for Books {
-    ghost use Rattle.std.specs.Prelude.{vec_len, vec_capacity};
+    ghost use Rattle.std.specs.Prelude.{vec_len, vec_capacity, ◌≤◌, ◌^◌};
     ghost use Rattle.node_books.specs.Values.{Roomy, HasRooms};
 
     ghost Value = { Roomy };
 
-    ghost view = { λ b. record { lists = record { rows = b.pending.rows; marks = b.pending.marks; takes = b.standin.takes; store = b.advices.store; known = b.advices.known; loans = b.lending.loans; borrowed = b.lending.borrowed; links = b.links.links; asks = b.asks.items; date = b.date; count = b.count }; room = b.room } };
+    ghost view = { λ b. record { lists = record { rows = b.pending.rows; marks = b.pending.marks; takes = b.standin.takes; store = b.advices.store; known = b.advices.known; loans = b.lending.loans; borrowed = b.lending.borrowed; links = b.links; asks = b.asks.items; date = b.date; count = b.count }; room = b.room } };
 
-    ghost invariant = { λ b. HasRooms b.room b.pending.room b.standin.room b.advices.room b.lending.room b.links.room (vec_len b.asks) (vec_capacity b.asks) b.count };
+    ghost invariant = { λ b. HasRooms b.room b.pending.room b.standin.room b.advices.room b.lending.room (vec_len b.asks) (vec_capacity b.asks) × (b.count ≤ 2 ^ 62) };
 }
 
 fn ask_in(asks: &mut Vec<Key>, way: Way, key: Key)
@@ -112,14 +113,10 @@ impl Books {
         ensures ok { OnOk result (self.new.room ≡ n) }
     {
         self.room = 0;
-        if n >= 1 << 61 || self.count >= 1 << 61 {
-            return Err(AllocError);
-        }
         self.pending.reserve(n)?;
         self.standin.reserve(n)?;
         self.advices.reserve(n)?;
         self.lending.reserve(n)?;
-        self.links.reserve(n)?;
         self.asks.reserve(n)?;
         self.room = n;
         Ok(())
@@ -162,10 +159,10 @@ impl Books {
         self.pending.of_key(key)
     }
 
-    /// The links by their numbers, on none of which more than 2^62 messages were put.
+    /// The links by their numbers, on none of which was put more than 2^62 times.
     pub fn links(&self) -> &[LinkState]
         ensures links { result.now ≡ self.now.lists.links }
-        ensures few { IsFar 0 result.now }
+        ensures few { PutsAreWithin (2 ^ 62) result.now }
     {
         self.links.states()
     }
@@ -327,9 +324,10 @@ impl Books {
     }
 
     /// An output went out.
-    #[tactic(auto, using(crate::proofs::Codes::after_is))]
+    #[tactic(auto, using(crate::proofs::Codes::after_is, crate::proofs::Few::sent_few))]
     fn send(&mut self, output: PreparedOutput)
-        requires { 0 < self.old.room }
+        requires room { 0 < self.old.room }
+        requires few { AreFew (after_output output self.old.lists) }
         ensures { self.new ≡ record { lists = after_output output self.old.lists; room = self.old.room - 1 } }
     {
         let key = output.key();
@@ -385,7 +383,8 @@ impl Books {
     /// A packet was put on a link, with this serial.
     #[tactic(auto, using(crate::proofs::Packets::packet_quiet))]
     fn send_packet(&mut self, link: LinkNo, serial: u64, packet: GrantPacket)
-        requires { 0 < self.old.room }
+        requires room { 0 < self.old.room }
+        requires few { AreFew (after_output (PutPacket link serial packet) self.old.lists) }
         ensures { self.new ≡ record { lists = after_output (PutPacket link serial packet) self.old.lists; room = self.old.room - 1 } }
     {
         self.links.put(link);
@@ -394,7 +393,8 @@ impl Books {
 
     /// A change is made.
     pub fn apply(&mut self, effect: Effect)
-        requires { 0 < self.old.room }
+        requires room { 0 < self.old.room }
+        requires few { AreFew (applied_one effect self.old.lists) }
         ensures { self.new ≡ record { lists = applied_one effect self.old.lists; room = self.old.room - 1 } }
     {
         match effect {

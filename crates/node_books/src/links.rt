@@ -1,7 +1,7 @@
 //! The links of a node.
-ghost use Rattle.std.specs.Prelude.{◌≡◌, ◌+◌, ◌-◌, ◌<◌, ◌≤◌, ◌^◌, suc, [], ◌∷◌, ◌++◌, true, replicate, IsTrue, OnOk, IfOk, OnErr, length};
+ghost use Rattle.std.specs.Prelude.{◌≡◌, ◌+◌, ◌<◌, ◌≤◌, ◌^◌, suc, [], ◌∷◌, ◌++◌, true, replicate, IsTrue, IfOk, length};
+ghost use Rattle.node_machine.specs.Counts.{PutsAreWithin};
 ghost use Rattle.node_machine.specs.Lists.{link_at, with_up, with_put, fresh};
-ghost use Rattle.node_books.specs.Links.{IsFar};
 ghost use Rattle.node_books.specs.Ways.{links_by};
 
 use card_digits::LinkNo;
@@ -51,23 +51,22 @@ impl LinkState {
     }
 }
 
-/// The links by their numbers.
+/// The links by their numbers, on none of which was put more than 2^62 times.
 #[derive(Drop)]
 pub struct Links {
     states: Vec<LinkState>,
-    // How often the node put on any of them.
-    puts: u64,
-    room: usize,
 }
 
 impl Model for Links {
-    ghost use Rattle.node_books.specs.Links.{LinksView, AreCounted};
+    ghost use Rattle.std.specs.Prelude.{List, ◌^◌};
+    ghost use Rattle.node_machine.specs.Counts.{PutsAreWithin};
+    ghost use Rattle.node_machine.specs.Lists.{LinkState};
 
-    ghost Value = { LinksView };
+    ghost Value = { List LinkState };
 
-    ghost view = { λ b. record { links = b.states.items; room = b.room } };
+    ghost view = { λ b. b.states.items };
 
-    ghost invariant = { λ b. AreCounted b.puts b.room b.states.items };
+    ghost invariant = { λ b. PutsAreWithin (2 ^ 62) b.states.items };
 }
 
 #[tactic(auto, using(crate::proofs::Fresh::fresh_more))]
@@ -105,63 +104,42 @@ fn put_on(links: &mut [LinkState], l: LinkNo)
 
 impl Links {
     /// Links that are up, and on which nothing was put.
-    #[tactic(auto, using(crate::proofs::Fresh::counted_fresh))]
+    #[tactic(auto, using(node_machine::proofs::Puts::fresh_within))]
     pub fn new(alloc: Global, n: usize) -> Result<Links, AllocError>
-        ensures { IfOk result (λ b. b ≡ record { links = replicate n fresh; room = 0 }) }
+        ensures { IfOk result (λ b. b ≡ replicate n fresh) }
     {
         let states = fresh_links(alloc, n)?;
-        Ok(Links {
-            states,
-            puts: 0,
-            room: 0,
-        })
+        Ok(Links { states })
     }
 
-    /// The next n puts are counted.
-    pub fn reserve(&mut self, n: usize) -> Result<(), AllocError>
-        ensures links { self.new.links ≡ self.old.links }
-        ensures ok { OnOk result (self.new.room ≡ n) }
-    {
-        if n >= 1 << 61 || self.puts >= 1 << 61 {
-            return Err(AllocError);
-        }
-        self.room = n;
-        Ok(())
-    }
-
-    #[tactic(auto, using(crate::proofs::Fresh::counted_up))]
+    #[tactic(auto, using(node_machine::proofs::Puts::up_within))]
     pub fn set_up(&mut self, l: LinkNo, up: bool)
-        ensures { self.new ≡ record { links = with_up l up self.old.links; room = self.old.room } }
+        ensures { self.new ≡ with_up l up self.old }
     {
         set_up(self.states.as_mut_slice(), l, up);
     }
 
-    #[tactic(auto, using(crate::proofs::Fresh::counted_put, crate::proofs::Fresh::counted_serial))]
     pub fn put(&mut self, l: LinkNo)
-        requires { 0 < self.old.room }
-        ensures { self.new ≡ record { links = with_put l self.old.links; room = self.old.room - 1 } }
+        requires few { PutsAreWithin (2 ^ 62) (with_put l self.old) }
+        ensures { self.new ≡ with_put l self.old }
     {
         put_on(self.states.as_mut_slice(), l);
-        self.puts += 1;
-        self.room -= 1;
     }
 
     /// What an output that goes this way does.
     pub fn after(&mut self, way: Way)
-        requires { 0 < self.old.room }
-        ensures { self.new ≡ record { links = links_by way self.old.links; room = self.old.room - 1 } }
+        requires few { PutsAreWithin (2 ^ 62) (links_by way self.old) }
+        ensures { self.new ≡ links_by way self.old }
     {
-        match way {
-            Way::Put(link, _) => self.put(link),
-            _ => self.room -= 1,
+        if let Way::Put(link, _) = way {
+            self.put(link);
         }
     }
 
-    /// The links by their numbers, on none of which more than 2^62 messages were put.
-    #[tactic(auto, using(crate::proofs::Fresh::counted_far))]
+    /// The links by their numbers, on none of which was put more than 2^62 times.
     pub fn states(&self) -> &[LinkState]
-        ensures states { result.now ≡ self.now.links }
-        ensures few { IsFar 0 result.now }
+        ensures states { result.now ≡ self.now }
+        ensures few { PutsAreWithin (2 ^ 62) result.now }
     {
         self.states.as_slice()
     }

@@ -4,6 +4,7 @@ ghost use Rattle.network_law.specs.Entries.{spelled};
 ghost use Rattle.network_law.specs.Traces.{PutPacket};
 ghost use Rattle.node_machine.specs.Steps.{emit};
 ghost use Rattle.node_books.specs.Effects.{progress, with_effect, sent_in};
+ghost use Rattle.node_books.specs.Values.{AreFew};
 ghost use Rattle.node_books.specs.declared.effect.Effect.TheVariants.{Approved, Sent};
 ghost use Rattle.entry_changes.specs.Late.{few};
 ghost use Rattle.step_draft.specs.Outputs.{spelled_in};
@@ -212,6 +213,7 @@ impl Draft {
 
     /// All that was done is done to the books, and its outputs are handed out; or it is as before.
     pub fn commit(&mut self) -> Result<Vec<Output>, AllocError>
+        requires few { AreFew (progress self.old).lists }
         ensures outs { IfOk result (λ outs. outs.items ≡ spelled_in self.old.effects) }
         ensures done { OnOk result (self.new ≡ record { base = (progress self.old).lists; effects = [] }) }
         ensures err { OnErr result (self.new ≡ self.old) }

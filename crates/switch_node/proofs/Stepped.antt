@@ -1,6 +1,6 @@
 -- One step of a node: the machine over lists joins the legal trace.
-use Rattle.std.proofs.Common.{◌≡◌, ℕ, ◌<◌, List, [], ◌∷◌, map, filter, reverse, length, Bool, true, false, Option, Some, None, Result, Ok, Err, inl, inr, refl, sym, ap, subst, ◌∙◌, arith, nat_le}
-use Rattle.std.proofs.lemmas.Bool.{cases_Bool}
+use Rattle.std.proofs.Common.{◌≡◌, ℕ, suc, ◌<◌, ◌≤◌, List, [], ◌∷◌, map, filter, reverse, length, Bool, true, false, Option, Some, None, Result, Ok, Err, inl, inr, refl, sym, ap, subst, ◌∙◌, arith, nat_le}
+use Rattle.std.proofs.lemmas.Bool.{cases_Bool, leb-false}
 use Rattle.std.specs.List.{AllByRecursion, list_all}
 use Rattle.std.specs.Option.{option_map_or}
 use Rattle.card_digits.specs.Longest.{begins, better, deepest}
@@ -26,7 +26,10 @@ use Rattle.node_machine.specs.Lists.{Lists, view, Fine, RoutesFit, InputFits}
 use Rattle.node_machine.specs.Steps as steps
 use Rattle.node_machine.specs.Steps.{Progress, Ran}
 use Rattle.node_machine.specs.Claim.{AreOf, Decides}
+use Rattle.node_machine.specs.Counts.{AreWithinEntries}
 use Rattle.node_machine.proofs.Decided.{lists_decide, lists_begin, next_are_of}
+use Rattle.node_machine.proofs.Growth.{stays_within, begins_within}
+use Rattle.node_books.specs.Values.{AreFew}
 use Rattle.node_machine.proofs.Readings.{input_fits}
 use Rattle.switch_node.specs.Node.{Given, fault_in}
 
@@ -144,6 +147,21 @@ pub full : (t : Network) (n : ℕ) (trace : List Entry) (input : Input) → nat_
 unfolding step_refusal
 full t n trace input e = rw e refl
 
+few_entries : (entries : ℕ) → nat_le 1000000 entries ≡ false → entries < 1000000
+few_entries entries room = omega (arith, leb-false 1000000 entries room)
+
+few_within : (entries : ℕ) (x : Lists) → entries ≤ 1000000 → AreWithinEntries entries x → AreFew x
+few_within entries x most w = record {
+  puts = λ l. (let a = w.in_links l in omega (arith, a, most));
+  ticks = (let a = w.in_count in omega (arith, a, most));
+}
+
+-- after one entry more, puts and ticks are few
+pub few_next : (t : Network) (n : ℕ) (trace : List Entry) (x : Lists) (i : ReadInput) (p : Progress) → Given t n trace x → nat_le 1000000 (length trace) ≡ false → p ≡ steps.step t n x i → AreFew p.lists
+few_next t n trace x i p g room done =
+    let less : length trace < 1000000 = few_entries (length trace) room in
+    subst (λ (z : Progress). AreFew z.lists) (sym done) (few_within (suc (length trace)) _ (omega (arith, less)) (stays_within t n (length trace) i x less (Given.within g)))
+
 module _ (t : Network) (n : ℕ) (trace : List Entry) (x : Lists) (e : Entry) (i : ReadInput) (p : Progress) (g : Given t n trace x) (own : NamesOwnLink t n e.input) (typed : IsTyped e.input) (reads : read_input e.input ≡ Ok i) (room : nat_le 1000000 (length trace) ≡ false) (accepted : refuse t n (view t n x) i ≡ None) (done : p ≡ steps.step t n x i) (outs : e.outputs ≡ map spelled (reverse p.outs)) where
   abbrev d : Decides t n (length t.links) trace i x
   d = lists_decide t (Given.checked g) n (length t.links) trace i x (Given.node g) (Given.legal g) (routes_fit t n (IsChecked.sound (Given.checked g))) (reads_fit t n e.input i reads own) (Given.are g)
@@ -179,6 +197,9 @@ module _ (t : Network) (n : ℕ) (trace : List Entry) (x : Lists) (e : Entry) (i
   legal_more : IsLegal t n (e ∷ trace)
   legal_more = (Given.legal g, record { own = own; typed = typed; accepted = step_accepted; outputs = step_outs })
 
+  within_more : AreWithinEntries (length (e ∷ trace)) p.lists
+  within_more = subst (λ (z : Progress). AreWithinEntries (suc (length trace)) z.lists) (sym done) (stays_within t n (length trace) i x (few_entries (length trace) room) (Given.within g))
+
   pub stepped : Stepped t n trace e p.lists
   stepped = record {
     given = record {
@@ -187,6 +208,7 @@ module _ (t : Network) (n : ℕ) (trace : List Entry) (x : Lists) (e : Entry) (i
       node = Given.node g;
       legal = legal_more;
       are = subst (AreOf t n (length t.links) (e ∷ trace)) (sym lists_same) (next_are_of t (Given.checked g) n (length t.links) e trace i x (Given.node g) legal_more reads d);
+      within = within_more;
     };
     accepted = step_accepted;
     outputs = step_outs;
@@ -194,4 +216,4 @@ module _ (t : Network) (n : ℕ) (trace : List Entry) (x : Lists) (e : Entry) (i
 
 -- a node to which nothing came yet
 pub new_node : (t : Network) (n : ℕ) (d : Rattle.node_books.specs.Effects.Drafted) → IsChecked t → IsBounded t → n < length t.nodes → d ≡ record { base = Rattle.node_machine.specs.Lists.empty t (length t.links); effects = [] } → Rattle.switch_node.specs.Node.IsNode t n [] d
-new_node t n d checked bounded less e = rw e (record { given = record { checked = checked; bounded = bounded; node = less; legal = tt; are = lists_begin t n (length t.links) }; empty = refl })
+new_node t n d checked bounded less e = rw e (record { given = record { checked = checked; bounded = bounded; node = less; legal = tt; are = lists_begin t n (length t.links); within = begins_within t (length t.links) }; empty = refl })

@@ -4,11 +4,19 @@ use Rattle.std.proofs.lemmas.List.{reverse-append, reverse-reverse, length-rever
 use Rattle.network_law.specs.Entries.{Entry, spelled}
 use Rattle.node_books.specs.Effects.{progress, sent_in}
 use Rattle.switch_node.specs.Node.{Does}
-use Rattle.switch_node.proofs.Stepped.{Stepped, stepped, faulted, full}
+use Rattle.switch_node.proofs.Stepped.{Stepped, stepped, faulted, few_next, full}
 use Rattle.switch_node.proofs.node.Node.make_entry.Goals as goal
 
 not_full : (entries : List Entry) → length entries < 1000000 → nat_le 1000000 (length (reverse entries)) ≡ false
 not_full entries p = rw (length-reverse entries) (elim (cases_Bool (nat_le 1000000 (length entries))) [ inl t ↦ absurd (omega (arith, leb-true 1000000 (length entries) t, p)) | inr f ↦ f ])
+
+pub commit-requires : goal.commit-requires
+commit-requires c =
+    let t = c.self.inside.tables.now in
+    let n = c.self.inside.node in
+    let trace : List Entry = reverse c.self.inside.trace.items in
+    let does : Does t n c.args.input c.self.inside.draft c.step.new.draft = c.in_default.ensures.ok in
+    record { few = few_next t n trace c.self.inside.draft.base (Does.read does) (progress c.step.new.draft) c.self.invariant.given (not_full c.self.inside.trace.items (omega (arith, ap length c.as_slice.ensures.value))) (Does.done does) }
 
 made : (c : goal.After-push_reserved) → Stepped c.self.inside.tables.now c.self.inside.node (reverse c.self.inside.trace.items) (record { input = c.args.input; outputs = c.in-Ok-commit.outs.items }) (progress c.step.new.draft).lists
 made c =
