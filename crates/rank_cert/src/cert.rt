@@ -173,17 +173,18 @@ fn rows_from(rows: &[Rank], place: usize) -> &[Rank]
     &rows[place.min(rows.len())..]
 }
 
-/// The rank of a pair among the first rows, up to one of another prefix.
+/// The rank of a pair, where the first of some rows that is of its name has it.
 fn rank_in(rows: &[Rank], node: &Name, prefix: &Prefix) -> Option<u16>
     ensures { IfSome result (λ rank. rank_of rows.now node.now prefix.now ≡ Some rank) }
 {
     for i in 0..NEAR {
         let row = rows.get(i)?;
-        if row.prefix != *prefix {
-            return None;
-        }
         if row.node == *node {
-            return Some(row.rank);
+            return if row.prefix == *prefix {
+                Some(row.rank)
+            } else {
+                None
+            };
         }
     }
     None
