@@ -1,10 +1,11 @@
 //! Looks at links, requests, advices and ticks after few changes and after many.
+ghost use Rattle.std.specs.Prelude.{◌≡◌, ◌≤◌, ◌+◌, ◌^◌, [], IfOk, OnOk, length};
 
 use card_digits::{DateLabel, Key, LinkNo};
 use entry_changes::{AdviceState, Changes, Forwarding, LinkAfter};
 use iso_message::{AdviceId, AdviceKind};
 use node_books::{Books, Effect};
-use std::alloc::Global;
+use std::alloc::{AllocError, Global};
 use std::test::*;
 
 const KEY: Key = Key {
@@ -37,9 +38,11 @@ const NO_REQUEST: Forwarding = Forwarding {
 };
 
 /// So many ticks go by, then link 1 goes down, and then an advice is acknowledged.
-fn changed(alloc: Global, ticks: usize) -> Result<Changes, Fail> {
+fn changed(alloc: Global, ticks: usize) -> Result<Changes, Fail>
+    ensures { IfOk result (λ changes. length changes ≡ ticks + 2) }
+{
     let mut changes = Changes::new(alloc);
-    for _ in 0..ticks {
+    for i in 0..ticks {
         changes.push(Effect::Ticked)?;
     }
     changes.push(Effect::LinkIs(LinkNo::new(1), false))?;
@@ -94,14 +97,22 @@ fn after_many_changes(rt: HostRuntime) -> Result<(), Fail> {
     Ok(())
 }
 
+/// New books, after changes.
+fn books_after(alloc: Global, date: DateLabel, changes: &mut Changes) -> Result<Books, AllocError>
+    requires { length changes.old ≤ 2 ^ 62 }
+{
+    let mut books = Books::new(alloc, date, 2, 5)?;
+    books.reserve(changes.len())?;
+    changes.apply_to(&mut books);
+    Ok(books)
+}
+
 #[test]
 fn applied_and_cleared(rt: HostRuntime) -> Result<(), Fail> {
     let alloc = rt.alloc();
     let date = DateLabel::read(b"0314").ok().ok_or("date")?;
-    let mut books = Books::new(alloc, date, 2, 5)?;
     let mut changes = changed(alloc, 20)?;
-    books.reserve(changes.len())?;
-    changes.apply_to(&mut books);
+    let books = books_after(alloc, date, &mut changes)?;
     assert!(rt; books.count() == 20);
     assert!(rt; changes.len() == 0);
     assert!(rt; link_seen(&changes, LinkNo::new(1)) == (true, true));

@@ -16,8 +16,8 @@ pub record AreWithin (rows store puts ticks : ℕ) (x : Lists) : Type 0 where
   pub in_links : PutsAreWithin puts x.links
   pub in_count : x.count ≤ ticks
 
--- each entry opens one request at most, and a tick; it stores at most two items for each request and two more; and it puts at most one
--- output for each stored item, three for each request, and three more
+-- what so many entries leave at most. An entry brings one request and one tick at most. It stores at most two items for each request,
+-- and two more. It puts at most one output for each stored item, three for each request, and three more
 abbrev pub AreWithinEntries : ℕ → Lists → Type 0
 AreWithinEntries e x = AreWithin e (2000000 * e) (2 ^ 41 * e) e x
 
