@@ -1,6 +1,6 @@
 //! Own approvals.
 ghost use Rattle.std.specs.Prelude.{◌≡◌, ◌≤◌, ◌<◌, ◌+◌, ◌^◌};
-ghost use Rattle.standin_book.specs.Approvals.{lessened, day_of};
+ghost use Rattle.standin_book.specs.Approvals.{lessened, day_of, counts_above};
 
 use book_index::CardDay;
 use card_digits::{Amount, Key, ShortBytes};
@@ -76,6 +76,13 @@ impl OwnApproval {
         ensures { result ≡ self.now.left }
     {
         self.left
+    }
+
+    /// Whether this is what the key took, and it counts for more than this amount.
+    pub(crate) fn counts_above(&self, key: Key, actual: Amount) -> bool
+        ensures { result ≡ counts_above key actual self.now }
+    {
+        key == self.key && actual.value() < self.left.value()
     }
 
     /// A reversal of this key leaves no more than this amount. The result is what that frees.
