@@ -5,8 +5,8 @@ use Rattle.std.proofs.lemmas.Bool.{cases_Bool}
 use Rattle.std.proofs.lemmas.Bool.Decides.{nat_tests}
 use Rattle.card_digits.specs.declared.key.Key.{Key}
 use Rattle.node_machine.specs.Lists.{Take, give_back, give_back_to}
-use Rattle.standin_book.specs.Approvals.{counts_above, is_of, lessened, one_of, times, without}
-use Rattle.standin_book.specs.Limits.{TakenOnce, counts_whole, is_taken, is_whole}
+use Rattle.standin_book.specs.Approvals.{counts_above, is_of, is_whole, lessened, one_of, times, without}
+use Rattle.standin_book.specs.Limits.{TakenOnce, counts_whole, is_taken}
 use Rattle.standin_book.proofs.Sums.{added_push}
 use Rattle.standin_book.proofs.Lessened.{other_stays}
 use Rattle.standin_book.proofs.Removed.{own_key}

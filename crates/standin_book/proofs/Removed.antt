@@ -12,7 +12,7 @@ use Rattle.book_index.specs.declared.index.Place.TheVariants as places
 use Rattle.book_index.proofs.Holding.{holds_within, holds_item}
 use Rattle.book_index.proofs.Telling.{tells_same}
 use Rattle.book_index.proofs.Texts.{key_refl, key_same, key_flip, keys_again}
-use Rattle.standin_book.specs.Approvals.{is_of, times, skips, moved, counts_above}
+use Rattle.standin_book.specs.Approvals.{is_of, times, skips, moved, counts_above, is_whole}
 
 pub holds_past : {X : Type 0} (p : X → Bool) (xs : List X) (i : ℕ) → length xs ≤ i → holds_at p xs i ≡ false
 holds_past p [] i h = refl
@@ -228,3 +228,6 @@ pub key_at : (takes : List Take) (place : ℕ) (d : Take) (k key : Key) → plac
 key_at takes place d k key less e =
     let G : Key → Type 0 = λ z. same_key key k ≡ same_key k z in
     subst G e (key_flipped key k) ∙ (keys_again k (get_or takes place d).key ∙ sym (holds_item (is_of k) takes place d less))
+
+pub whole_other : (k : Key) (x : Take) → is_of k x ≡ false → is_whole k x ≡ false
+whole_other k x f = rw f refl

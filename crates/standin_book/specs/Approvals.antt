@@ -1,5 +1,5 @@
 -- Own approvals, and how they are kept.
-use Rattle.std.specs.Prelude.{◌≤◌, ◌+◌, ℕ, zero, suc, Bool, false, not, ◌&&◌, nat_lt, min, if◌then◌else◌, List, filter}
+use Rattle.std.specs.Prelude.{◌≤◌, ◌+◌, ℕ, zero, suc, Bool, false, not, ◌&&◌, ◌==◌, nat_lt, min, if◌then◌else◌, List, filter}
 use Rattle.card_digits.specs.declared.key.Key.{Key}
 use Rattle.iso_message.specs.Keys.{key_eq}
 use Rattle.network_law.specs.Traces.{added}
@@ -43,6 +43,10 @@ without k takes = filter (λ a. not (is_of k a)) takes
 -- the key took this, and it counts for more than an amount
 abbrev pub counts_above : Key → ℕ → Take → Bool
 counts_above k actual a = is_of k a && nat_lt actual a.left
+
+-- the key took this, and nothing of it was given back
+abbrev pub is_whole : Key → Take → Bool
+is_whole k a = is_of k a && a.left == a.amount
 
 -- the places behind a gap, where nothing is, are one later
 abbrev pub skips : ℕ → (ℕ → Bool) → ℕ → Bool

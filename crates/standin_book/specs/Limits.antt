@@ -1,12 +1,12 @@
 -- Own approvals within limits.
-use Rattle.std.specs.Prelude.{◌≤◌, ◌+◌, ◌-◌, ℕ, Bool, ◌&&◌, ◌==◌, nat_lt, List, [], ◌∷◌, ◌++◌}
+use Rattle.std.specs.Prelude.{◌≤◌, ◌+◌, ◌-◌, ℕ, Bool, nat_lt, List, [], ◌∷◌, ◌++◌}
 use Rattle.std.specs.List.{list_any}
 use Rattle.network_law.specs.Traces.{added}
 use Rattle.card_digits.specs.declared.key.Key.{Key}
 use Rattle.node_machine.specs.Lists.{Take, used}
 use Rattle.node_machine.specs.Books.{Borrowed, Loan}
 use Rattle.node_machine.specs.Machine.{borrowed_for, lent_for}
-use Rattle.standin_book.specs.Approvals.{is_of, times}
+use Rattle.standin_book.specs.Approvals.{is_of, is_whole, times}
 use Rattle.standin_book.specs.Lending.{is_grant}
 
 -- what was taken, lent and borrowed, the oldest first
@@ -25,10 +25,6 @@ is_over amount day x card date = nat_lt (limit day x card date) (used x.takes ca
 
 abbrev pub is_taken : Key → List Take → Bool
 is_taken k takes = list_any (is_of k) takes
-
--- what the key took, and nothing of it was given back
-abbrev pub is_whole : Key → Take → Bool
-is_whole k a = is_of k a && a.left == a.amount
 
 abbrev pub counts_whole : Key → List Take → Bool
 counts_whole k takes = list_any (is_whole k) takes

@@ -81,6 +81,20 @@ impl LimitBook {
         limit < self.approvals.used(&at) + amount.value() as u128
     }
 
+    /// Whether the key took. One look-up.
+    pub fn is_taken(&self, key: Key) -> bool
+        ensures { result ≡ is_taken key self.now.takes }
+    {
+        self.approvals.is_taken(key)
+    }
+
+    /// Whether the key took, and nothing of that was given back. One look-up.
+    pub fn counts_whole(&self, key: Key) -> bool
+        ensures { result ≡ counts_whole key self.now.takes }
+    {
+        self.approvals.is_whole(key)
+    }
+
     /// The node approves an amount of a card and a settlement date by itself, where the limits of one amount and of the day allow it.
     /// The limit of one amount is tried first.
     pub fn try_take(

@@ -5,7 +5,7 @@ ghost use Rattle.std.specs.HashMap.{spare};
 ghost use Rattle.std.specs.Vec.{vec_len, vec_capacity};
 ghost use Rattle.node_machine.specs.Lists.{Take, give_back_to, used};
 ghost use Rattle.book_index.specs.Found.{found, holds_at, Tells};
-ghost use Rattle.standin_book.specs.Approvals.{lessened, used_on, is_of, times, without, counts_above, skips, moved};
+ghost use Rattle.standin_book.specs.Approvals.{lessened, used_on, is_of, times, without, counts_above, is_whole, skips, moved};
 ghost use Rattle.book_index.specs.Keys.{same_key};
 ghost use Rattle.standin_book.specs.Sums.{AreSums};
 ghost use Rattle.iso_message.specs.Keys.{key_eq};
@@ -105,6 +105,38 @@ fn any_counts_above(takes: &[OwnApproval], place: Place, key: Key, actual: Amoun
         Place::Nowhere => false,
         Place::At(place) => counts_above_at(takes, place, key, actual),
         Place::Several => takes.iter().any(|a| a.counts_above(key, actual)),
+    }
+}
+
+/// Whether the approval at a place is of a key, and nothing of it was given back.
+fn is_whole_at(takes: &[OwnApproval], place: usize, key: Key) -> bool
+    requires { place < length takes.now }
+    ensures { (d : Take) → result ≡ is_whole key (get_or takes.now place d) }
+{
+    takes[place].is_whole(key)
+}
+
+/// Whether nothing was given back of what a key took, which stands at these places.
+fn any_is_whole(takes: &[OwnApproval], place: Place, key: Key) -> bool
+    requires { Tells place (holds_at (is_of key) takes.now) }
+    ensures { result ≡ list_any (is_whole key) takes.now }
+{
+    match place {
+        Place::Nowhere => false,
+        Place::At(place) => is_whole_at(takes, place, key),
+        Place::Several => takes.iter().any(|a| a.is_whole(key)),
+    }
+}
+
+/// Whether a key, whose approvals stand at these places, took.
+fn any_is_of(takes: &[OwnApproval], place: Place, key: Key) -> bool
+    requires { Tells place (holds_at (is_of key) takes.now) }
+    ensures { result ≡ list_any (is_of key) takes.now }
+{
+    match place {
+        Place::Nowhere => false,
+        Place::At(_) => true,
+        Place::Several => takes.iter().any(|a| a.is_of(key)),
     }
 }
 
@@ -219,6 +251,23 @@ impl StandInBook {
         self.sums.lessen(&approval.day(), approval.left().value());
         self.places.remove(&key);
         close_gap(self.takes.as_slice(), &mut self.places, place);
+    }
+
+    /// Whether the key took. One look-up, and a walk over the approvals only where the key was approved more than once.
+    pub fn is_taken(&self, key: Key) -> bool
+        ensures { result ≡ list_any (is_of key) self.now.takes }
+    {
+        let place = self.places.find(&key);
+        any_is_of(self.takes.as_slice(), place, key)
+    }
+
+    /// Whether the key took, and nothing of that was given back. One look-up, and a walk over the approvals only where the key was
+    /// approved more than once.
+    pub fn is_whole(&self, key: Key) -> bool
+        ensures { result ≡ list_any (is_whole key) self.now.takes }
+    {
+        let place = self.places.find(&key);
+        any_is_whole(self.takes.as_slice(), place, key)
     }
 
     /// Whether what the key took counts for more than an amount. One look-up, and a walk over the approvals only where the key was
