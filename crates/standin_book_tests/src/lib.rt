@@ -5,3 +5,5 @@
 mod approvals;
 #[cfg(test)]
 mod grants;
+#[cfg(test)]
+mod limits;
