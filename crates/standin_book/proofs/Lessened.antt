@@ -1,9 +1,9 @@
 -- Approvals of which less is left.
-use Rattle.std.proofs.Common.{◌≡◌, ℕ, zero, suc, ◌+◌, ◌<◌, ◌≤◌, ◌&&◌, Bool, true, false, List, [], ◌∷◌, ◌++◌, length, get_or, set, map, bytes_eq, refl, sym, ap, ◌∙◌, subst, arith, cond, min, eqb, eq-eqb, ◌||◌}
+use Rattle.std.proofs.Common.{◌≡◌, ℕ, zero, suc, ◌+◌, ◌<◌, ◌≤◌, ◌&&◌, Bool, true, false, List, [], ◌∷◌, ◌++◌, length, get_or, set, bytes_eq, refl, sym, ap, ◌∙◌, subst, arith, cond, eqb, ◌||◌}
 use Rattle.network_law.specs.Traces.{added}
 use Rattle.card_digits.specs.declared.key.Key.{Key}
 use Rattle.node_machine.specs.Lists.{Take, give_back_to}
-use Rattle.book_index.specs.Sums.{amount_on, day_eq}
+use Rattle.book_index.specs.Sums.{amount_on}
 use Rattle.book_index.specs.Found.{holds_at, found, Tells, joined}
 use Rattle.book_index.specs.declared.index.Place.{Place}
 use Rattle.book_index.proofs.Holding.{none_map, one_map, holds_push}

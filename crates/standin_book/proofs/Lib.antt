@@ -2,3 +2,5 @@ pub mod Sums
 mod Mapped
 mod Lessened
 mod Taken
+mod Removed
+mod Once

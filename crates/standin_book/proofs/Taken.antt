@@ -1,9 +1,9 @@
 -- Grants that were taken.
-use Rattle.std.proofs.Common.{◌≡◌, ℕ, ◌&&◌, ◌||◌, Bool, true, false, cond, List, [], ◌∷◌, ◌++◌, bytes_eq, refl, sym, ap, ◌∙◌, subst, eqb, eq-eqb, inl, inr}
+use Rattle.std.proofs.Common.{◌≡◌, ℕ, ◌||◌, Bool, true, false, cond, List, [], ◌∷◌, ◌++◌, bytes_eq, refl, sym, ◌∙◌, eqb, inl, inr}
 use Rattle.std.specs.List.{list_any}
 use Rattle.std.proofs.lemmas.Bool.{cases_Bool, eqb-true}
 use Rattle.node_machine.specs.Books.{Borrowed}
-use Rattle.book_index.proofs.Texts.{same_text, text_refl}
+use Rattle.book_index.proofs.Texts.{same_text}
 use Rattle.standin_book.specs.Lending.{number_eq, has_number}
 use Rattle.standin_book.specs.declared.lending.GrantNumber.{GrantNumber}
 

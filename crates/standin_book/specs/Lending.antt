@@ -25,6 +25,9 @@ number_eq a b = bytes_eq a.lender b.lender && a.number == b.number
 abbrev pub has_number : GrantNumber → Borrowed → Bool
 has_number a b = bytes_eq a.lender b.lender && a.number == b.number
 
+abbrev pub is_grant : List ℕ → ℕ → Borrowed → Bool
+is_grant lender number g = bytes_eq lender g.lender && number == g.number
+
 pub record HasRoom (room loans loans_capacity borrowed borrowed_capacity lent owed numbers : ℕ) : Type 0 where
   pub in_loans : loans + room ≤ loans_capacity
   pub in_borrowed : borrowed + room ≤ borrowed_capacity

@@ -1,3 +1,4 @@
 pub mod Sums
 pub mod Approvals
 pub mod Lending
+pub mod Limits

@@ -1,6 +1,6 @@
 //! Own approvals.
 ghost use Rattle.std.specs.Prelude.{◌≡◌, ◌≤◌, ◌<◌, ◌+◌, ◌^◌};
-ghost use Rattle.standin_book.specs.Approvals.{lessened, day_of};
+ghost use Rattle.standin_book.specs.Approvals.{lessened, day_of, counts_above, is_of, is_whole};
 
 use book_index::CardDay;
 use card_digits::{Amount, Key, ShortBytes};
@@ -76,6 +76,27 @@ impl OwnApproval {
         ensures { result ≡ self.now.left }
     {
         self.left
+    }
+
+    /// Whether this is what the key took.
+    pub(crate) fn is_of(&self, key: Key) -> bool
+        ensures { result ≡ is_of key self.now }
+    {
+        key == self.key
+    }
+
+    /// Whether this is what the key took, and nothing of it was given back.
+    pub(crate) fn is_whole(&self, key: Key) -> bool
+        ensures { result ≡ is_whole key self.now }
+    {
+        key == self.key && self.left == self.amount
+    }
+
+    /// Whether this is what the key took, and it counts for more than this amount.
+    pub(crate) fn counts_above(&self, key: Key, actual: Amount) -> bool
+        ensures { result ≡ counts_above key actual self.now }
+    {
+        key == self.key && actual.value() < self.left.value()
     }
 
     /// A reversal of this key leaves no more than this amount. The result is what that frees.

@@ -3,6 +3,7 @@ ghost use Rattle.std.specs.Prelude.{◌≡◌, ◌+◌, ◌-◌, ◌<◌, ◌≤
 ghost use Rattle.std.specs.List.{list_any};
 ghost use Rattle.network_law.specs.Traces.{added};
 ghost use Rattle.node_machine.specs.Books.{borrowed_of};
+ghost use Rattle.standin_book.specs.Lending.{is_grant};
 ghost use Rattle.node_machine.specs.Machine.{borrowed_for, is_number_of, lent_for, packet_borrowed};
 
 use book_index::{CardDay, Sums};
@@ -236,6 +237,13 @@ impl LendingBook {
             lender: grant.lender,
             number: grant.number,
         })
+    }
+
+    /// Whether a grant of a lender, by its id in eleven digits, and a number was taken. One look-up.
+    pub fn has_number(&self, lender: [u8; 11], number: u64) -> bool
+        ensures { result ≡ list_any (is_grant lender number) self.now.borrowed }
+    {
+        self.taken.contains(&GrantNumber { lender, number })
     }
 
     /// A packet was taken: a grant counts where none of its lender and number was taken before.

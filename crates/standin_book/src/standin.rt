@@ -1,10 +1,12 @@
 //! The stand-in book.
-ghost use Rattle.std.specs.Prelude.{◌≡◌, ◌+◌, ◌-◌, ◌<◌, ◌≤◌, ◌^◌, [], ◌∷◌, ◌++◌, OnOk, length, set, get_or};
+ghost use Rattle.std.specs.Prelude.{◌≡◌, ◌+◌, ◌-◌, ◌<◌, ◌≤◌, ◌^◌, [], ◌∷◌, ◌++◌, OnOk, length, set, get_or, true, if◌then◌else◌};
+ghost use Rattle.std.specs.List.{list_any};
 ghost use Rattle.std.specs.HashMap.{spare};
 ghost use Rattle.std.specs.Vec.{vec_len, vec_capacity};
 ghost use Rattle.node_machine.specs.Lists.{Take, give_back_to, used};
 ghost use Rattle.book_index.specs.Found.{found, holds_at, Tells};
-ghost use Rattle.standin_book.specs.Approvals.{lessened, used_on, is_of};
+ghost use Rattle.standin_book.specs.Approvals.{lessened, used_on, is_of, times, without, counts_above, is_whole, skips, moved};
+ghost use Rattle.book_index.specs.Keys.{same_key};
 ghost use Rattle.standin_book.specs.Sums.{AreSums};
 ghost use Rattle.iso_message.specs.Keys.{key_eq};
 
@@ -78,6 +80,114 @@ fn lessen_in(takes: &mut [OwnApproval], sums: &mut Sums, place: Place, key: Key,
     }
 }
 
+/// Whether the approval at a place is of a key.
+fn is_of_key(takes: &[OwnApproval], place: usize, key: Key) -> bool
+    requires { place < length takes.now }
+    ensures { result ≡ holds_at (is_of key) takes.now place }
+{
+    takes[place].key() == key
+}
+
+/// Whether the approval at a place is of a key, and counts for more than an amount.
+fn counts_above_at(takes: &[OwnApproval], place: usize, key: Key, actual: Amount) -> bool
+    requires { place < length takes.now }
+    ensures { (d : Take) → result ≡ counts_above key actual (get_or takes.now place d) }
+{
+    takes[place].counts_above(key, actual)
+}
+
+/// Whether what a key took, which stands at these places, counts for more than an amount.
+fn any_counts_above(takes: &[OwnApproval], place: Place, key: Key, actual: Amount) -> bool
+    requires { Tells place (holds_at (is_of key) takes.now) }
+    ensures { result ≡ list_any (counts_above key actual) takes.now }
+{
+    match place {
+        Place::Nowhere => false,
+        Place::At(place) => counts_above_at(takes, place, key, actual),
+        Place::Several => takes.iter().any(|a| a.counts_above(key, actual)),
+    }
+}
+
+/// Whether the approval at a place is of a key, and nothing of it was given back.
+fn is_whole_at(takes: &[OwnApproval], place: usize, key: Key) -> bool
+    requires { place < length takes.now }
+    ensures { (d : Take) → result ≡ is_whole key (get_or takes.now place d) }
+{
+    takes[place].is_whole(key)
+}
+
+/// Whether nothing was given back of what a key took, which stands at these places.
+fn any_is_whole(takes: &[OwnApproval], place: Place, key: Key) -> bool
+    requires { Tells place (holds_at (is_of key) takes.now) }
+    ensures { result ≡ list_any (is_whole key) takes.now }
+{
+    match place {
+        Place::Nowhere => false,
+        Place::At(place) => is_whole_at(takes, place, key),
+        Place::Several => takes.iter().any(|a| a.is_whole(key)),
+    }
+}
+
+/// Whether a key, whose approvals stand at these places, took.
+fn any_is_of(takes: &[OwnApproval], place: Place, key: Key) -> bool
+    requires { Tells place (holds_at (is_of key) takes.now) }
+    ensures { result ≡ list_any (is_of key) takes.now }
+{
+    match place {
+        Place::Nowhere => false,
+        Place::At(_) => true,
+        Place::Several => takes.iter().any(|a| a.is_of(key)),
+    }
+}
+
+/// The place of the newest approval of a key.
+fn newest_place(takes: &[OwnApproval], key: Key) -> usize
+    requires { list_any (is_of key) takes.now ≡ true }
+    ensures { holds_at (is_of key) takes.now result ≡ true }
+{
+    let mut place = takes.len();
+    while place > 0 {
+        place -= 1;
+        if is_of_key(takes, place, key) {
+            return place;
+        }
+    }
+    place
+}
+
+/// A place that is known becomes another.
+fn moved_to(known: Place, place: usize) -> Place
+    ensures { result ≡ moved place known }
+{
+    match known {
+        Place::Nowhere => Place::Nowhere,
+        Place::At(_) => Place::At(place),
+        Place::Several => Place::Several,
+    }
+}
+
+/// A key that has one place has this one.
+fn move_place(places: &mut PlaceIndex<Key>, key: &Key, place: usize)
+    ensures found { (k : Key) → found (same_key k) places.new.places.entries ≡ (if same_key key.now k then moved place (found (same_key key.now) places.old.places.entries) else found (same_key k) places.old.places.entries) }
+    ensures room { spare places.new.places ≡ spare places.old.places }
+{
+    if let Some(known) = places.places.get_mut(key) {
+        *known = moved_to(*known, place);
+    }
+}
+
+/// The approvals from the gap on stand one place earlier than the index has them.
+fn close_gap(takes: &[OwnApproval], places: &mut PlaceIndex<Key>, gap: usize)
+    requires within { gap ≤ length takes.now }
+    requires places { (k : Key) → Tells (found (same_key k) places.old.places.entries) (skips gap (holds_at (is_of k) takes.now)) }
+    ensures places { (k : Key) → Tells (found (same_key k) places.new.places.entries) (holds_at (is_of k) takes.now) }
+    ensures room { spare places.new.places ≡ spare places.old.places }
+{
+    for i in gap..takes.len() {
+        move_place(places, &takes[i].key(), i);
+    }
+}
+
 impl StandInBook {
     /// A book without approvals.
     pub fn new(alloc: Global) -> StandInBook
@@ -128,6 +238,45 @@ impl StandInBook {
             key,
             actual,
         );
+    }
+
+    /// An approval of a key that took once is undone, as if it had not been made. The time is that of a walk over the approvals that
+    /// are newer, so that the newest takes a constant time.
+    pub fn untake(&mut self, key: Key)
+        requires { times key self.old.takes ≡ 1 }
+        ensures { self.new ≡ record { takes = without key self.old.takes; room = self.old.room } }
+    {
+        let place = newest_place(self.takes.as_slice(), key);
+        let approval = self.takes.remove(place);
+        self.sums.lessen(&approval.day(), approval.left().value());
+        self.places.remove(&key);
+        close_gap(self.takes.as_slice(), &mut self.places, place);
+    }
+
+    /// Whether the key took. One look-up, and a walk over the approvals only where the key was approved more than once.
+    pub fn is_taken(&self, key: Key) -> bool
+        ensures { result ≡ list_any (is_of key) self.now.takes }
+    {
+        let place = self.places.find(&key);
+        any_is_of(self.takes.as_slice(), place, key)
+    }
+
+    /// Whether the key took, and nothing of that was given back. One look-up, and a walk over the approvals only where the key was
+    /// approved more than once.
+    pub fn is_whole(&self, key: Key) -> bool
+        ensures { result ≡ list_any (is_whole key) self.now.takes }
+    {
+        let place = self.places.find(&key);
+        any_is_whole(self.takes.as_slice(), place, key)
+    }
+
+    /// Whether what the key took counts for more than an amount. One look-up, and a walk over the approvals only where the key was
+    /// approved more than once.
+    pub fn counts_above(&self, key: Key, actual: Amount) -> bool
+        ensures { result ≡ list_any (counts_above key actual) self.now.takes }
+    {
+        let place = self.places.find(&key);
+        any_counts_above(self.takes.as_slice(), place, key, actual)
     }
 
     /// What the approvals of a card and a settlement date count for. One look-up.

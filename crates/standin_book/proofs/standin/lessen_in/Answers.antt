@@ -1,4 +1,4 @@
-use Rattle.std.proofs.Common.{◌∙◌, [], subst, length, ℕ}
+use Rattle.std.proofs.Common.{◌∙◌, [], subst}
 use Rattle.node_machine.specs.Lists.{Take}
 use Rattle.book_index.specs.Found.{Tells, holds_at}
 use Rattle.book_index.specs.declared.index.Place.{Place}

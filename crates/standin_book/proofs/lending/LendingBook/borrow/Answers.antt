@@ -1,4 +1,4 @@
-use Rattle.std.proofs.Common.{rules, arith, ◌∙◌, ◌≡◌, refl, ap, true, is_err, Result, Ok, Err, IsOk, OnOk}
+use Rattle.std.proofs.Common.{arith, ◌∙◌, ◌≡◌, refl, ap, true, Result, Ok, Err, IsOk, OnOk}
 use Rattle.std.specs.HashSet.{Updates}
 use Rattle.book_index.specs.declared.card_day.CardDay.{CardDay}
 use Rattle.standin_book.specs.Lending.{Lending, borrowed_on, number_eq}

@@ -1,4 +1,4 @@
-use Rattle.std.proofs.Common.{arith, ap, ◌∙◌, ◌≡◌, refl}
+use Rattle.std.proofs.Common.{arith}
 use Rattle.standin_book.specs.Lending.{lent_on, borrowed_on}
 use Rattle.standin_book.proofs.Sums.{sums_again}
 use Rattle.standin_book.proofs.Taken.{numbered_again}

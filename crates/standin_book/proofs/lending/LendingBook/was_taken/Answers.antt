@@ -1,4 +1,4 @@
-use Rattle.std.proofs.Common.{refl, ◌∙◌, sym}
+use Rattle.std.proofs.Common.{◌∙◌}
 use Rattle.standin_book.proofs.lending.LendingBook.was_taken.Goals as goal
 
 pub returns : goal.returns

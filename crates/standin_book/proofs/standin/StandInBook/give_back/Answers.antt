@@ -1,4 +1,4 @@
-use Rattle.std.proofs.Common.{arith, ap, ◌∙◌, ◌≡◌, length, refl, subst, List, take, drop, ◌++◌}
+use Rattle.std.proofs.Common.{arith, ap, ◌∙◌, ◌≡◌, length, subst, List}
 use Rattle.node_machine.specs.Lists.{Take, give_back_to}
 use Rattle.standin_book.specs.Approvals.{used_on}
 use Rattle.standin_book.specs.Sums.{AreSums}

@@ -1,4 +1,4 @@
-use Rattle.std.proofs.Common.{arith, ◌≤◌, ◌+◌}
+use Rattle.std.proofs.Common.{arith}
 use Rattle.standin_book.specs.Approvals.{used_on}
 use Rattle.standin_book.proofs.Lessened.{placed_again}
 use Rattle.standin_book.proofs.Sums.{sums_again}

@@ -1,7 +1,4 @@
-use Rattle.std.proofs.Common.{arith, ap, ◌∙◌, ◌≡◌, ◌≤◌, ◌+◌, length, refl, cond}
-use Rattle.std.specs.Vec.{vec_len}
-use Rattle.book_index.specs.Found.{found, joined}
-use Rattle.book_index.specs.Keys.{same_key}
+use Rattle.std.proofs.Common.{arith, ◌∙◌, ◌≡◌, length, refl}
 use Rattle.standin_book.specs.Approvals.{used_on, day_of}
 use Rattle.standin_book.proofs.Lessened.{placed_more}
 use Rattle.standin_book.proofs.Sums.{sums_more}
