@@ -7,3 +7,4 @@ pub mod Numbers
 pub mod Cut
 pub mod Lines
 pub mod Steps
+pub mod Attempts

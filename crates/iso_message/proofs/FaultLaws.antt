@@ -5,7 +5,8 @@ use Rattle.std.proofs.lemmas.List.{nil_from_length}
 use Rattle.iso_message.specs.declared.kind.Kind.{Kind}
 use Rattle.iso_message.specs.declared.fault.DecodeFault.{DecodeFault}
 use Rattle.iso_message.specs.declared.fault.DecodeFault.TheVariants as faults
-use Rattle.iso_message.specs.Elements.{◌>>=◌, field_at, with_next, with_all}
+use Rattle.card_digits.specs.Attempts.{◌>>=◌}
+use Rattle.iso_message.specs.Elements.{field_at, with_next, with_all}
 use Rattle.iso_message.specs.Table.{form_of}
 use Rattle.iso_message.specs.Fields.{Fields}
 use Rattle.iso_message.specs.Messages.{kind_at, map_at, second_at, read}

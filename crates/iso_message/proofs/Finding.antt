@@ -11,7 +11,7 @@ use Rattle.iso_message.proofs.SpansMore.{seen_more, within_more}
 use Rattle.iso_message.specs.Spans.{start_of, end_of, shown, seen, IsWithin, AreWithin, IsLonger, placed}
 
 abbrev any : Span
-any = record { text = 0; len = 0; digits = 0; number = 0 }
+any = record { high = 0; low = 0; len = 0; digits = 0; number = 0 }
 
 drop_past : (i : ℕ) (spans : List Span) → length spans ≤ i → drop i spans ≡ []
 drop_past i spans h = drop_of_length-le spans h

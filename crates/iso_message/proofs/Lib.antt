@@ -9,7 +9,6 @@ pub mod HexDigits
 pub mod Maps
 pub mod Good
 pub mod TableLemmas
-pub mod CarriedLemmas
 pub mod Equality
 pub mod Changes
 pub mod MessageLemmas

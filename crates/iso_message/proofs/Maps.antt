@@ -10,7 +10,7 @@ use Rattle.iso_message.specs.Spelling.{Ascends, bits, low_numbers, high_numbers,
 use Rattle.iso_message.proofs.Canonical.{marks_bits, parted, weaker}
 
 abbrev pub any : Span
-any = record { text = 0; len = 0; digits = 0; number = 0 }
+any = record { high = 0; low = 0; len = 0; digits = 0; number = 0 }
 
 pub next : (spans : List Span) (i : ℕ) → i < length spans → drop i spans ≡ get_or spans i any ∷ drop (i + 1) spans
 next spans i h = rw (add-one) (drop-cons spans i any h)

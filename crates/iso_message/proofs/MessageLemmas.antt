@@ -203,7 +203,7 @@ good_put n value (e ∷ es) v g =
 -- ---- spans
 
 abbrev pub any : Span
-any = record { text = 0; len = 0; digits = 0; number = 0 }
+any = record { high = 0; low = 0; len = 0; digits = 0; number = 0 }
 
 pub within_kept : (keeps : Span → Bool) (values : List ℕ) (spans : List Span) → AreWithin values spans → AreWithin values (filter keeps spans)
 within_kept keeps values [] h = tt

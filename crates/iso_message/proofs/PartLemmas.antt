@@ -11,7 +11,7 @@ use Rattle.iso_message.specs.Elements.{fits, content_at, counted_at, binary_at}
 use Rattle.iso_message.specs.Grammar.{Writes}
 use Rattle.iso_message.specs.Table.{form_of}
 use Rattle.iso_message.specs.Spelling.{two_digits, three_digits, piece}
-use Rattle.iso_message.specs.Spans.{start_of, end_of, seen, AreWithin}
+use Rattle.iso_message.specs.Spans.{text_of, start_of, end_of, seen, AreWithin}
 use Rattle.iso_message.specs.Parts.{Body, IsEnd, IsPart}
 use Rattle.iso_message.proofs.SpansMore.{range_more, within_push, seen_push}
 use Rattle.iso_message.proofs.MessageLemmas.{few_listed}
@@ -32,7 +32,7 @@ part_at values a b c k i j le e at to =
 -- the span of a part of the body, behind those that are there
 module _ (values : List ℕ) (spans : List Span) (s : Span) (k : ℕ) (body bytes content rest : List ℕ)
     (le : k ≤ length values) (is : take k values ≡ body) (end : IsEnd bytes body) (part : IsPart s.number bytes content rest)
-    (text : s.text ≡ k - length bytes) (before : s.digits ≡ length bytes - length rest - length content) (len : s.len ≡ length content) where
+    (text : text_of s ≡ k - length bytes) (before : s.digits ≡ length bytes - length rest - length content) (len : s.len ≡ length content) where
   whole : body ≡ end.0 ++ (part.head ++ (content ++ rest))
   whole = end.1 ∙ ap (λ bs. end.0 ++ bs) part.whole
 
@@ -47,10 +47,10 @@ module _ (values : List ℕ) (spans : List Span) (s : Span) (k : ℕ) (body byte
       let parts : take k values ≡ (end.0 ++ part.head) ++ (content ++ rest) = is ∙ whole ∙ sym (append_assoc end.0 part.head (content ++ rest)) in
       part_at values (end.0 ++ part.head) content rest k (start_of s) (end_of s) le parts (omega (arith, lengths, bytes_long, text, before, length-append end.0 part.head)) (omega (arith, lengths, bytes_long, text, before, len, length-append end.0 part.head))
 
-  spells : slice_range values s.text (end_of s) ≡ piece (form_of s.number) (slice_range values (start_of s) (end_of s))
+  spells : slice_range values (text_of s) (end_of s) ≡ piece (form_of s.number) (slice_range values (start_of s) (end_of s))
   spells =
       let parts : take k values ≡ end.0 ++ ((part.head ++ content) ++ rest) = is ∙ whole ∙ ap (λ bs. end.0 ++ bs) (sym (append_assoc part.head content rest)) in
-      part_at values end.0 (part.head ++ content) rest k s.text (end_of s) le parts (omega (arith, lengths, bytes_long, text)) (omega (arith, lengths, bytes_long, text, before, len, length-append part.head content)) ∙ part.spelled ∙ ap (piece (form_of s.number)) (sym shows)
+      part_at values end.0 (part.head ++ content) rest k (text_of s) (end_of s) le parts (omega (arith, lengths, bytes_long, text)) (omega (arith, lengths, bytes_long, text, before, len, length-append part.head content)) ∙ part.spelled ∙ ap (piece (form_of s.number)) (sym shows)
 
   pub within_part : AreWithin values spans → AreWithin values (spans ++ s ∷ [])
   within_part h = within_push values spans s h (record { inside = omega (arith, lengths, bytes_long, text, before, len); spelled = λ other. spells })

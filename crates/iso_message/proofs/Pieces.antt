@@ -13,7 +13,8 @@ use Rattle.iso_message.specs.declared.form.Form.TheVariants as forms
 use Rattle.iso_message.specs.declared.fault.DecodeFault.{DecodeFault}
 use Rattle.iso_message.specs.declared.fault.DecodeFault.TheVariants as faults
 use Rattle.card_digits.specs.Numbers.{decimal}
-use Rattle.iso_message.specs.Elements.{◌>>=◌, fits, content_at, length_at, unpacked, binary_at, counted_at, field_at}
+use Rattle.card_digits.specs.Attempts.{◌>>=◌}
+use Rattle.iso_message.specs.Elements.{fits, content_at, length_at, unpacked, binary_at, counted_at, field_at}
 use Rattle.iso_message.specs.Grammar.{AreOf, Writes, IsCounted, IsPiece}
 
 pub bind_ok : {A B : Type 0} (r : Result A DecodeFault) (f : A → Result B DecodeFault) (y : B) → (r >>= f) ≡ Ok y → (x : A) × (r ≡ Ok x) × (f x ≡ Ok y)

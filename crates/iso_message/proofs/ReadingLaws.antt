@@ -11,7 +11,8 @@ use Rattle.iso_message.specs.declared.kind.Kind.{Kind}
 use Rattle.iso_message.specs.declared.fault.DecodeFault.{DecodeFault}
 use Rattle.iso_message.specs.declared.fault.DecodeFault.TheVariants as faults
 use Rattle.iso_message.specs.Types.{kind_of}
-use Rattle.iso_message.specs.Elements.{◌>>=◌, field_at, with_next, with_all}
+use Rattle.card_digits.specs.Attempts.{◌>>=◌}
+use Rattle.iso_message.specs.Elements.{field_at, with_next, with_all}
 use Rattle.iso_message.specs.Table.{form_of}
 use Rattle.iso_message.specs.Fields.{Fields}
 use Rattle.iso_message.specs.Messages.{Fails, Gives, marks, typed, kind_at, mapped, map_at, second_at, read}

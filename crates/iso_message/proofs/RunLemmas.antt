@@ -6,7 +6,7 @@ use Rattle.iso_message.specs.declared.elements.Span.{Span}
 use Rattle.iso_message.specs.declared.elements.Run.{Run}
 use Rattle.iso_message.specs.Table.{form_of}
 use Rattle.iso_message.specs.Spelling.{piece}
-use Rattle.iso_message.specs.Spans.{start_of, end_of, shown, IsWithin, AreWithin, IsInRun, moved, moved_place, IsCopied}
+use Rattle.iso_message.specs.Spans.{text_of, start_of, end_of, shown, IsWithin, AreWithin, IsInRun, moved, moved_place, IsCopied}
 
 -- a part of a part is a part
 part_of_part : (xs : List ℕ) (k n a m : ℕ) → a + m ≤ n → take m (drop a (take n (drop k xs))) ≡ take m (drop (k + a) xs)
@@ -48,9 +48,9 @@ pub moved_shows : (values copies : List ℕ) (run : Run) (s : Span) → IsCopied
 moved_shows values copies run s c r = ap (λ (v : List ℕ). (s.number, v)) (moved_bytes values copies run s c r)
 
 pub moved_within : (values copies : List ℕ) (run : Run) (s : Span) → IsCopied values copies run → IsInRun run s → IsWithin values s → IsWithin copies (moved run s)
-moved_within values copies run s c r w = record {
+moved_within values copies run s c r w = let text : text_of (moved run s) ≡ moved_place run (text_of s) = omega arith in record {
   inside = omega (arith, IsInRun.end r, IsInRun.text r, IsCopied.there c, IsCopied.order c);
-  spelled = λ other. moved_from values copies run s s.text c r (IsInRun.text r) (omega arith) ∙ IsWithin.spelled w other ∙ ap (piece (form_of s.number)) (sym (moved_bytes values copies run s c r));
+  spelled = λ other. ap (λ i. slice_range copies i (end_of (moved run s))) text ∙ moved_from values copies run s (text_of s) c r (IsInRun.text r) (omega arith) ∙ IsWithin.spelled w other ∙ ap (piece (form_of s.number)) (sym (moved_bytes values copies run s c r));
 }
 
 pub within_got : (values : List ℕ) (spans : List Span) (i : ℕ) (s : Span) → AreWithin values spans → slice_get spans i ≡ Some s → IsWithin values s

@@ -7,7 +7,7 @@ use Rattle.iso_message.specs.declared.form.Form.{Form}
 use Rattle.iso_message.specs.declared.form.Form.TheVariants as forms
 use Rattle.iso_message.specs.Table.{form_of}
 use Rattle.iso_message.specs.Spelling.{IsGood, is_binary, piece, length_text}
-use Rattle.iso_message.specs.Spans.{start_of, end_of, shown, seen, IsWithin, AreWithin}
+use Rattle.iso_message.specs.Spans.{text_of, start_of, end_of, shown, seen, IsWithin, AreWithin}
 
 pub range_more : (values more : List ℕ) (i j : ℕ) → i ≤ j → j ≤ length values → slice_range (values ++ more) i j ≡ slice_range values i j
 range_more values more i j h k =
@@ -26,7 +26,7 @@ within_more values more [] h = tt
 within_more values more (s ∷ ss) h = (
   record {
     inside = omega (arith, h.0.inside, length-append values more);
-    spelled = λ other. rw (range_more values more s.text (end_of s) (omega arith) h.0.inside, range_more values more (start_of s) (end_of s) (omega arith) h.0.inside) (h.0.spelled other);
+    spelled = λ other. rw (range_more values more (text_of s) (end_of s) (omega arith) h.0.inside, range_more values more (start_of s) (end_of s) (omega arith) h.0.inside) (h.0.spelled other);
   },
   within_more values more ss h.1,
 )
@@ -61,7 +61,7 @@ few_digits (Some forms.Binary) n = omega arith
 
 -- the span of a piece that was added behind a buffer
 module _ (old digits content new : List ℕ) (s : Span) (whole : new ≡ (old ++ digits) ++ content)
-    (text : s.text ≡ length old) (before : s.digits ≡ length digits) (len : s.len ≡ length content) where
+    (text : text_of s ≡ length old) (before : s.digits ≡ length digits) (len : s.len ≡ length content) where
   pub added_shows : slice_range new (start_of s) (end_of s) ≡ content
   added_shows =
       ap (λ vs. slice_range vs (start_of s) (end_of s)) whole
@@ -71,8 +71,8 @@ module _ (old digits content new : List ℕ) (s : Span) (whole : new ≡ (old ++
   added_within d g = record {
     inside = omega (arith, ap length whole, length-append (old ++ digits) content, length-append old digits, text, before, len);
     spelled = λ other.
-        ap (λ vs. slice_range vs s.text (end_of s)) (whole ∙ append_assoc old digits content)
-        ∙ range_last old (digits ++ content) s.text (end_of s) text (omega (arith, text, before, len, length-append digits content))
+        ap (λ vs. slice_range vs (text_of s) (end_of s)) (whole ∙ append_assoc old digits content)
+        ∙ range_last old (digits ++ content) (text_of s) (end_of s) text (omega (arith, text, before, len, length-append digits content))
         ∙ ap (λ ds. ds ++ content) d
         ∙ piece_parts (form_of s.number) content g other
         ∙ ap (piece (form_of s.number)) (sym added_shows);

@@ -6,7 +6,8 @@ use Rattle.std.specs.Int.Count.{count_leading_zeros}
 use Rattle.std.proofs.lemmas.Nat.{leading_top, one_shl}
 use Rattle.iso_message.specs.declared.fault.DecodeFault.{DecodeFault}
 use Rattle.iso_message.specs.declared.fault.DecodeFault.TheVariants as faults
-use Rattle.iso_message.specs.Elements.{◌>>=◌, with_next, with_all}
+use Rattle.card_digits.specs.Attempts.{◌>>=◌}
+use Rattle.iso_message.specs.Elements.{with_next, with_all}
 use Rattle.iso_message.specs.Table.{form_of}
 use Rattle.iso_message.specs.Messages.{marks, Fails}
 

@@ -4,7 +4,7 @@ use Rattle.std.specs.Prelude.{slice_range}
 use Rattle.std.proofs.lemmas.List.{take-append-drop, take-take, drop-take, drop-drop, drop_more}
 use Rattle.iso_message.specs.declared.elements.Span.{Span}
 use Rattle.iso_message.specs.Table.{form_of}
-use Rattle.iso_message.specs.Spans.{start_of, end_of, seen, IsWithin}
+use Rattle.iso_message.specs.Spans.{text_of, start_of, end_of, seen, IsWithin}
 use Rattle.iso_message.specs.Spelling.{IsGood, AreGood, is_binary, piece, pieces}
 use Rattle.iso_message.proofs.MessageLemmas.{any}
 
@@ -43,17 +43,17 @@ written_alone values out from to at p later all e =
 
 -- the bytes that wait are written, and a piece waits
 pub waits_anew : (values out : List ℕ) (from to : ℕ) (s : Span) (later all : List ℕ) → IsWithin values s → is_binary (form_of s.number) ≡ false → out ++ (slice_range values from to ++ (piece_of values s ++ later)) ≡ all
-    → (out ++ slice_range values from to) ++ (slice_range values s.text (end_of s) ++ later) ≡ all
+    → (out ++ slice_range values from to) ++ (slice_range values (text_of s) (end_of s) ++ later) ≡ all
 waits_anew values out from to s later all w other e =
-    append_assoc out (slice_range values from to) (slice_range values s.text (end_of s) ++ later)
+    append_assoc out (slice_range values from to) (slice_range values (text_of s) (end_of s) ++ later)
     ∙ ap (λ p. out ++ (slice_range values from to ++ (p ++ later))) (w.spelled other)
     ∙ e
 
 -- a piece waits behind others
-pub waits_too : (values out : List ℕ) (from : ℕ) (s : Span) (later all : List ℕ) → IsWithin values s → is_binary (form_of s.number) ≡ false → from ≤ s.text → out ++ (slice_range values from s.text ++ (piece_of values s ++ later)) ≡ all
+pub waits_too : (values out : List ℕ) (from : ℕ) (s : Span) (later all : List ℕ) → IsWithin values s → is_binary (form_of s.number) ≡ false → from ≤ text_of s → out ++ (slice_range values from (text_of s) ++ (piece_of values s ++ later)) ≡ all
     → out ++ (slice_range values from (end_of s) ++ later) ≡ all
 waits_too values out from s later all w other le e =
-    ap (λ xs. out ++ (xs ++ later)) (sym (ranges_join values from s.text (end_of s) le (omega arith)))
-    ∙ ap (λ xs. out ++ xs) (append_assoc (slice_range values from s.text) (slice_range values s.text (end_of s)) later)
-    ∙ ap (λ p. out ++ (slice_range values from s.text ++ (p ++ later))) (w.spelled other)
+    ap (λ xs. out ++ (xs ++ later)) (sym (ranges_join values from (text_of s) (end_of s) le (omega arith)))
+    ∙ ap (λ xs. out ++ xs) (append_assoc (slice_range values from (text_of s)) (slice_range values (text_of s) (end_of s)) later)
+    ∙ ap (λ p. out ++ (slice_range values from (text_of s) ++ (p ++ later))) (w.spelled other)
     ∙ e

@@ -4,6 +4,7 @@ use Rattle.std.specs.Char.{is_ascii_digit}
 use Rattle.std.specs.List.{list_all}
 use Rattle.hex.specs.Hex.{decode_sized}
 use Rattle.hex.specs.declared.error.FromHexError.{FromHexError}
+use Rattle.card_digits.specs.Attempts.{◌>>=◌}
 use Rattle.card_digits.specs.Numbers.{decimal}
 use Rattle.iso_message.specs.Table.{form_of}
 use Rattle.iso_message.specs.declared.form.Class.{Class}
@@ -12,12 +13,6 @@ use Rattle.iso_message.specs.declared.form.Form.{Form}
 use Rattle.iso_message.specs.declared.form.Form.TheVariants.{Fixed, Llvar, Lllvar, Binary}
 use Rattle.iso_message.specs.declared.fault.DecodeFault.{DecodeFault}
 use Rattle.iso_message.specs.declared.fault.DecodeFault.TheVariants as faults
-
--- a step, and what comes after it
-infixl 10 ◌>>=◌
-abbrev pub ◌>>=◌ : {A B : Type 0} → Result A DecodeFault → (A → Result B DecodeFault) → Result B DecodeFault
-(Ok x) >>= f = f x
-(Err e) >>= f = Err e
 
 abbrev pub fits : Class → ℕ → Bool
 fits Digits b = is_ascii_digit b

@@ -8,7 +8,8 @@ use Rattle.iso_message.specs.declared.fault.DecodeFault.{DecodeFault}
 use Rattle.iso_message.specs.declared.fault.DecodeFault.TheVariants as faults
 use Rattle.iso_message.specs.Types.{kind_of}
 use Rattle.iso_message.specs.Fields.{Fields}
-use Rattle.iso_message.specs.Elements.{◌>>=◌, with_all}
+use Rattle.card_digits.specs.Attempts.{◌>>=◌}
+use Rattle.iso_message.specs.Elements.{with_all}
 
 -- the numbers of the bits that are set among the k lowest of a map, of which the lowest is that of last
 unfoldable pub marks : ℕ → ℕ → ℕ → List ℕ

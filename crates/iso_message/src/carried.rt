@@ -11,56 +11,21 @@ pub(crate) enum Carried {
     Advice,
 }
 
-/// Whether a response has the element of its message, at the place of each number.
-static IN_RESPONSE: [bool; 129] = [
-    false, false, true, true, true, false, false, true, false, false, false, true, false, false,
-    false, true, false, false, false, false, false, false, false, false, false, false, false,
-    false, false, false, false, false, true, true, false, false, false, true, false, false, false,
-    true, false, false, false, false, false, false, false, true, false, false, false, false, false,
-    false, false, false, false, false, false, false, false, false, false, false, false, false,
-    false, false, false, false, false, false, false, false, false, false, false, false, false,
-    false, false, false, false, false, false, false, false, false, true, false, false, false,
-    false, false, false, false, false, false, false, false, false, false, false, false, false,
-    false, false, false, false, false, false, false, false, false, false, false, false, false,
-    false, false, false, false, false, false, false, false, false,
-];
-
-/// Whether an advice has the element of its request, at the place of each number.
-static IN_ADVICE: [bool; 129] = [
-    false, false, true, true, true, false, false, true, false, false, false, true, false, false,
-    false, true, false, false, false, false, false, false, false, false, false, false, false,
-    false, false, false, false, false, true, false, false, false, false, true, false, false, false,
-    true, false, false, false, false, false, false, false, true, false, false, false, false, false,
-    false, false, false, false, false, false, false, false, false, false, false, false, false,
-    false, false, false, false, false, false, false, false, false, false, false, false, false,
-    false, false, false, false, false, false, false, false, false, false, false, false, false,
-    false, false, false, false, false, false, false, false, false, false, false, false, false,
-    false, false, false, false, false, false, false, false, false, false, false, false, false,
-    false, false, false, false, false, false, false, false, false,
-];
-
 #[inline(always)]
-#[tactic(auto, using(crate::proofs::CarriedLemmas::in_response, crate::proofs::CarriedLemmas::past_response))]
 fn is_in_response(number: u8) -> bool
     ensures { result ≡ is_one_of response_numbers number }
 {
-    let place = number as usize;
-    if place < IN_RESPONSE.len() {
-        return IN_RESPONSE[place];
-    }
-    false
+    matches!(
+        number,
+        2 | 3 | 4 | 7 | 11 | 15 | 32 | 33 | 37 | 41 | 49 | 90
+    )
 }
 
 #[inline(always)]
-#[tactic(auto, using(crate::proofs::CarriedLemmas::in_advice, crate::proofs::CarriedLemmas::past_advice))]
 fn is_in_advice(number: u8) -> bool
     ensures { result ≡ is_one_of advice_numbers number }
 {
-    let place = number as usize;
-    if place < IN_ADVICE.len() {
-        return IN_ADVICE[place];
-    }
-    false
+    matches!(number, 2 | 3 | 4 | 7 | 11 | 15 | 32 | 37 | 41 | 49)
 }
 
 impl Carried {

@@ -5,7 +5,7 @@ ghost use Rattle.iso_message.specs.Made.{kept};
 ghost use Rattle.iso_message.specs.Carried.{carried_numbers};
 ghost use Rattle.iso_message.specs.Spelling.{Ascends, IsGood, AreGood, bits, low_numbers, high_numbers, pieces};
 ghost use Rattle.iso_message.specs.Table.{form_of};
-ghost use Rattle.iso_message.specs.Spans.{start_of, end_of, seen, IsWithin, AreWithin, IsLonger, placed, numbers, IsInRun, moved, moved_place, IsCopied};
+ghost use Rattle.iso_message.specs.Spans.{text_of, span_at, start_of, end_of, seen, IsWithin, AreWithin, IsLonger, placed, numbers, IsInRun, moved, moved_place, IsCopied};
 ghost use Rattle.iso_message.specs.declared.elements.Span.{Span};
 
 mod element_iter;
@@ -22,7 +22,10 @@ use std::mem;
 /// Where an element stands in the buffer: its piece as it is spelled, or the eight bytes of a binary element.
 #[derive(Clone, Copy, Debug)]
 pub(crate) struct Span {
-    text: u32,
+    /// The upper half of the offset of its piece. In halves, a span takes 12 bytes and not 16.
+    high: u32,
+    /// The lower half.
+    low: u32,
     /// The number of its bytes, which end its piece.
     len: u16,
     /// How many digits of its length stand before its bytes.
@@ -31,34 +34,43 @@ pub(crate) struct Span {
 }
 
 impl Span {
-    /// The span of an element that stands from a place on. There is none where the place is 4 GiB or more.
-    fn at(number: u8, text: usize, digits: usize, len: usize) -> Result<Span, AllocError>
+    /// The span of an element whose piece begins at an offset.
+    #[inline(always)]
+    fn at(number: u8, text: usize, digits: usize, len: usize) -> Span
         requires digits { digits < 4 }
         requires len { len < 1_000 }
-        ensures { IfOk result (λ s. s ≡ record { text = text; len = len; digits = digits; number = number }) }
+        ensures { result ≡ span_at number text digits len }
     {
-        if text > u32::MAX as usize {
-            return Err(AllocError);
-        }
-        Ok(Span {
-            text: text as u32,
+        Span {
+            high: (text >> 32) as u32,
+            low: (text % (1 << 32)) as u32,
             len: len as u16,
             digits: digits as u8,
             number,
-        })
+        }
+    }
+
+    /// Where its piece begins.
+    #[inline(always)]
+    fn text(self) -> usize
+        ensures { result ≡ text_of self }
+    {
+        ((self.high as usize) << 32) + self.low as usize
     }
 
     /// Where its bytes begin.
     #[inline(always)]
     fn start(self) -> usize
+        requires { end_of self < 2 ^ 64 }
         ensures { result ≡ start_of self }
     {
-        self.text as usize + self.digits as usize
+        self.text() + self.digits as usize
     }
 
     /// Where its bytes end.
     #[inline(always)]
     fn end(self) -> usize
+        requires { end_of self < 2 ^ 64 }
         ensures { result ≡ end_of self }
     {
         self.start() + self.len as usize
@@ -76,9 +88,9 @@ fn append(values: &mut Vec<u8>, number: u8, content: &[u8]) -> Result<Span, Allo
 {
     let text = values.len();
     push_length(values, number, content.len())?;
-    let span = Span::at(number, text, values.len() - text, content.len())?;
+    let digits = values.len() - text;
     values.extend_from_slice(content)?;
-    Ok(span)
+    Ok(Span::at(number, text, digits, content.len()))
 }
 
 /// The bytes of a buffer that is copied whole sooner than piece by piece.
@@ -306,25 +318,24 @@ struct Run {
 impl Run {
     /// Whether an element stands in the part.
     fn has(self, span: Span) -> bool
+        requires { end_of span < 2 ^ 64 }
         ensures { IsTrue result ↔ IsInRun self span }
     {
-        self.from <= span.text as usize && span.end() <= self.to
+        self.from <= span.text() && span.end() <= self.to
     }
 
     /// The span of the same element in the copy.
-    fn moved(self, span: Span) -> Result<Span, AllocError>
+    fn moved(self, span: Span) -> Span
         requires inside { IsInRun self span }
         requires there { moved_place self self.to < 2 ^ 64 }
-        ensures { IfOk result (λ s. s ≡ moved self span) }
+        ensures { result ≡ moved self span }
     {
-        let text = self.copy + (span.text as usize - self.from);
-        if text > u32::MAX as usize {
-            return Err(AllocError);
-        }
-        Ok(Span {
-            text: text as u32,
+        let text = self.copy + (span.text() - self.from);
+        Span {
+            high: (text >> 32) as u32,
+            low: (text % (1 << 32)) as u32,
             ..span
-        })
+        }
     }
 }
 
@@ -338,7 +349,7 @@ fn run_end(spans: &[Span], values: &[u8], carried: Carried, place: usize, first:
     let mut end = first.end();
     for i in place + 1..spans.len() {
         let next = spans[i];
-        if next.text as usize != end || !carried.has(next.number) {
+        if next.text() != end || !carried.has(next.number) {
             return end;
         }
         end = next.end();
@@ -361,7 +372,7 @@ fn copy_run(
     ensures has { IfOk result (λ run. IsInRun run first) }
     ensures more { OnOk result (IsLonger copies.old.items copies.new.items) }
 {
-    let from = first.text as usize;
+    let from = first.text();
     let to = run_end(spans, values, carried, place, first);
     let copy = copies.len();
     copies.extend_from_slice(&values[from..to])?;
@@ -413,7 +424,7 @@ fn copy_kept(
         let span = spans[place];
         if carried.has(span.number) {
             let found = run_with(run, spans, values, carried, place, span, copies)?;
-            kept_spans.push(found.moved(span)?)?;
+            kept_spans.push(found.moved(span))?;
             run = found;
         }
     }
@@ -461,7 +472,7 @@ fn push_pieces(out: &mut Vec<u8>, spans: &[Span], values: &[u8]) -> Result<(), A
     let mut from: usize = 0;
     let mut to: usize = 0;
     for span in spans {
-        let text = span.text as usize;
+        let text = span.text();
         let end = span.end();
         if is_binary(span.number) {
             push_part(out, values, from, to)?;

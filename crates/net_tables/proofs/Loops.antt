@@ -1,7 +1,8 @@
 -- A loop over rows reads them all.
 use Rattle.std.proofs.Common.{◌≡◌, ℕ, ◌+◌, ◌<◌, ◌≤◌, List, [], ◌∷◌, ◌++◌, map, length, get_or, drop, Result, Ok, Err, refl, sym, ◌∙◌}
 use Rattle.std.proofs.lemmas.List.{drop_more, drop_all, drop-map}
-use Rattle.table_fields.specs.Faults.{◌>>=◌, Fails}
+use Rattle.card_digits.specs.Attempts.{◌>>=◌}
+use Rattle.table_fields.specs.Faults.{Fails}
 use Rattle.table_fields.proofs.Faults.{fails_from}
 use Rattle.net_tables.specs.AllRows.{each}
 use Rattle.table_fields.specs.declared.fault.TableFault.{TableFault}

@@ -1,7 +1,7 @@
 -- The rows of a table of the tree.
 use Rattle.std.specs.Prelude.{ℕ, ◌+◌, List, [], ◌∷◌, ◌++◌, length, Result, Ok}
 use Rattle.toml.specs.Data.{Members}
-use Rattle.table_fields.specs.Faults.{◌>>=◌}
+use Rattle.card_digits.specs.Attempts.{◌>>=◌}
 use Rattle.table_fields.specs.Fields.{RowText}
 use Rattle.table_fields.specs.Shapes.{rows_at}
 use Rattle.table_fields.specs.declared.fault.TableFault.{TableFault}

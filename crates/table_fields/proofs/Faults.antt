@@ -1,6 +1,7 @@
 -- A fault of a step is the fault of what begins with it.
 use Rattle.std.proofs.Common.{◌≡◌, Result, Err}
-use Rattle.table_fields.specs.Faults.{◌>>=◌, Fails}
+use Rattle.card_digits.specs.Attempts.{◌>>=◌}
+use Rattle.table_fields.specs.Faults.{Fails}
 use Rattle.table_fields.specs.declared.fault.TableFault.{TableFault}
 use Rattle.table_fields.specs.declared.fault.TableFault.TheVariants.{NotToml, MissingField, BadValue, UnknownName, Twice, TooMany, NotAtLink, Memory}
 

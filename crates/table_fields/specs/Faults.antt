@@ -3,11 +3,6 @@ use Rattle.std.specs.Prelude.{◌≡◌, Bool, Option, Some, None, Result, Ok, E
 use Rattle.table_fields.specs.declared.fault.TableFault.{TableFault}
 use Rattle.table_fields.specs.declared.fault.TableFault.TheVariants.{Memory}
 
-infixl 10 ◌>>=◌
-abbrev pub ◌>>=◌ : {A B : Type 0} → Result A TableFault → (A → Result B TableFault) → Result B TableFault
-(Ok x) >>= f = f x
-(Err e) >>= f = Err e
-
 abbrev pub ok_or : {A : Type 0} → Option A → TableFault → Result A TableFault
 ok_or None e = Err e
 ok_or (Some x) e = Ok x

@@ -22,7 +22,7 @@ pub(crate) struct Parts {
 }
 
 impl Model for Parts {
-    ghost use Rattle.std.specs.Prelude.{◌≤◌, ◌<◌, ◌^◌, length, take};
+    ghost use Rattle.std.specs.Prelude.{◌≤◌, length, take};
     ghost use Rattle.iso_message.specs.Spans.{seen, AreWithin};
     ghost use Rattle.iso_message.specs.Parts.{Body};
 
@@ -30,7 +30,7 @@ impl Model for Parts {
 
     ghost view = { λ a. record { body = take a.size a.values.items; elements = seen a.values.items a.spans.items } };
 
-    ghost invariant = { λ a. (a.size ≤ length a.values.items) × (a.size < 2 ^ 32) × AreWithin a.values.items a.spans.items };
+    ghost invariant = { λ a. (a.size ≤ length a.values.items) × AreWithin a.values.items a.spans.items };
 }
 
 impl Parts {
@@ -49,9 +49,6 @@ impl Parts {
         } = old;
         spans.clear();
         values.clear();
-        if body.len() > u32::MAX as usize {
-            return Err(AllocError);
-        }
         spans.reserve(count.saturating_add(MORE_ELEMENTS))?;
         let bytes = body.len().saturating_add(binary.saturating_mul(8));
         values.reserve(bytes.saturating_add(MORE_BYTES))?;
@@ -79,12 +76,8 @@ impl Parts {
     {
         let text = self.size - bytes.len();
         let digits = bytes.len() - rest.len() - content.len();
-        self.spans.push(Span {
-            text: text as u32,
-            len: content.len() as u16,
-            digits: digits as u8,
-            number,
-        })?;
+        let span = Span::at(number, text, digits, content.len());
+        self.spans.push(span)?;
         Ok(())
     }
 
@@ -93,7 +86,7 @@ impl Parts {
         requires { is_binary (form_of number) ≡ true }
         ensures { OnOk result (self.new ≡ record { body = self.old.body; elements = self.old.elements ++ (number, value.now) ∷ [] }) }
     {
-        let span = Span::at(number, self.values.len(), 0, value.len())?;
+        let span = Span::at(number, self.values.len(), 0, value.len());
         self.values.extend_from_slice(value)?;
         self.spans.push(span)?;
         Ok(())

@@ -7,7 +7,7 @@ use Rattle.iso_message.proofs.SpansMore.{within_push, seen_push}
 use Rattle.iso_message.proofs.MessageLemmas.{any, kept_at, passed_at}
 use Rattle.iso_message.proofs.RunLemmas.{moved_shows, moved_within}
 use Rattle.iso_message.proofs.elements.copy_kept.Goals as goal
-use Rattle.iso_message.proofs.elements.copy_kept.Goals.{then-has+in_ok-found+in_ok-moved+in_ok-push, else-has}
+use Rattle.iso_message.proofs.elements.copy_kept.Goals.{then-has+in_ok-found+in_ok-push, else-has}
 
 pub loop-place-preserved : goal.loop-place-preserved
 loop-place-preserved c =
@@ -21,7 +21,7 @@ loop-place-preserved c =
     let later = kept numbers (seen values (drop (i + 1) spans)) in
     let within = within_at values spans i c.loop-place-test.true c.loop-place.invariant.later in
     elim c.if-has.branch [
-      | then-has+in_ok-found+in_ok-moved+in_ok-push w ↦
+      | then-has+in_ok-found+in_ok-push w ↦
           let new = w.run_with.new.copies.items in
           let run = w.in_ok-found.found in
           let copied = w.in_ok-found.ensures.copied in

@@ -1,7 +1,7 @@
 use Rattle.std.proofs.Common.{◌≡◌, ◌++◌, ◌+◌, false, drop, get_or, rules, ap, ◌∙◌, arith, sym}
 use Rattle.std.specs.Prelude.{slice_range}
 use Rattle.iso_message.specs.Table.{form_of}
-use Rattle.iso_message.specs.Spans.{end_of, seen}
+use Rattle.iso_message.specs.Spans.{text_of, end_of, seen}
 use Rattle.iso_message.specs.Spelling.{is_binary, pieces}
 use Rattle.iso_message.proofs.Finding.{within_at}
 use Rattle.iso_message.proofs.MessageLemmas.{any}
@@ -42,11 +42,11 @@ loop-span-preserved c =
             inside = omega (arith, w.to-is, within.0.inside);
             within = within.1;
             good = good.1;
-            text = rw (w.out-is, w.from-is, w.to-is, c.end-end.ensures, waiting) (waits_anew values out from to s later all within.0 other so_far);
+            text = rw (w.out-is, w.from-is, w.to-is, c.text-text.ensures, c.end-end.ensures, waiting) (waits_anew values out from to s later all within.0 other so_far);
           }
       | else-is_binary+else-text-to w ↦
           let other : is_binary (form_of s.number) ≡ false = sym c.is_binary.ensures ∙ w.if-is_binary.false in
-          let same : to ≡ s.text = omega arith in
+          let same : to ≡ text_of s = omega arith in
           record {
             order = omega (arith, w.from-is, w.to-is, c.loop-span.invariant.order);
             inside = omega (arith, w.to-is, within.0.inside);
