@@ -22,10 +22,10 @@ use std::mem;
 /// Where an element stands in the buffer: its piece as it is spelled, or the eight bytes of a binary element.
 #[derive(Clone, Copy, Debug)]
 pub(crate) struct Span {
-    /// The upper half of the offset of its piece. In halves, a span takes 12 bytes and not 16.
-    high: u32,
-    /// The lower half.
+    /// The lower half of the offset of its piece. In halves, a span takes 12 bytes and not 16.
     low: u32,
+    /// The upper half.
+    high: u32,
     /// The number of its bytes, which end its piece.
     len: u16,
     /// How many digits of its length stand before its bytes.
@@ -42,8 +42,8 @@ impl Span {
         ensures { result ≡ span_at number text digits len }
     {
         Span {
-            high: (text >> 32) as u32,
             low: (text % (1 << 32)) as u32,
+            high: (text >> 32) as u32,
             len: len as u16,
             digits: digits as u8,
             number,
@@ -332,8 +332,8 @@ impl Run {
     {
         let text = self.copy + (span.text() - self.from);
         Span {
-            high: (text >> 32) as u32,
             low: (text % (1 << 32)) as u32,
+            high: (text >> 32) as u32,
             ..span
         }
     }
