@@ -1,6 +1,8 @@
-//! Tests of slots in lists, of timers, and of requests that wait. Nothing is promised of these functions.
+//! Tests of slots in lists, of timers, of requests that wait, and of advices and grants that do. Nothing is promised of these functions.
 #![tactic(auto)]
 
+#[cfg(test)]
+mod advices;
 #[cfg(test)]
 mod chains;
 #[cfg(test)]

@@ -3,4 +3,4 @@ mod desk;
 mod full;
 mod hashes;
 mod orders;
-mod words;
+pub(crate) mod words;

@@ -1,0 +1,13 @@
+pub mod Lists
+pub mod Names
+pub mod Derived
+pub mod Counts
+pub mod Loose
+pub mod Arming
+pub mod Standing
+pub mod Entering
+pub mod Leaving
+pub mod Turning
+pub mod Marking
+pub mod Listing
+pub mod Holding

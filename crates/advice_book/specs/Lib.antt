@@ -1,0 +1,4 @@
+pub mod Items
+pub mod Books
+pub mod Kept
+pub mod Whole

@@ -1,0 +1,6 @@
+//! The book of advices and grants.
+mod desk;
+mod full;
+mod orders;
+mod packets;
+mod words;

@@ -1,0 +1,156 @@
+//! A book, and what the tests do with it.
+use crate::advices::words::{Name, advice, grant, id, item_name};
+use advice_book::{Advice, AdviceBook, GrantFault, ItemName, StoreFault};
+use std::alloc::{AllocError, Global};
+
+/// The ticks after which items are due again.
+const TICKS: u16 = 3;
+
+/// A book of a test.
+#[derive(Drop)]
+pub(crate) struct Desk {
+    alloc: Global,
+    book: AdviceBook,
+}
+
+fn are(names: &[ItemName], wanted: &[Name]) -> bool {
+    if names.len() != wanted.len() {
+        return false;
+    }
+    for place in 0..names.len() {
+        if names[place] != item_name(wanted[place]) {
+            return false;
+        }
+    }
+    true
+}
+
+fn reserve_and_store(book: &mut AdviceBook, count: u32, advice: Advice) -> Result<(), StoreFault> {
+    book.reserve(count)?;
+    if count == 0 {
+        return Ok(());
+    }
+    match book.store(advice, true) {
+        Ok(()) => Ok(()),
+        Err((fault, _)) => Err(fault),
+    }
+}
+
+fn reserve_and_give_back(book: &mut AdviceBook, count: u32) -> Result<(), StoreFault> {
+    book.reserve(count)?;
+    book.unreserve(count);
+    Ok(())
+}
+
+impl Desk {
+    pub(crate) fn new(alloc: Global) -> Result<Desk, AllocError> {
+        Ok(Desk {
+            alloc,
+            book: AdviceBook::new(alloc, TICKS)?,
+        })
+    }
+
+    /// Whether storing an advice answers this; what comes back is the advice.
+    pub(crate) fn stores(&mut self, number: u32, wanted: Option<StoreFault>) -> bool {
+        match self.book.store(advice(self.alloc, number), false) {
+            Ok(()) => wanted.is_none(),
+            Err((fault, back)) => wanted == Some(fault) && back.id == id(number),
+        }
+    }
+
+    /// Whether so many advices are stored, with numbers from the first on.
+    pub(crate) fn stores_all(&mut self, first: u32, count: u32) -> bool {
+        for i in 0..count {
+            if !self.stores(first.wrapping_add(i), None) {
+                return false;
+            }
+        }
+        true
+    }
+
+    /// Whether so many places are reserved, and an advice is stored on one of them.
+    pub(crate) fn stores_reserved(&mut self, count: u32, number: u32) -> bool {
+        let advice = advice(self.alloc, number);
+        reserve_and_store(&mut self.book, count, advice).is_ok()
+    }
+
+    /// Whether storing a grant answers this.
+    pub(crate) fn lends(&mut self, number: u64, wanted: Option<GrantFault>) -> bool {
+        match grant(number) {
+            Ok(grant) => self.book.store_grant(grant).err() == wanted,
+            Err(_) => false,
+        }
+    }
+
+    /// Takes an item out, and says whether it was held.
+    pub(crate) fn acks(&mut self, name: Name) -> bool {
+        match name {
+            Name::Advice(number) => self.book.ack(&id(number)),
+            Name::Grant(number) => self.book.ack_grant(number),
+        }
+    }
+
+    /// Marks an advice as put, if it is held.
+    pub(crate) fn puts(&mut self, number: u32) -> bool {
+        let id = id(number);
+        if !self.book.holds(&id) {
+            return false;
+        }
+        self.book.mark_put(&id);
+        true
+    }
+
+    /// Whether these are due at the next tick, in this order.
+    fn is_due(&self, wanted: &[Name]) -> bool {
+        match self.book.due() {
+            Ok(due) => are(due.as_slice(), wanted),
+            Err(_) => false,
+        }
+    }
+
+    /// Whether the next tick has these, and looks at no more than these and one.
+    pub(crate) fn ticks(&mut self, wanted: &[Name]) -> bool {
+        let same = self.is_due(wanted);
+        self.book.tick();
+        same && self.book.visits() <= (wanted.len() as u64).saturating_add(1)
+    }
+
+    /// Whether reserving so many places answers this.
+    pub(crate) fn reserves(&mut self, count: u32, wanted: Option<StoreFault>) -> bool {
+        self.book.reserve(count).err() == wanted
+    }
+
+    /// Whether so many places are reserved, and then given back.
+    pub(crate) fn gives_back(&mut self, count: u32) -> bool {
+        reserve_and_give_back(&mut self.book, count).is_ok()
+    }
+
+    /// Whether noting an identity answers this.
+    pub(crate) fn notes(&mut self, number: u32, wanted: Option<StoreFault>) -> bool {
+        self.book.note(id(number)).err() == wanted
+    }
+
+    /// Whether this is so: the identity is known, and its advice held.
+    pub(crate) fn is_known(&self, number: u32, known: bool, held: bool) -> bool {
+        let id = id(number);
+        self.book.known(&id) == known
+            && self.book.holds(&id) == held
+            && self.book.get(&id).is_some() == held
+    }
+
+    /// Whether the advice is held and was put.
+    pub(crate) fn was_put(&self, number: u32) -> bool {
+        match self.book.get(&id(number)) {
+            Some(advice) => advice.put,
+            None => false,
+        }
+    }
+
+    /// Whether the grant is held, and is the one that was stored.
+    pub(crate) fn is_lent(&self, number: u64) -> bool {
+        match self.book.grant(number) {
+            Some(held) => Ok(*held) == grant(number),
+            None => false,
+        }
+    }
+}

@@ -1,0 +1,56 @@
+//! Advices and grants of the tests.
+use crate::requests::words::key;
+use advice_book::{Advice, Grant, ItemName};
+use card_digits::{Amount, Card, DateLabel, DigitFault};
+use iso_message::{AdviceId, AdviceKind, Kind, Message};
+use std::alloc::Global;
+
+/// What a test names an item by.
+#[derive(Clone, Copy)]
+pub(crate) enum Name {
+    Advice(u32),
+    Grant(u64),
+}
+
+/// Advices from this number on are reversals: this one has the key of 0, the next the key of 1, and so on.
+pub(crate) const REVERSALS: u32 = 500_000;
+
+/// The identity of a number.
+pub(crate) fn id(number: u32) -> AdviceId {
+    let (kind, key_number) = if number < REVERSALS {
+        (AdviceKind::StandIn, number)
+    } else {
+        (AdviceKind::Reversal, number - REVERSALS)
+    };
+    AdviceId {
+        kind,
+        key: key(key_number),
+        forwarder: *b"00000001001",
+    }
+}
+
+pub(crate) fn item_name(wanted: Name) -> ItemName {
+    match wanted {
+        Name::Advice(number) => ItemName::Advice(id(number)),
+        Name::Grant(number) => ItemName::Grant(number),
+    }
+}
+
+pub(crate) fn advice(alloc: Global, number: u32) -> Advice {
+    Advice {
+        id: id(number),
+        message: Message::new(alloc, Kind::K0120),
+        put: false,
+    }
+}
+
+pub(crate) fn grant(number: u64) -> Result<Grant, DigitFault> {
+    Ok(Grant {
+        lender: *b"00000001001",
+        number,
+        borrower: *b"00000001003",
+        card: Card::read(b"4111111111111111")?,
+        date: DateLabel::read(b"0314")?,
+        amount: Amount::read(b"000000000100")?,
+    })
+}
