@@ -1,5 +1,6 @@
 mod Again
 mod Behind
 mod Cuts
+mod Growing
 mod Pairs
 pub mod Together

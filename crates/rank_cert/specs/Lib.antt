@@ -1,4 +1,7 @@
+pub mod Adding
+pub mod Kept
 pub mod Ranks
 pub mod Reading
-pub mod Writing
+pub mod Runs
 pub mod Words
+pub mod Writing

@@ -1,9 +1,10 @@
 //! Ranks of pairs of a node's name and a prefix.
-ghost use Rattle.std.specs.Prelude.{◌≡◌, ◌≤◌, [], ◌∷◌, ◌++◌, drop, Some, IfOk, IfSome, OnErr};
+ghost use Rattle.std.specs.Prelude.{◌≡◌, [], ◌∷◌, ◌++◌, Some, IfOk, IfSome, OnErr};
 ghost use Rattle.rank_cert.specs.Ranks.{rank_of, is_new, IsRow, IsCert};
 
+use crate::kept::Kept;
+use crate::runs::rows_from;
 use card_digits::{Name, Prefix};
-use indexmap::IndexSet;
 use std::alloc::{AllocError, Global};
 use std::hash::{Hash, Hasher};
 use std::marker::Model;
@@ -54,22 +55,25 @@ impl Hash for Rank {
     }
 }
 
-/// Ranks in the order in which they were added, at most one for a pair of a name and a prefix.
+/// Ranks in the order in which they were added, at most one for a pair of a name and a prefix. Where the rows of each prefix are added
+/// one after the other, at most 64 of them, a row is compared with those of its prefix, and only the first of them costs a hash; from
+/// the first row on that stands otherwise, each costs one.
 #[derive(Debug, Drop)]
 pub struct Cert {
-    ranks: IndexSet<Rank>,
+    kept: Kept,
 }
 
 impl Model for Cert {
     ghost use Rattle.std.specs.Prelude.{List};
     ghost use Rattle.rank_cert.specs.declared.cert.Rank.{Rank};
     ghost use Rattle.rank_cert.specs.Ranks.{IsCert};
+    ghost use Rattle.rank_cert.specs.Kept.{rows_of};
 
     ghost Value = { List Rank };
 
-    ghost view = { λ a. a.ranks.keys };
+    ghost view = { λ a. rows_of a.kept };
 
-    ghost invariant = { λ a. IsCert a.ranks.keys };
+    ghost invariant = { λ a. IsCert (rows_of a.kept) };
 }
 
 impl Cert {
@@ -77,7 +81,7 @@ impl Cert {
         ensures { result ≡ [] }
     {
         Cert {
-            ranks: IndexSet::new(alloc),
+            kept: Kept::new(alloc),
         }
     }
 
@@ -86,7 +90,7 @@ impl Cert {
         ensures { IfOk result (λ cert. cert ≡ []) }
     {
         Ok(Cert {
-            ranks: IndexSet::with_capacity(alloc, rows)?,
+            kept: Kept::with_room(alloc, rows)?,
         })
     }
 
@@ -120,20 +124,14 @@ impl Cert {
         ensures good { IsCert self.now }
         ensures each { All IsRow self.now }
     {
-        self.ranks.as_slice()
+        self.kept.rows()
     }
 
     /// The rank of a name at a prefix.
     pub fn rank(&self, node: &Name, prefix: &Prefix) -> Option<u16>
         ensures { result ≡ rank_of self.now node.now prefix.now }
     {
-        let sought = Rank {
-            node: *node,
-            prefix: *prefix,
-            rank: 0,
-        };
-        let found = self.ranks.get(&sought)?;
-        Some(found.rank)
+        self.kept.rank(node, prefix)
     }
 
     /// The same for look-ups at one prefix, where its rows stand together: `near` is where they begin, or any other place, and is
@@ -145,33 +143,12 @@ impl Cert {
         if let Some(rank) = rank_in(rows_from(self.rows(), *near), node, prefix) {
             return Some(rank);
         }
-        *near = self.begin_of(node, prefix);
-        self.rank(node, prefix)
-    }
-
-    /// Where the rows begin that stand together with the one of this pair and have its prefix; 0 where there is none.
-    fn begin_of(&self, node: &Name, prefix: &Prefix) -> usize {
-        let sought = Rank {
-            node: *node,
-            prefix: *prefix,
-            rank: 0,
-        };
-        match self.ranks.get_index_of(&sought) {
-            Some(place) => place - count_before(self.rows(), place, prefix),
-            None => 0,
-        }
+        self.kept.rank_near(near, node, prefix)
     }
 }
 
 /// The most rows of one prefix that are gone through: as many as a network has nodes.
-const NEAR: usize = 64;
-
-/// The rows from a place on.
-fn rows_from(rows: &[Rank], place: usize) -> &[Rank]
-    ensures { result.now ≡ drop place rows.now }
-{
-    &rows[place.min(rows.len())..]
-}
+pub(crate) const NEAR: usize = 64;
 
 /// The rank of a pair, where the first of some rows that is of its name has it.
 fn rank_in(rows: &[Rank], node: &Name, prefix: &Prefix) -> Option<u16>
@@ -190,27 +167,6 @@ fn rank_in(rows: &[Rank], node: &Name, prefix: &Prefix) -> Option<u16>
     None
 }
 
-/// How many rows of this prefix stand right before a place, of the 64 there.
-fn count_before(rows: &[Rank], place: usize, prefix: &Prefix) -> usize
-    ensures { result ≤ place }
-{
-    let most = place.min(NEAR);
-    for count in 0..most {
-        if !is_at(rows, place - count - 1, prefix) {
-            return count;
-        }
-    }
-    most
-}
-
-/// Whether a row of this prefix stands at a place.
-fn is_at(rows: &[Rank], place: usize, prefix: &Prefix) -> bool {
-    match rows.get(place) {
-        Some(row) => row.prefix == *prefix,
-        None => false,
-    }
-}
-
 impl Cert {
     /// Adds a row at the end, but not where its pair is there.
     pub(crate) fn add_row(&mut self, row: Rank) -> Result<bool, AllocError>
@@ -220,7 +176,7 @@ impl Cert {
         ensures no { result ≡ Ok false → self.new ≡ self.old }
         ensures err { OnErr result (self.new ≡ self.old) }
     {
-        Ok(self.ranks.insert(row)?)
+        self.kept.add(row)
     }
 }
 

@@ -3,8 +3,10 @@
 
 mod cert;
 mod fault;
+mod kept;
 mod read;
 mod row;
+mod runs;
 #[cfg(test)]
 mod tests;
 mod write;

@@ -15,7 +15,7 @@ fn fault(alloc: Global, text: &[u8]) -> Option<CertFault> {
 
 #[test]
 fn writes_what_it_reads(rt: HostRuntime) -> Result<(), Fail> {
-    let cases: [(&[u8], &[u8]); 4] = [
+    let cases: [(&[u8], &[u8]); 5] = [
         (
             b"RANKS 1\nA 4 1\nH 4 0\nEND\n",
             b"RANKS 1\nA 4 1\nH 4 0\nEND\n",
@@ -29,6 +29,10 @@ fn writes_what_it_reads(rt: HostRuntime) -> Result<(), Fail> {
             b"RANKS 1\na 4 65535\nA 4 0\nA 41 10\nEND",
             b"RANKS 1\na 4 65535\nA 4 0\nA 41 10\nEND\n",
         ),
+        (
+            b"RANKS 1\nA 4 1\nA 5 2\nH 4 0\nH 5 0\nEND\n",
+            b"RANKS 1\nA 4 1\nA 5 2\nH 4 0\nH 5 0\nEND\n",
+        ),
     ];
     for (text, want) in cases {
         let written = again(rt.alloc(), text).ok().ok_or("read")?;
@@ -39,7 +43,7 @@ fn writes_what_it_reads(rt: HostRuntime) -> Result<(), Fail> {
 
 #[test]
 fn reports_the_first_fault(rt: HostRuntime) {
-    let cases: [(&[u8], CertFault); 22] = [
+    let cases: [(&[u8], CertFault); 25] = [
         (b"RANKS 2\nA 4 1\nH 4 0\nEND\n", CertFault::Header),
         (b"", CertFault::Header),
         (b"\nRANKS 1\nEND\n", CertFault::Header),
@@ -56,6 +60,15 @@ fn reports_the_first_fault(rt: HostRuntime) {
         (b"RANKS 1\n\nEND\n", CertFault::Line(2)),
         (b"RANKS 1\nA 4 1\nA 4 1\nEND\n", CertFault::Twice(3)),
         (b"RANKS 1\nA 4 1\nH 4 0\nA 4 2\nx", CertFault::Twice(4)),
+        (b"RANKS 1\nA 4 1\nA 5 1\nA 4 2\n", CertFault::Twice(4)),
+        (
+            b"RANKS 1\nA 4 1\nA 5 1\nH 4 0\nA 5 1\n",
+            CertFault::Twice(5),
+        ),
+        (
+            b"RANKS 1\nA 4 1\nA 5 1\nH 4 0\nH 4 1\n",
+            CertFault::Twice(5),
+        ),
         (b"RANKS 1\nA 4 1\nx\nA 4 1\n", CertFault::Line(3)),
         (b"RANKS 1\nA 4 1\nH 4 0\n", CertFault::NoEnd),
         (b"RANKS 1", CertFault::NoEnd),
@@ -99,5 +112,62 @@ fn keeps_one_rank_for_a_pair(rt: HostRuntime) -> Result<(), Fail> {
     assert_eq!(rt; cert.rows().len(), 3);
     let text = write_cert(rt.alloc(), &cert)?;
     assert!(rt; text.as_slice() == b"RANKS 1\nA 4 1\nA 41 2\nH 4 0\nEND\n".as_slice());
+    Ok(())
+}
+
+#[test]
+fn finds_rows_that_stand_apart(rt: HostRuntime) -> Result<(), Fail> {
+    let a = Prefix::read(b"4").ok().ok_or("prefix")?;
+    let b = Prefix::read(b"5").ok().ok_or("prefix")?;
+    let node = Name::read(b"A").ok_or("name")?;
+    let home = Name::read(b"H").ok_or("name")?;
+    let mut cert = read_cert(rt.alloc(), b"RANKS 1\nA 4 1\nA 5 2\nH 4 0\nEND\n")?;
+    assert_eq!(rt; cert.rank(&node, &a), Some(1));
+    assert_eq!(rt; cert.rank(&node, &b), Some(2));
+    assert_eq!(rt; cert.rank(&home, &a), Some(0));
+    assert_eq!(rt; cert.rank(&home, &b), None);
+    let mut near = 0;
+    assert_eq!(rt; cert.rank_near(&mut near, &home, &a), Some(0));
+    assert_eq!(rt; cert.rank_near(&mut near, &node, &a), Some(1));
+    assert_eq!(rt; cert.rank_near(&mut near, &node, &b), Some(2));
+    assert!(rt; !cert.add(b"A", a, 3)?);
+    assert!(rt; cert.add(b"H", b, 0)?);
+    assert_eq!(rt; cert.rank(&home, &b), Some(0));
+    Ok(())
+}
+
+/// Another name for each of the first hundred numbers.
+fn pair_of_letters(number: u8) -> [u8; 2] {
+    [b'a' + number / 10 % 10, b'a' + number % 10]
+}
+
+/// A certificate in which as many nodes have a rank at the prefix, each another one.
+fn ranks_of_many(alloc: Global, prefix: Prefix, nodes: u8) -> Result<Cert, AllocError> {
+    let mut cert = Cert::new(alloc);
+    for number in 0..nodes {
+        cert.add(&pair_of_letters(number), prefix, u16::from(number))?;
+    }
+    Ok(cert)
+}
+
+#[test]
+fn finds_a_row_behind_the_longest_run(rt: HostRuntime) -> Result<(), Fail> {
+    let prefix = Prefix::read(b"4").ok().ok_or("prefix")?;
+    for nodes in [64, 65] {
+        let mut cert = ranks_of_many(rt.alloc(), prefix, nodes)?;
+        assert_eq!(rt; cert.rows().len(), usize::from(nodes));
+        let mut near = 0;
+        for number in 0..nodes {
+            let name = pair_of_letters(number);
+            let node = Name::read(&name).ok_or("name")?;
+            assert_eq!(rt; cert.rank(&node, &prefix), Some(u16::from(number)));
+            assert_eq!(rt;
+                cert.rank_near(&mut near, &node, &prefix),
+                Some(u16::from(number))
+            );
+            assert!(rt; !cert.add(&name, prefix, 7)?);
+        }
+        assert_eq!(rt; cert.rows().len(), usize::from(nodes));
+    }
     Ok(())
 }

@@ -1,9 +1,8 @@
-use Rattle.std.proofs.Common.{not, ap, ◌∙◌}
-use Rattle.rank_cert.proofs.Pairs.{is_there, IsCert-insert}
+use Rattle.rank_cert.specs.Kept.{rows_of}
+use Rattle.rank_cert.proofs.Pairs.{IsCert-add}
 use Rattle.rank_cert.proofs.cert.Cert.add_row.Goals as goal
 
-pub invariant_of-self-2 : goal.invariant_of-self-2
-invariant_of-self-2 c = rw c.in_ok-insert.ensures.keys (IsCert-insert c.self.inside.ranks.keys c.args.row c.self.invariant c.requires)
-
-pub returns-clause-added : goal.returns-clause-added
-returns-clause-added c = rw (← c.self.view_is) (c.in_ok-insert.ensures.added ∙ ap not (is_there c.self.inside.ranks.keys c.args.row))
+pub invariant_of-self : goal.invariant_of-self
+invariant_of-self c =
+    let e = c.add.ensures in
+    IsCert-add (rows_of c.self.inside.kept) (rows_of c.add.new.self) c.args.row c.add.result c.self.invariant c.requires e.added e.yes e.no e.err

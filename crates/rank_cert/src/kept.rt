@@ -1,0 +1,157 @@
+//! The rows of a certificate: in runs as long as each prefix's rows stand together, and otherwise in a set.
+ghost use Rattle.std.specs.Prelude.{◌≡◌, ◌≤◌, ◌∷◌, ◌++◌, [], true, false, is_none, Ok, IfOk, OnErr, if◌then◌else◌};
+ghost use Rattle.rank_cert.specs.Ranks.{rank_of, IsCert};
+ghost use Rattle.rank_cert.specs.Kept.{rows_of};
+
+use crate::cert::{NEAR, Rank};
+use crate::runs::{Added, Runs, rank_in_run, rows_from};
+use card_digits::{Name, Prefix};
+use indexmap::IndexSet;
+use std::alloc::{AllocError, Global};
+
+/// A certificate that was made has the rows of a prefix together, and is kept without a hash for each row. A text may have them in
+/// any order: from the first row that stands apart from those of its prefix on, all rows are in a set.
+#[derive(Debug, Drop)]
+pub(crate) enum Kept {
+    Together(Runs),
+    Apart(IndexSet<Rank>),
+}
+
+impl Kept {
+    pub fn new(alloc: Global) -> Kept
+        ensures { rows_of result ≡ [] }
+    {
+        Kept::Together(Runs::new(alloc))
+    }
+
+    /// The same, with memory for so many rows at least.
+    pub fn with_room(alloc: Global, rows: usize) -> Result<Kept, AllocError>
+        ensures { IfOk result (λ kept. rows_of kept ≡ []) }
+    {
+        Ok(Kept::Together(Runs::with_room(alloc, rows)?))
+    }
+
+    pub fn rows(&self) -> &[Rank]
+        ensures { result.now ≡ rows_of self.now }
+    {
+        match self {
+            Kept::Together(runs) => runs.rows(),
+            Kept::Apart(set) => set.as_slice(),
+        }
+    }
+
+    pub fn rank(&self, node: &Name, prefix: &Prefix) -> Option<u16>
+        ensures { result ≡ rank_of (rows_of self.now) node.now prefix.now }
+    {
+        match self {
+            Kept::Together(runs) => runs.rank(node, prefix),
+            Kept::Apart(set) => rank_in_set(set, node, prefix),
+        }
+    }
+
+    /// The same. `near` is moved to where the rows begin that stand together and have the prefix.
+    pub fn rank_near(&self, near: &mut usize, node: &Name, prefix: &Prefix) -> Option<u16>
+        ensures { result ≡ rank_of (rows_of self.now) node.now prefix.now }
+    {
+        match self {
+            Kept::Together(runs) => {
+                *near = runs.begin_of(prefix)?;
+                rank_in_run(rows_from(runs.rows(), *near), node, prefix)
+            }
+            Kept::Apart(set) => {
+                *near = begin_in_set(set, node, prefix);
+                rank_in_set(set, node, prefix)
+            }
+        }
+    }
+
+    /// Adds a row at the end, but not where its pair is there.
+    pub fn add(&mut self, row: Rank) -> Result<bool, AllocError>
+        requires { IsCert (rows_of self.old) }
+        ensures added { IfOk result (λ added. added ≡ is_none (rank_of (rows_of self.old) row.node row.prefix)) }
+        ensures yes { result ≡ Ok true → rows_of self.new ≡ rows_of self.old ++ row ∷ [] }
+        ensures no { result ≡ Ok false → rows_of self.new ≡ rows_of self.old }
+        ensures err { OnErr result (rows_of self.new ≡ rows_of self.old) }
+    {
+        match self {
+            Kept::Apart(set) => add_to_set(set, row),
+            Kept::Together(runs) => match runs.add(row)? {
+                Added::Yes => Ok(true),
+                Added::Twice => Ok(false),
+                Added::Apart => {
+                    let (set, added) = moved_over(runs, &row)?;
+                    *self = Kept::Apart(set);
+                    Ok(added)
+                }
+            },
+        }
+    }
+}
+
+/// The rows as a set, with one more at the end, and whether its pair was new.
+fn moved_over(runs: &Runs, row: &Rank) -> Result<(IndexSet<Rank>, bool), AllocError>
+    requires { IsCert runs.now }
+    ensures added { IfOk result (λ moved. moved.1 ≡ is_none (rank_of runs.now row.now.node row.now.prefix)) }
+    ensures rows { IfOk result (λ moved. moved.0.keys ≡ (if moved.1 then runs.now ++ row.now ∷ [] else runs.now)) }
+{
+    let mut set = runs.to_set()?;
+    let added = add_to_set(&mut set, *row)?;
+    Ok((set, added))
+}
+
+/// Adds a row at the end, but not where its pair is there.
+fn add_to_set(set: &mut IndexSet<Rank>, row: Rank) -> Result<bool, AllocError>
+    ensures added { IfOk result (λ added. added ≡ is_none (rank_of set.old.keys row.node row.prefix)) }
+    ensures yes { result ≡ Ok true → set.new.keys ≡ set.old.keys ++ row ∷ [] }
+    ensures no { result ≡ Ok false → set.new.keys ≡ set.old.keys }
+    ensures err { OnErr result (set.new.keys ≡ set.old.keys) }
+{
+    Ok(set.insert(row)?)
+}
+
+/// The rank of a pair.
+fn rank_in_set(set: &IndexSet<Rank>, node: &Name, prefix: &Prefix) -> Option<u16>
+    ensures { result ≡ rank_of set.now.keys node.now prefix.now }
+{
+    let sought = Rank {
+        node: *node,
+        prefix: *prefix,
+        rank: 0,
+    };
+    let found = set.get(&sought)?;
+    Some(found.rank)
+}
+
+/// Where the rows begin that stand together with the one of this pair and have its prefix; 0 where there is none.
+fn begin_in_set(set: &IndexSet<Rank>, node: &Name, prefix: &Prefix) -> usize {
+    let sought = Rank {
+        node: *node,
+        prefix: *prefix,
+        rank: 0,
+    };
+    match set.get_index_of(&sought) {
+        Some(place) => place - count_before(set.as_slice(), place, prefix),
+        None => 0,
+    }
+}
+
+/// How many rows of this prefix stand right before a place, of the 64 there.
+fn count_before(rows: &[Rank], place: usize, prefix: &Prefix) -> usize
+    ensures { result ≤ place }
+{
+    let most = place.min(NEAR);
+    for count in 0..most {
+        if !is_at(rows, place - count - 1, prefix) {
+            return count;
+        }
+    }
+    most
+}
+
+/// Whether a row of this prefix stands at a place.
+fn is_at(rows: &[Rank], place: usize, prefix: &Prefix) -> bool {
+    match rows.get(place) {
+        Some(row) => row.prefix == *prefix,
+        None => false,
+    }
+}

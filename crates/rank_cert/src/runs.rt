@@ -1,0 +1,204 @@
+//! Rows of ranks of which those of one prefix stand together.
+ghost use Rattle.std.specs.Prelude.{◌≡◌, ◌==◌, ◌∷◌, ◌++◌, ◌≢◌, [], ℕ, List, true, is_some, length, drop, Some, None, Ok, IfOk, MatchOption, OnErr, if◌then◌else◌};
+ghost use Rattle.std.specs.Cmp.Lexicographic.{pointwise};
+ghost use Rattle.rank_cert.specs.Ranks.{rank_of, IsCert};
+ghost use Rattle.rank_cert.specs.Runs.{rank_in_run, begins_with, has_name, begin_of, IsRun, HasNone};
+
+use crate::cert::{NEAR, Rank};
+use card_digits::{Name, Prefix};
+use indexmap::IndexSet;
+use std::alloc::{AllocError, Global};
+use std::collections::HashMap;
+use std::marker::Model;
+
+/// Rows in the order in which they were added. Those of one prefix are a run: no row of another prefix stands among them. So only
+/// the place where its run begins is kept for a prefix, and a row costs no hash where the row before it has its prefix.
+#[derive(Debug, Drop)]
+pub(crate) struct Runs {
+    rows: Vec<Rank>,
+    /// The place of the first row of each prefix.
+    begins: HashMap<Prefix, usize>,
+    /// Where the run of the last row begins.
+    last: usize,
+}
+
+impl Model for Runs {
+    ghost use Rattle.std.specs.Prelude.{List};
+    ghost use Rattle.rank_cert.specs.declared.cert.Rank.{Rank};
+    ghost use Rattle.rank_cert.specs.Runs.{AreRuns};
+
+    ghost Value = { List Rank };
+
+    ghost view = { λ a. a.rows.items };
+
+    ghost invariant = { λ a. AreRuns a.rows.items a.begins.entries a.last };
+}
+
+/// What became of a row that was to be added.
+#[derive(Clone, Copy, Debug, PartialEq, Eq)]
+pub(crate) enum Added {
+    Yes,
+    /// Its pair is there already.
+    Twice,
+    /// It would stand apart from the rows of its prefix, or its run is as long as a run may be.
+    Apart,
+}
+
+impl Runs {
+    pub fn new(alloc: Global) -> Runs
+        ensures { result ≡ [] }
+    {
+        Runs {
+            rows: Vec::new(alloc),
+            begins: HashMap::new(alloc),
+            last: 0,
+        }
+    }
+
+    /// The same, with memory for so many rows at least, but for no prefix yet.
+    pub fn with_room(alloc: Global, rows: usize) -> Result<Runs, AllocError>
+        ensures { IfOk result (λ runs. runs ≡ []) }
+    {
+        Ok(Runs {
+            rows: Vec::with_capacity(alloc, rows)?,
+            begins: HashMap::new(alloc),
+            last: 0,
+        })
+    }
+
+    pub fn rows(&self) -> &[Rank]
+        ensures { result.now ≡ self.now }
+    {
+        &self.rows
+    }
+
+    /// Where the rows of a prefix begin.
+    pub fn begin_of(&self, prefix: &Prefix) -> Option<usize>
+        ensures { MatchOption result (HasNone self.now prefix.now) (IsRun self.now prefix.now) }
+    {
+        self.begins.get(prefix).copied()
+    }
+
+    /// The rank of a name at a prefix: one look-up by hash, and then the rows of the prefix one after the other.
+    pub fn rank(&self, node: &Name, prefix: &Prefix) -> Option<u16>
+        ensures { result ≡ rank_of self.now node.now prefix.now }
+    {
+        let begin = self.begin_of(prefix)?;
+        rank_in_run(rows_from(self.rows(), begin), node, prefix)
+    }
+
+    /// Adds a row at the end, where it may stand there. Where memory is refused, nothing has changed.
+    pub fn add(&mut self, row: Rank) -> Result<Added, AllocError>
+        ensures ok { IfOk result (λ added. Adds (is_some (rank_of self.old row.node row.prefix)) self.old row added self.new) }
+        ensures err { OnErr result (self.new ≡ self.old) }
+    {
+        if begins_with(rows_from(&self.rows, self.last), &row.prefix) {
+            return add_to_run(&mut self.rows, self.last, row);
+        }
+        let place = self.rows.len();
+        if begin_run(&mut self.rows, &mut self.begins, row)? {
+            self.last = place;
+            Ok(Added::Yes)
+        } else {
+            Ok(Added::Apart)
+        }
+    }
+
+    /// The same rows as a set, in which rows of one prefix may stand apart.
+    pub fn to_set(&self) -> Result<IndexSet<Rank>, AllocError>
+        requires { IsCert self.now }
+        ensures { IfOk result (λ set. set.keys ≡ self.now) }
+    {
+        set_of(*self.rows.allocator(), &self.rows)
+    }
+}
+
+/// The rows from a place on.
+pub(crate) fn rows_from(rows: &[Rank], place: usize) -> &[Rank]
+    ensures { result.now ≡ drop place rows.now }
+{
+    &rows[place.min(rows.len())..]
+}
+
+/// The rank of a name among the rows that come before one of another prefix.
+pub(crate) fn rank_in_run(rows: &[Rank], node: &Name, prefix: &Prefix) -> Option<u16>
+    ensures { result ≡ rank_in_run rows.now node.now prefix.now }
+{
+    for row in rows {
+        if row.prefix != *prefix {
+            return None;
+        }
+        if row.node == *node {
+            return Some(row.rank);
+        }
+    }
+    None
+}
+
+/// Whether the first row has the prefix.
+fn begins_with(rows: &[Rank], prefix: &Prefix) -> bool
+    ensures { result ≡ begins_with rows.now prefix.now }
+{
+    match rows.first() {
+        Some(row) => row.prefix == *prefix,
+        None => false,
+    }
+}
+
+/// Whether a row has the name.
+fn has_name(rows: &[Rank], node: &Name) -> bool
+    ensures { result ≡ has_name rows.now node.now }
+{
+    rows.iter().any(|row| row.node == *node)
+}
+
+ghost use Rattle.rank_cert.specs.Adding.{Adds};
+
+/// Adds a row to the run that begins at a place and has its prefix. Only names are compared, and no more than a run may have.
+fn add_to_run(rows: &mut Vec<Rank>, begin: usize, row: Rank) -> Result<Added, AllocError>
+    ensures ok { IfOk result (λ added. Adds (has_name (drop begin rows.old.items) row.node) rows.old.items row added rows.new.items) }
+    ensures err { OnErr result (rows.new.items ≡ rows.old.items) }
+{
+    let run = rows_from(rows, begin);
+    if has_name(run, &row.node) {
+        return Ok(Added::Twice);
+    }
+    if run.len() >= NEAR {
+        return Ok(Added::Apart);
+    }
+    rows.push(row)?;
+    Ok(Added::Yes)
+}
+
+/// Begins a run with a row, unless its prefix has one. Memory is asked for before anything is written.
+fn begin_run(
+    rows: &mut Vec<Rank>,
+    begins: &mut HashMap<Prefix, usize>,
+    row: Rank,
+) -> Result<bool, AllocError>
+    ensures new { result ≡ Ok true → begin_of begins.old.entries row.prefix ≡ None }
+    ensures rows { result ≡ Ok true → rows.new.items ≡ rows.old.items ++ row ∷ [] }
+    ensures begins { result ≡ Ok true → (p : List ℕ) → begin_of begins.new.entries p ≡ (if pointwise ◌==◌ row.prefix p then Some (length rows.old.items) else begin_of begins.old.entries p) }
+    ensures rows_stay { result ≢ Ok true → rows.new.items ≡ rows.old.items }
+    ensures begins_stay { result ≢ Ok true → begins.new.entries ≡ begins.old.entries }
+{
+    if begins.contains_key(&row.prefix) {
+        return Ok(false);
+    }
+    rows.reserve(1)?;
+    begins.insert(row.prefix, rows.len())?;
+    rows.push_reserved(row);
+    Ok(true)
+}
+
+/// The rows as a set. None is lost, since no two have the same pair.
+fn set_of(alloc: Global, rows: &[Rank]) -> Result<IndexSet<Rank>, AllocError>
+    requires { IsCert rows.now }
+    ensures { IfOk result (λ set. set.keys ≡ rows.now) }
+{
+    let mut set = IndexSet::with_capacity(alloc, rows.len())?;
+    for row in rows {
+        set.insert(*row)?;
+    }
+    Ok(set)
+}
