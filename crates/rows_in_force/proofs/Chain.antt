@@ -1,10 +1,10 @@
 -- From the last row of a prefix to the first, all own rows are met.
-use Rattle.std.proofs.Common.{◌≡◌, ℕ, zero, suc, ◌+◌, ◌<◌, ◌≤◌, ◌==◌, ◌&&◌, Bool, true, false, List, [], ◌∷◌, length, get_or, drop, Option, Some, None, refl, sym, ap, ◌∙◌, inl, inr, arith}
+use Rattle.std.proofs.Common.{◌≡◌, ℕ, zero, suc, ◌<◌, ◌≤◌, ◌==◌, ◌&&◌, Bool, true, false, List, [], ◌∷◌, length, drop, Option, Some, None, is_some, refl, sym, ◌∙◌, inl, inr, arith}
 use Rattle.std.specs.Prelude.{slice_get}
 use Rattle.std.specs.List.{find}
-use Rattle.std.specs.Option.{option_map_or}
+use Rattle.std.specs.Map.{lookup}
 use Rattle.std.specs.Cmp.Lexicographic.{pointwise}
-use Rattle.std.proofs.lemmas.Bool.{cases_Bool, and_parts, false≢true}
+use Rattle.std.proofs.lemmas.Bool.{cases_Bool, false≢true}
 use Rattle.std.proofs.lemmas.Option.{same_Some}
 use Rattle.rows_in_force.specs.Own.{last_below, is_at, own_row}
 
@@ -61,3 +61,15 @@ module _ {R : Type 0} (g : R → ℕ) (f : R → List ℕ) (rows : List R) (n : 
     | inl is ↦ absurd (let bad : Some m ≡ None = rw is at e in cc)
     | inr not ↦ none_before m (omega arith) (rw not at e) ∙ passed_by m (omega arith) not
   ]
+
+  -- a prefix that has no last row has none
+  pub none_of : (last : List (List ℕ × ℕ)) → lookup (λ q. pointwise ◌==◌ p q) last ≡ last_below (is_at f rows p) (length rows) → is_some (lookup (λ q. pointwise ◌==◌ p q) last) ≡ false → own_row g f rows n p ≡ None
+  none_of last last_of not = none_before (length rows) (omega arith) (sym last_of ∙ nothing (lookup (λ q. pointwise ◌==◌ p q) last) not) ∙ rw (drop_all rows) refl
+    where
+      nothing : (o : Option ℕ) → is_some o ≡ false → o ≡ None
+      nothing None not = refl
+      nothing (Some i) not = absurd (false≢true (sym not))
+
+      drop_all : {A : Type 0} (xs : List A) → drop (length xs) xs ≡ []
+      drop_all [] = refl
+      drop_all (x ∷ xs) = drop_all xs

@@ -1,11 +1,11 @@
 -- One digit more: the rows of just these digits, and else the row in force without the last.
 use Rattle.std.proofs.Common.{◌≡◌, ℕ, ◌+◌, ◌<◌, ◌≤◌, ◌==◌, ◌&&◌, ◌||◌, Bool, true, false, List, [], ◌∷◌, ◌++◌, length, length-append, Option, Some, None, refl, ◌∙◌, inl, inr, arith}
-use Rattle.std.specs.List.{filter, find, AllByRecursion}
+use Rattle.std.specs.List.{filter, find}
 use Rattle.std.specs.Option.{option_or}
 use Rattle.std.specs.Cmp.Lexicographic.{pointwise}
 use Rattle.std.proofs.lemmas.Bool.{cases_Bool, and_parts, false≢true, lt-ltb, le-ltb}
 use Rattle.std.proofs.lemmas.Option.{same_Some}
-use Rattle.card_digits.specs.Longest.{begins, better, deepest, longest}
+use Rattle.card_digits.specs.Longest.{begins, better}
 use Rattle.card_digits.proofs.Classes.{some_longest}
 use Rattle.rows_in_force.specs.InForce.{in_force}
 use Rattle.rows_in_force.specs.Own.{own_row}

@@ -2,4 +2,4 @@ mod Digit
 mod Chain
 mod Put
 mod Made
-mod Fronts
+mod KnownFronts

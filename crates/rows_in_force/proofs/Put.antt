@@ -1,8 +1,7 @@
 -- The own rows of a prefix are put over others from the last to the first.
-use Rattle.std.proofs.Common.{◌≡◌, ℕ, zero, suc, ◌+◌, ◌<◌, ◌≤◌, ◌==◌, ◌&&◌, Bool, true, false, List, [], ◌∷◌, length, get_or, drop, Option, Some, None, refl, sym, ap, ◌∙◌, inl, inr, arith}
-use Rattle.std.specs.Prelude.{slice_get, slice_set, unwrap_or}
+use Rattle.std.proofs.Common.{◌≡◌, ℕ, ◌+◌, ◌<◌, ◌≤◌, ◌==◌, ◌&&◌, Bool, true, List, [], ◌∷◌, length, get_or, drop, Option, Some, None, refl, sym, ap, ◌∙◌, inl, inr, arith}
+use Rattle.std.specs.Prelude.{slice_get, slice_set}
 use Rattle.std.specs.List.{find}
-use Rattle.std.specs.Map.{lookup}
 use Rattle.std.specs.Option.{option_or, option_map_or}
 use Rattle.std.specs.Cmp.Lexicographic.{pointwise}
 use Rattle.std.proofs.Math.ListN.{length-set}
@@ -10,8 +9,8 @@ use Rattle.std.proofs.lemmas.Bool.{cases_Bool, and_parts, false≢true, eqb-true
 use Rattle.std.proofs.lemmas.Option.{same_Some}
 use Rattle.rows_in_force.specs.InForce.{row_at}
 use Rattle.rows_in_force.specs.Own.{last_below, is_at, own_row, IsChained, IsChainedTo}
-use Rattle.rows_in_force.proofs.Fronts.{at_place as got_at, set_here, set_there}
-use Rattle.rows_in_force.proofs.Chain.{drop_at, there, last_less, last_passes, none_between, none_before}
+use Rattle.rows_in_force.proofs.KnownFronts.{at_place as got_at, set_here, set_there}
+use Rattle.rows_in_force.proofs.Chain.{drop_at, last_less, last_passes, none_between, none_before}
 
 same_text : (xs ys : List ℕ) → pointwise ◌==◌ xs ys ≡ true → xs ≡ ys
 same_text [] [] h = refl

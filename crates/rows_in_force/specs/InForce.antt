@@ -12,6 +12,10 @@ pub record Entered (R : Type 0) : Type 0 where
 abbrev pub row_at : {R : Type 0} → List R → List (Option ℕ) → ℕ → Option R
 row_at rows places n = option_and_then (slice_get rows) (unwrap_or (slice_get places n) None)
 
+-- the slot of the places at so many digits
+abbrev pub slot_at : List ℕ → ℕ → ℕ
+slot_at slots k = unwrap_or (slice_get slots k) 0
+
 module _ {R : Type 0} (node_of : R → ℕ) (prefix_of : R → List ℕ) where
   -- the first of the node's rows with the most digits whose prefix begins these
   abbrev pub in_force : List R → ℕ → List ℕ → Option R
@@ -21,6 +25,6 @@ module _ {R : Type 0} (node_of : R → ℕ) (prefix_of : R → List ℕ) where
   abbrev pub AreInForce : List R → List ℕ → List (Option ℕ) → Type 0
   AreInForce rows digits places = (n : ℕ) → n < 64 → row_at rows places n ≡ in_force rows n digits
 
-  -- the places at the first digits, as far as so many of them
-  abbrev pub AreKnown : List R → List ℕ → ℕ → List (List (Option ℕ)) → Type 0
-  AreKnown rows digits len fronts = (k : ℕ) → k ≤ len → AreInForce rows (take k digits) (unwrap_or (slice_get fronts k) [])
+  -- the places at the first digits, as far as so many of them: each front has a slot, and that of no longer front
+  abbrev pub AreKnown : List R → List ℕ → ℕ → List ℕ → List (List (Option ℕ)) → Type 0
+  AreKnown rows digits len slots fronts = (k : ℕ) → k ≤ len → (slot_at slots k ≤ k) × AreInForce rows (take k digits) (unwrap_or (slice_get fronts (slot_at slots k)) [])

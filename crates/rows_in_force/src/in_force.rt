@@ -1,28 +1,25 @@
 //! The rows in force, class by class.
-ghost use Rattle.std.specs.Prelude.{◌≡◌, ◌≤◌, ◌<◌, ◌+◌, ◌-◌, [], length, take, IfOk};
+ghost use Rattle.std.specs.Prelude.{◌≡◌, ◌≤◌, [], length, take, IfOk};
 ghost use Rattle.std.specs.Option.{option_copied};
-ghost use Rattle.rows_in_force.specs.InForce.{in_force, row_at, AreKnown};
-ghost use Rattle.rows_in_force.specs.Own.{IsChained};
+ghost use Rattle.rows_in_force.specs.InForce.{in_force, row_at};
 
-use crate::own::{MOST_NODES, OwnRows, Places};
+use crate::fronts::Fronts;
+use crate::own::{OwnRows, Places};
 use crate::placed::Placed;
 use card_digits::{NodeNo, Prefix, ShortBytes};
 use std::alloc::{AllocError, Global};
 use std::marker::Model;
 
-const MOST_DIGITS: usize = 12;
-
 /// The rows in force at the class that was entered last, which is none at first.
 ///
-/// It has the rows in force at each front of the class, so a class costs a look-up and a copy for each digit that it doesn't share
-/// with the one before: few where classes come in ascending order.
+/// It has the rows in force at each front of the class, so a class costs a look-up for each digit that it doesn't share with the one
+/// before, and a copy where these digits are the prefix of a row: few where classes come in ascending order.
 #[derive(Debug, Drop)]
 pub struct InForce<'t, R: Placed> {
     rows: &'t [R],
     own: OwnRows,
     class: ShortBytes<12>,
-    /// The places of the rows in force at the first digits of the class, by their number.
-    fronts: Vec<Places>,
+    fronts: Fronts,
 }
 
 impl<'t, R: Placed> Model for InForce<'t, R> {
@@ -33,7 +30,7 @@ impl<'t, R: Placed> Model for InForce<'t, R> {
 
     ghost view = { λ a. record { rows = a.rows.now; class = a.class } };
 
-    ghost invariant = { λ a. IsKept R.node_of R.prefix_of a.rows.now a.class a.own.last.entries a.own.before.items a.fronts.items };
+    ghost invariant = { λ a. IsKept R.node_of R.prefix_of a.rows.now a.class a.own.last.entries a.own.before.items a.fronts.slots.items a.fronts.places.items };
 }
 
 impl<'t, R: Placed> InForce<'t, R> {
@@ -44,7 +41,7 @@ impl<'t, R: Placed> InForce<'t, R> {
             rows,
             own: OwnRows::new(alloc, rows)?,
             class: ShortBytes::from_slice(&[]),
-            fronts: Vec::from_array(alloc, [[None; MOST_NODES]; MOST_DIGITS + 1])?,
+            fronts: Fronts::new(alloc)?,
         })
     }
 
@@ -55,12 +52,7 @@ impl<'t, R: Placed> InForce<'t, R> {
     {
         let shared = shared(self.class.as_slice(), class.digits());
         for len in shared..class.digits().len() {
-            add_front(
-                self.rows,
-                &self.own,
-                &class.front(len + 1),
-                &mut self.fronts,
-            );
+            self.fronts.add(self.rows, &self.own, &class.front(len + 1));
         }
         self.class = ShortBytes::from_slice(class.digits());
     }
@@ -69,7 +61,7 @@ impl<'t, R: Placed> InForce<'t, R> {
     pub fn row(&self, node: NodeNo) -> Option<&'t R>
         ensures { option_copied result ≡ in_force R.node_of R.prefix_of self.now.rows node self.now.class }
     {
-        row_of(self.rows, &self.fronts[self.class.as_slice().len()], node)
+        row_of(self.rows, self.fronts.at(self.class.as_slice().len()), node)
     }
 }
 
@@ -96,18 +88,4 @@ fn shared(digits: &[u8], others: &[u8]) -> usize
         }
     }
     most
-}
-
-/// Adds the rows in force at a front to those at its own fronts.
-fn add_front<R: Placed>(rows: &[R], own: &OwnRows, front: &Prefix, fronts: &mut Vec<Places>)
-    requires chained { IsChained R.prefix_of rows.now own.now.last.entries own.now.before.items }
-    requires many { length fronts.old.items ≡ 13 }
-    requires known { AreKnown R.node_of R.prefix_of rows.now front.now (length front.now - 1) fronts.old.items }
-    ensures many { length fronts.new.items ≡ 13 }
-    ensures known { AreKnown R.node_of R.prefix_of rows.now front.now (length front.now) fronts.new.items }
-{
-    let len = front.digits().len();
-    let mut places = fronts[len - 1];
-    own.put(rows, front, &mut places);
-    fronts[len] = places;
 }

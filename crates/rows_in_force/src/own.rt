@@ -1,5 +1,7 @@
 //! The rows of a prefix, each with the one before it.
-ghost use Rattle.std.specs.Prelude.{◌≡◌, ◌<◌, ℕ, Option, IfOk};
+ghost use Rattle.std.specs.Prelude.{◌≡◌, ◌==◌, ◌<◌, ℕ, is_some, IfOk};
+ghost use Rattle.std.specs.Map.{lookup};
+ghost use Rattle.std.specs.Cmp.Lexicographic.{pointwise};
 ghost use Rattle.std.specs.Option.{option_or};
 ghost use Rattle.rows_in_force.specs.Own.{IsChained, own_row};
 ghost use Rattle.rows_in_force.specs.InForce.{row_at};
@@ -33,6 +35,13 @@ impl OwnRows {
             before.push(last.insert(prefix, place)?)?;
         }
         Ok(OwnRows { last, before })
+    }
+
+    /// Whether a row has the prefix.
+    pub fn has(&self, prefix: &Prefix) -> bool
+        ensures { result ≡ is_some (lookup (λ q. pointwise ◌==◌ prefix.now q) self.now.last.entries) }
+    {
+        self.last.contains_key(prefix)
     }
 
     /// Puts the places of the prefix's own rows over others. The first of several rows of a node comes last, and so stays.

@@ -1,20 +1,20 @@
-use Rattle.std.proofs.Common.{rules, ◌≡◌, ◌+◌, ◌<◌, ◌≤◌, length, sym, arith}
-use Rattle.rows_in_force.proofs.Fronts.{known_shared, known_front, known_back}
+use Rattle.std.proofs.Common.{rules, ◌<◌, length, arith}
+use Rattle.rows_in_force.proofs.KnownFronts.{known_shared, known_front, known_back}
 use Rattle.rows_in_force.proofs.in_force.InForce.enter.Goals as goal
 
 pub loop-len-init : goal.loop-len-init
 loop-len-init g c = record {
   rows = search rules;
   chained = c.self.invariant.chained;
-  many = c.self.invariant.many;
-  known = known_shared g.R.Placed.node_of g.R.Placed.prefix_of c.self.inside.rows.now c.self.inside.class c.args.class (length c.self.inside.class) c.shared-shared.result c.self.inside.fronts.items c.self.invariant.known
+  fronts = c.self.invariant.fronts;
+  known = known_shared g.R.Placed.node_of g.R.Placed.prefix_of c.self.inside.rows.now c.self.inside.class c.args.class (length c.self.inside.class) c.shared-shared.result c.self.inside.fronts.slots.items c.self.inside.fronts.places.items c.self.invariant.known
       (rw c.as_slice.ensures at c.shared-shared.ensures.first) (rw (c.as_slice.ensures, c.digits.ensures.digits) at c.shared-shared.ensures.same);
 }
 
-pub add_front-requires-clause-known : goal.add_front-requires-clause-known
-add_front-requires-clause-known g c =
+pub add-requires-clause-known : goal.add-requires-clause-known
+add-requires-clause-known g c =
     let within : c.loop-len.len < length c.args.class = rw c.digits-len-end.ensures.digits at c.loop-len-test.true in
-    known_front g.R.Placed.node_of g.R.Placed.prefix_of c.loop-len.self-inside.rows.now c.args.class c.front.result c.loop-len.len c.loop-len.self-inside.fronts.items c.loop-len.invariant.known (omega arith) c.front.ensures
+    known_front g.R.Placed.node_of g.R.Placed.prefix_of c.loop-len.self-inside.rows.now c.args.class c.front.result c.loop-len.len c.loop-len.self-inside.fronts.slots.items c.loop-len.self-inside.fronts.places.items c.loop-len.invariant.known (omega arith) c.front.ensures
 
 pub loop-len-preserved : goal.loop-len-preserved
 loop-len-preserved g c =
@@ -22,6 +22,6 @@ loop-len-preserved g c =
     record {
       rows = c.loop-len.invariant.rows;
       chained = c.loop-len.invariant.chained;
-      many = c.add_front.ensures.many;
-      known = known_back g.R.Placed.node_of g.R.Placed.prefix_of c.loop-len.self-inside.rows.now c.args.class c.front.result c.loop-len.len c.add_front.new.fronts.items c.add_front.ensures.known (omega arith) c.front.ensures;
+      fronts = c.add.ensures.fronts;
+      known = known_back g.R.Placed.node_of g.R.Placed.prefix_of c.loop-len.self-inside.rows.now c.args.class c.front.result c.loop-len.len c.add.new.self.slots.items c.add.new.self.places.items c.add.ensures.known (omega arith) c.front.ensures;
     }

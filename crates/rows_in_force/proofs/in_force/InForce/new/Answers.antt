@@ -1,11 +1,11 @@
-use Rattle.std.proofs.Common.{◌≡◌, refl, arith}
-use Rattle.rows_in_force.proofs.Fronts.{start_known}
+use Rattle.std.proofs.Common.{refl, arith}
+use Rattle.rows_in_force.proofs.KnownFronts.{start_known}
 use Rattle.rows_in_force.proofs.in_force.InForce.new.Goals as goal
 
 pub invariant_of-result : goal.invariant_of-result
 invariant_of-result g c = record {
   chained = c.in_ok-new.ensures;
   few = rw c.from_slice.ensures (omega arith);
-  many = rw c.in_ok-from_array.ensures.items refl;
-  known = start_known g.R.Placed.node_of g.R.Placed.prefix_of c.args.rows.now c.from_slice.result c.in_ok-from_array.field-0.items c.from_slice.ensures c.in_ok-from_array.ensures.items c.in_ok-new.ensures.some_digits;
+  fronts = record { slots_count = rw c.in_ok-new-2.ensures.slots refl; places_count = rw c.in_ok-new-2.ensures.places refl };
+  known = start_known g.R.Placed.node_of g.R.Placed.prefix_of c.args.rows.now c.from_slice.result c.in_ok-new-2.field-0.slots.items c.in_ok-new-2.field-0.places.items c.from_slice.ensures c.in_ok-new-2.ensures.slots c.in_ok-new-2.ensures.places c.in_ok-new.ensures.some_digits;
 }

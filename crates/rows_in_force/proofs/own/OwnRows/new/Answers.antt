@@ -1,4 +1,4 @@
-use Rattle.rows_in_force.proofs.Fronts.{at_place}
+use Rattle.rows_in_force.proofs.KnownFronts.{at_place}
 use Rattle.rows_in_force.proofs.Made.{chained_key}
 use Rattle.rows_in_force.proofs.own.OwnRows.new.Goals as goal
 

@@ -1,7 +1,7 @@
 use Rattle.std.proofs.Common.{rules, ◌≡◌, ◌<◌, None, length, arith}
 use Rattle.rows_in_force.specs.Own.{is_at}
-use Rattle.rows_in_force.proofs.Fronts.{at_place}
-use Rattle.rows_in_force.proofs.Put.{IsPut, put_start, put_next, put_step, put_end, before_is, smaller}
+use Rattle.rows_in_force.proofs.KnownFronts.{at_place}
+use Rattle.rows_in_force.proofs.Put.{put_next, put_step, put_end, before_is, smaller}
 use Rattle.rows_in_force.proofs.own.OwnRows.put.Goals as goal
 
 pub offset_bounds-rows-place : goal.offset_bounds-rows-place
