@@ -1,5 +1,6 @@
 //! The rules that go by class.
 ghost use Rattle.std.specs.Prelude.{◌≡◌, ◌≤◌, length, Some, None};
+ghost use Rattle.std.specs.Option.{option_or};
 
 use crate::refusal::{Kind, Refusal};
 use card_digits::{Amount, NodeNo, Prefix};
@@ -50,6 +51,17 @@ impl At<'_> {
         }
     }
 
+    /// Adds the refusal of a node that may approve so much to those of the nodes before it.
+    fn add_day(&self, first: &mut Option<Refusal>, named: &[NodeNo], node: NodeNo, day: u64)
+        requires { day ≡ day_of self.now.tables.now node self.now.class }
+        ensures { first.new ≡ option_or first.old (not_named self.now.tables.now self.now.cert.now self.now.class named.now node) }
+    {
+        if day == 0 || first.is_some() {
+            return;
+        }
+        *first = self.not_named(named, node, day);
+    }
+
     /// The refusal of amounts that add up to so much.
     fn over_ceiling(&self, ceiling: u64, total: u64) -> Option<Refusal>
         requires { total ≡ sum_below (λ n. day_of self.now.tables.now n self.now.class) (length self.now.tables.now.nodes) }
@@ -84,7 +96,7 @@ impl At<'_> {
         for i in 0..self.tables.nodes().len() {
             let node = NodeNo::new(i);
             let day = self.day(node).value();
-            not_named = not_named.or(self.not_named(issuer.named.as_slice(), node, day));
+            self.add_day(&mut not_named, issuer.named.as_slice(), node, day);
             total += day;
         }
         ByDay {

@@ -1,4 +1,4 @@
-use Rattle.std.proofs.Common.{◌≡◌, ◌∙◌, ◌≤◌, length, arith, rules}
+use Rattle.std.proofs.Common.{◌∙◌, ◌≤◌, length, arith}
 use Rattle.table_checker.specs.Rules.{refusal_at}
 use Rattle.table_checker.specs.Firsts.{of_kind}
 use Rattle.table_checker.proofs.Searching.{first_some_next, first_some_end}
