@@ -3,3 +3,4 @@ pub mod Given
 pub mod Values
 pub mod Texts
 pub mod Outcomes
+pub mod Parts

@@ -5,3 +5,5 @@ pub mod Tally
 pub mod Reports
 pub mod Hosts
 pub mod Runs
+pub mod FaultLines
+pub mod Printed

@@ -1,7 +1,7 @@
 -- Three parts, and any other number of them.
 use Rattle.std.proofs.Common.{◌≡◌, ◌≢◌, ℕ, List, [], ◌∷◌, map, length, get_or, Vec, Global, refl, arith}
 use Rattle.bundle_text.specs.Answers.{Said, parts_fault}
-use Rattle.run_text.specs.Answers.{IsOfParts}
+use Rattle.run_report.specs.Printed.{IsOfParts}
 
 pub of_others : (parts : List (Vec ℕ Global)) (said : Said) → length parts ≢ 3 → said ≡ parts_fault → IsOfParts (map (λ p. p.items) parts) said
 of_others [] said h e = e

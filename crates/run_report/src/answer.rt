@@ -5,9 +5,10 @@ ghost use Rattle.rank_cert.specs.Reading.{cert_in};
 ghost use Rattle.table_checker.specs.Rules.{first_refusal};
 ghost use Rattle.bundle_text.specs.declared.answer.Status.TheVariants.{Refused};
 ghost use Rattle.bundle_text.specs.Answers.{NamesMemory};
-ghost use Rattle.run_text.specs.Answers.{IsOfChecked, IsOfRead, IsOfParts, RunAnswers};
+ghost use Rattle.run_report.specs.Printed.{IsOfChecked, IsOfRead, IsOfParts, RunAnswers};
 
-use crate::faults::run_fault_line;
+use crate::fault_lines::run_fault_line;
+use crate::text_run::run_plan_text;
 use bundle_text::{
     Answer, Status, cert_fault_line, check_memory_answer, fault_answer, parts, parts_fault,
     refused_answer, table_fault_line,
@@ -15,7 +16,6 @@ use bundle_text::{
 use net_rows::Tables;
 use net_tables::read_tables;
 use rank_cert::{Cert, read_cert};
-use run_report::run_plan_text;
 use std::alloc::{AllocError, Global};
 use std::sync::Wait;
 use std::thread::Threads;

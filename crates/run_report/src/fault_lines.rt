@@ -1,9 +1,9 @@
 //! Lines of the faults of a plan and of its run.
 ghost use Rattle.std.specs.Prelude.{◌≡◌, IfOk, string_bytes};
-ghost use Rattle.run_text.specs.Lines.{plan_fault_line, run_fault_line};
+ghost use Rattle.run_report.specs.FaultLines.{plan_fault_line, run_fault_line};
 
+use crate::text_run::RunFault;
 use run_plan::PlanFault;
-use run_report::RunFault;
 use std::alloc::{AllocError, Global};
 
 /// The line of a fault of a plan, with its line feed.
