@@ -3,14 +3,13 @@
 #![tactic(auto)]
 
 mod desk;
-mod network;
 mod parts;
 mod words;
 
-use crate::network::{ranks, tables};
 use crate::parts::Part;
 use net_tables::read_tables;
 use rank_cert::read_cert;
+use sample_networks::Sample;
 use std::io;
 use table_checker::{Accepted, check};
 
@@ -45,8 +44,9 @@ fn main(rt: HostRuntime) -> io::Result<()> {
         }
     }
     let alloc = rt.alloc();
-    let tables = read_tables(alloc, tables().as_bytes());
-    let cert = read_cert(alloc, ranks().as_bytes());
+    let text = Sample::LongWaits.tables(alloc)?;
+    let tables = read_tables(alloc, text.as_bytes());
+    let cert = read_cert(alloc, Sample::LongWaits.ranks().as_bytes());
     if let (Ok(tables), Ok(cert)) = (tables, cert) {
         if let Ok(accepted) = check(alloc, &tables, &cert) {
             if full {

@@ -41,9 +41,9 @@ enum Work {
     AcknowledgeAndApprove(u32, u32),
 }
 
-fn enter_all(desk: &mut Desk, words: &Words, first: u32, count: u32) -> io::Result<()> {
+fn enter_all(desk: &mut Desk, words: Words, first: u32, count: u32) -> io::Result<()> {
     for i in 0..count {
-        desk.enter(words, first.wrapping_add(i))?;
+        desk.enter(&words, first.wrapping_add(i))?;
     }
     Ok(())
 }
@@ -84,7 +84,7 @@ fn acknowledge_and_approve(desk: &mut Desk, reversed: u32, approved: u32) -> io:
 
 fn make(desk: &mut Desk, work: Work) -> io::Result<()> {
     match work {
-        Work::Enter(words, first, count) => enter_all(desk, &words, first, count),
+        Work::Enter(words, first, count) => enter_all(desk, words, first, count),
         Work::Answer(first, count) => answer_each(desk, first, count),
         Work::FailInTurn(count) => fail_in_turn(desk, count),
         Work::Ticks(count) => {
@@ -145,7 +145,7 @@ fn failing_in_turn(rt: &HostRuntime, desk: &mut Desk, requests: u32) -> io::Resu
 
 /// Requests that fail at one tick: a put and an answer for each in one step.
 fn failing_together(rt: &HostRuntime, desk: &mut Desk, requests: u32) -> io::Result<()> {
-    enter_all(desk, &quick_request(), 0, requests.min(MOST_PENDING))?;
+    enter_all(desk, quick_request(), 0, requests.min(MOST_PENDING))?;
     let _ = desk.counted();
     time(rt, desk, "failing together", Work::Ticks(1))
 }

@@ -16,6 +16,14 @@ host_ticks = 4
 advice_ticks = 5
 ";
 
+pub(crate) const SLOW_ADVICES: &str = "\
+[network]
+currency = \"840\"
+date = \"0314\"
+host_ticks = 100
+advice_ticks = 100
+";
+
 pub(crate) const NODE_A: &str = "\
 [[node]]
 name = \"A\"
@@ -102,6 +110,27 @@ ends = [\"Q\", \"H\"]
 ticks = 3
 ";
 
+pub(crate) const SLOW_LINK: &str = "\
+[[link]]
+name = \"SLOW\"
+ends = [\"A\", \"H\"]
+ticks = 4000
+";
+
+pub(crate) const SPARE_LINK: &str = "\
+[[link]]
+name = \"SPARE\"
+ends = [\"A\", \"H\"]
+ticks = 4000
+";
+
+pub(crate) const QUICK_LINK: &str = "\
+[[link]]
+name = \"QUICK\"
+ends = [\"A\", \"H\"]
+ticks = 1
+";
+
 pub(crate) const ACQUIRER_AT_A: &str = "\
 [[acquirer]]
 id = \"400001\"
@@ -184,6 +213,21 @@ prefix = \"5\"
 home = \"H\"
 named = []
 ceiling = 0
+";
+
+pub(crate) const A_BY_SLOW_OR_SPARE: &str = "\
+[[route]]
+node = \"A\"
+prefix = \"4\"
+links = [\"SLOW\", \"SPARE\"]
+";
+
+/// For cards that begin with 5.
+pub(crate) const SECOND_BY_QUICK: &str = "\
+[[route]]
+node = \"A\"
+prefix = \"5\"
+links = [\"QUICK\"]
 ";
 
 pub(crate) const A_BY_AB: &str = "\

@@ -26,6 +26,9 @@ pub enum Sample {
     /// A with a link to H and another way over P, with short timers. H is the gate of the acquirer 400002. A may approve 1,000 a day, at
     /// most 600 at once, and H 500. Nobody may approve cards that begin with 5, and only H knows where they go.
     LimitAtHome,
+    /// A with three links to H, and H the home of the cards that begin with 5 too. Requests of cards that begin with 4 wait for 4,000
+    /// ticks on the first link, or on the second where that is down; those that begin with 5 wait for one tick on the third.
+    LongWaits,
 }
 
 fn two_nodes(alloc: Global) -> Result<String, AllocError> {
@@ -91,6 +94,14 @@ fn limit_at_home(alloc: Global) -> Result<String, AllocError> {
     format!(in alloc; "{nodes}{gates}{issuers}{A_BY_AP_OR_AH}{P_BY_PH}{A_1000_SINGLE_600}{H_500}")
 }
 
+fn long_waits(alloc: Global) -> Result<String, AllocError> {
+    let nodes = format!(in alloc;
+        "{SLOW_ADVICES}{NODE_A}{NODE_H}{SLOW_LINK}{SPARE_LINK}{QUICK_LINK}"
+    )?;
+    let issuers = format!(in alloc; "{ISSUER_AT_H}{SECOND_ISSUER_AT_H}")?;
+    format!(in alloc; "{nodes}{ACQUIRER_AT_A}{issuers}{A_BY_SLOW_OR_SPARE}{SECOND_BY_QUICK}")
+}
+
 impl Sample {
     /// Its tables, as TOML.
     pub fn tables(self, alloc: Global) -> Result<String, AllocError> {
@@ -105,6 +116,7 @@ impl Sample {
             Sample::Line => line(alloc),
             Sample::LineOfTwoHomes => line_of_two_homes(alloc),
             Sample::LimitAtHome => limit_at_home(alloc),
+            Sample::LongWaits => long_waits(alloc),
         }
     }
 
@@ -122,6 +134,7 @@ impl Sample {
             Sample::Line => "RANKS 1\nA 4 2\nB 4 1\nH 4 0\nEND\n",
             Sample::LineOfTwoHomes => "RANKS 1\nA 4 2\nB 4 1\nH 4 0\nA 5 1\nB 5 0\nEND\n",
             Sample::LimitAtHome => "RANKS 1\nA 4 2\nP 4 1\nH 4 0\nEND\n",
+            Sample::LongWaits => "RANKS 1\nA 4 1\nH 4 0\nA 5 1\nH 5 0\nEND\n",
         }
     }
 }

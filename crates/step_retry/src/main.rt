@@ -3,16 +3,16 @@
 #![tactic(auto)]
 
 use card_digits::{LinkNo, NodeNo};
-use net_tables::{Tables, read_tables};
+use net_tables::read_tables;
 use network_law::StepFault;
-use rank_cert::{Cert, read_cert};
+use rank_cert::read_cert;
 use sample_networks::Sample;
 use std::alloc::{AllocError, Global};
 use std::io;
 use std::io::Write;
 use std::process::ExitCode;
 use switch_node::{Case, Input, Node, Outputs};
-use table_checker::check;
+use table_checker::{Accepted, check};
 
 const REQUEST: &[u8] =
     b"01007220000100008000164111111111111111000000000000001000031409153000000106400001840";
@@ -29,30 +29,12 @@ enum Event {
     Tick,
 }
 
-fn tables_of(alloc: Global, text: &[u8]) -> Option<Tables> {
-    read_tables(alloc, text).ok()
-}
-
-fn ranks_of(alloc: Global, text: &[u8]) -> Option<Cert> {
-    read_cert(alloc, text).ok()
-}
-
-fn tables(alloc: Global) -> Option<Tables> {
-    let text = Sample::Diamond.tables(alloc).ok()?;
-    tables_of(alloc, text.as_bytes())
-}
-
-fn ranks(alloc: Global) -> Option<Cert> {
-    ranks_of(alloc, Sample::Diamond.ranks().as_bytes())
-}
-
-/// The first node, where the tables are accepted and there is memory for it.
-fn first_node<'t>(alloc: Global, tables: &'t Tables, cert: &Cert) -> Option<Node<'t>> {
-    if tables.nodes().is_empty() {
+/// The first node, where there is memory for it.
+fn first_node<'t>(alloc: Global, accepted: &Accepted<'t>) -> Option<Node<'t>> {
+    if accepted.tables().nodes().is_empty() {
         return None;
     }
-    let accepted = check(alloc, tables, cert).ok()?;
-    Node::new(alloc, &accepted, NodeNo::new(0)).ok()
+    Node::new(alloc, accepted, NodeNo::new(0)).ok()
 }
 
 fn copied(alloc: Global, bytes: &[u8]) -> Result<Vec<u8>, AllocError> {
@@ -112,14 +94,8 @@ fn write_outputs(writer: &mut impl Write, outputs: &Outputs) -> io::Result<()> {
 }
 
 /// Whether all steps were made, and their outputs written.
-fn is_run(alloc: Global, writer: &mut impl Write) -> bool {
-    let Some(tables) = tables(alloc) else {
-        return false;
-    };
-    let Some(cert) = ranks(alloc) else {
-        return false;
-    };
-    let Some(mut node) = first_node(alloc, &tables, &cert) else {
+fn are_made(alloc: Global, writer: &mut impl Write, accepted: &Accepted<'_>) -> bool {
+    let Some(mut node) = first_node(alloc, accepted) else {
         return false;
     };
     let mut outputs = Outputs::new(alloc);
@@ -132,6 +108,21 @@ fn is_run(alloc: Global, writer: &mut impl Write) -> bool {
         }
     }
     true
+}
+
+/// Whether there was memory for the tables and their ranks, and all steps were made.
+fn is_run(alloc: Global, writer: &mut impl Write) -> bool {
+    let Ok(text) = Sample::Diamond.tables(alloc) else {
+        return false;
+    };
+    let tables = read_tables(alloc, text.as_bytes());
+    let cert = read_cert(alloc, Sample::Diamond.ranks().as_bytes());
+    if let (Ok(tables), Ok(cert)) = (tables, cert) {
+        if let Ok(accepted) = check(alloc, &tables, &cert) {
+            return are_made(alloc, writer, &accepted);
+        }
+    }
+    false
 }
 
 fn main(rt: HostRuntime) -> ExitCode {
