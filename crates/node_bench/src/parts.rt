@@ -43,7 +43,8 @@ enum Work {
 
 fn enter_all(desk: &mut Desk, words: Words, first: u32, count: u32) -> io::Result<()> {
     for i in 0..count {
-        desk.enter(&words, first.wrapping_add(i))?;
+        let trace = first.wrapping_add(i);
+        desk.enter(&words, trace)?;
     }
     Ok(())
 }

@@ -29,14 +29,6 @@ enum Event {
     Tick,
 }
 
-/// The first node, where there is memory for it.
-fn first_node<'t>(alloc: Global, accepted: &Accepted<'t>) -> Option<Node<'t>> {
-    if accepted.tables().nodes().is_empty() {
-        return None;
-    }
-    Node::new(alloc, accepted, NodeNo::new(0)).ok()
-}
-
 fn copied(alloc: Global, bytes: &[u8]) -> Result<Vec<u8>, AllocError> {
     Vec::from_slice(alloc, bytes)
 }
@@ -93,9 +85,12 @@ fn write_outputs(writer: &mut impl Write, outputs: &Outputs) -> io::Result<()> {
     Ok(())
 }
 
-/// Whether all steps were made, and their outputs written.
+/// Whether all steps of the first node were made, and their outputs written.
 fn are_made(alloc: Global, writer: &mut impl Write, accepted: &Accepted<'_>) -> bool {
-    let Some(mut node) = first_node(alloc, accepted) else {
+    if accepted.tables().nodes().is_empty() {
+        return false;
+    }
+    let Ok(mut node) = Node::new(alloc, accepted, NodeNo::new(0)) else {
         return false;
     };
     let mut outputs = Outputs::new(alloc);
