@@ -7,3 +7,4 @@ pub mod Known
 pub mod Decimals
 pub mod Cuts
 pub mod LineCuts
+pub mod Padded
