@@ -81,7 +81,7 @@ run_known (s ∷ rows) name prefix all =
     by true x rest = refl
     by false x rest = rest
 
-digits_are : (p q : List ℕ) → pointwise ◌==◌ p q ≡ true → p ≡ q
+pub digits_are : (p q : List ℕ) → pointwise ◌==◌ p q ≡ true → p ≡ q
 digits_are p q is = same_text p q (sym is)
 
 -- the run of the last row's prefix

@@ -4,3 +4,4 @@ mod Cuts
 mod Growing
 mod Pairs
 pub mod Together
+mod Ascending
