@@ -1,7 +1,6 @@
 -- Short bytes are equal where their numbers of bytes and their whole arrays are.
-use Rattle.std.specs.Prelude.{Bool, ◌≡◌, ◌≢◌, ◌&&◌, ◌==◌, ℕ, ◌-◌, List, ◌++◌, length, take, replicate, true, false, refl}
+use Rattle.std.specs.Prelude.{Bool, ◌≡◌, ◌≢◌, ◌&&◌, ◌==◌, ℕ, List, length, take, true, false, refl}
 use Rattle.std.proofs.Common.{arith, subst, ◌∙◌}
-use Rattle.std.specs.Bool.{Decides}
 use Rattle.std.specs.Cmp.Lexicographic.{pointwise, bytes_decides}
 use Rattle.std.proofs.lemmas.Bool.{and_parts}
 use Rattle.std.proofs.lemmas.Bool.Decides.{same_from_decides, Decides-eqb, nat_tests}
@@ -30,8 +29,8 @@ pub same_padded : (size m n : ℕ) (bs cs : List ℕ) → IsPadded size m bs →
     → same_array m n bs cs ≡ pointwise ◌==◌ (take m bs) (take n cs)
 same_padded size m n bs cs h k =
     same_from_decides (same_array m n bs cs) (pointwise ◌==◌ (take m bs) (take n cs))
-        (used_same m n bs cs, arrays_same size m n bs cs h k)
-        (bytes_decides (take m bs) (take n cs))
+    (used_same m n bs cs, arrays_same size m n bs cs h k)
+    (bytes_decides (take m bs) (take n cs))
 
 -- with as many bytes, the arrays decide
 pub same_bytes : (size m n : ℕ) (bs cs : List ℕ) → IsPadded size m bs → IsPadded size n cs
@@ -39,7 +38,7 @@ pub same_bytes : (size m n : ℕ) (bs cs : List ℕ) → IsPadded size m bs → 
 same_bytes size m n bs cs h k lens =
     let one : (m == n) ≡ true = (Decides-eqb m n).1 lens in
     let whole : true && pointwise ◌==◌ bs cs ≡ pointwise ◌==◌ (take m bs) (take n cs) =
-        subst (λ b. b && pointwise ◌==◌ bs cs ≡ pointwise ◌==◌ (take m bs) (take n cs)) one (same_padded size m n bs cs h k) in
+    subst (λ b. b && pointwise ◌==◌ bs cs ≡ pointwise ◌==◌ (take m bs) (take n cs)) one (same_padded size m n bs cs h k) in
     whole
 
 -- with another number of bytes, nothing more is asked
@@ -48,5 +47,5 @@ pub other_len : (size m n : ℕ) (bs cs : List ℕ) → IsPadded size m bs → I
 other_len size m n bs cs h k lens =
     let none : (m == n) ≡ false = grind (arith, nat_tests) in
     let whole : false && pointwise ◌==◌ bs cs ≡ pointwise ◌==◌ (take m bs) (take n cs) =
-        subst (λ b. b && pointwise ◌==◌ bs cs ≡ pointwise ◌==◌ (take m bs) (take n cs)) none (same_padded size m n bs cs h k) in
+    subst (λ b. b && pointwise ◌==◌ bs cs ≡ pointwise ◌==◌ (take m bs) (take n cs)) none (same_padded size m n bs cs h k) in
     none ∙ whole

@@ -83,7 +83,6 @@ impl<const N: usize> PartialEq for ShortBytes<N> {
     ghost laws = { Prim.search (comparing, rules) };
 
     // All of the array at once: its length is known when the program is built, and what is not used is zero.
-    #[tactic(auto, using(crate::proofs::Padded::same_padded))]
     fn eq(&self, other: &ShortBytes<N>) -> bool {
         self.len == other.len && self.bytes == other.bytes
     }

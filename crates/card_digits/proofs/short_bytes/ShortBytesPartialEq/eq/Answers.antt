@@ -1,9 +1,4 @@
-use Rattle.std.proofs.Common.{◌∙◌, rules, ◌≡◌, ◌≤◌, ◌<◌, length, true, ◌==◌, ℕ, ◌+◌, ◌-◌, ◌*◌, ◌/◌, ◌%◌, Bool, false, nat_eq, nat_lt, List, [], ◌∷◌, ◌++◌, slice_index_or, slice_set, bit_and, bit_or, Fits, w8, w32, w64, Bor, MutBor}
-use Rattle.std.specs.Char.{is_ascii_digit}
-use Rattle.std.specs.List.{list_all}
-use Rattle.card_digits.specs.Digits.{digits_of}
-use Rattle.std.specs.Cmp.Lexicographic.{pointwise}
-use Rattle.std.specs.Cmp.Rules.{comparing}
+use Rattle.std.proofs.Common.{◌∙◌}
 use Rattle.card_digits.proofs.Padded.{same_bytes, other_len}
 use Rattle.card_digits.proofs.short_bytes.ShortBytesPartialEq.eq.Goals as goal
 
