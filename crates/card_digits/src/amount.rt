@@ -109,8 +109,8 @@ impl NodeNo {
     }
 }
 
-/// The place of a link in the tables, from 0 to 255.
-#[derive(Clone, Copy, Debug, PartialEq, Eq, PartialOrd, Ord)]
+/// The place of a link in the tables, from 0 to 255; the first of them by default.
+#[derive(Clone, Copy, Debug, Default, PartialEq, Eq, PartialOrd, Ord)]
 pub struct LinkNo {
     place: u8,
 }
