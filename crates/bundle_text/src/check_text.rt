@@ -1,5 +1,5 @@
 //! The answer of `check`.
-ghost use Rattle.std.specs.Prelude.{◌≡◌, IfOk, map, Some};
+ghost use Rattle.std.specs.Prelude.{◌≡◌, IfOk, map, Ok, Some};
 ghost use Rattle.bundle_text.specs.Answers.{Said, Answers, check_parts, check_memory, check_read, check_said, fault, verdict};
 ghost use Rattle.net_tables.specs.Reading.{tables_in};
 ghost use Rattle.rank_cert.specs.Reading.{cert_in};
@@ -71,19 +71,24 @@ pub fn parts_fault(alloc: Global) -> Result<Answer, AllocError>
 
 ghost use Rattle.bundle_text.specs.Answers.{parts_fault};
 
+/// The first fault of the ranks, or the verdict on the tables.
+fn check_ranks(alloc: Global, tables: &Tables, ranks: &[u8]) -> Result<Answer, AllocError>
+    ensures { IfOk result (λ a. Answers a (check_read (Ok tables.now) (cert_in ranks.now))) }
+{
+    match read_cert(alloc, ranks) {
+        Ok(cert) => verdict(alloc, tables, &cert),
+        Err(e) => Ok(fault_answer(cert_fault_line(alloc, e)?)),
+    }
+}
+
 /// The first fault of tables and ranks, or the verdict.
 fn check_both(alloc: Global, tables: &[u8], ranks: &[u8]) -> Result<Answer, AllocError>
     ensures { IfOk result (λ a. Answers a (check_read (tables_in tables.now) (cert_in ranks.now))) }
 {
-    let tables = match read_tables(alloc, tables) {
-        Ok(tables) => tables,
-        Err(e) => return Ok(fault_answer(table_fault_line(alloc, e)?)),
-    };
-    let cert = match read_cert(alloc, ranks) {
-        Ok(cert) => cert,
-        Err(e) => return Ok(fault_answer(cert_fault_line(alloc, e)?)),
-    };
-    verdict(alloc, &tables, &cert)
+    match read_tables(alloc, tables) {
+        Ok(tables) => check_ranks(alloc, &tables, ranks),
+        Err(e) => Ok(fault_answer(table_fault_line(alloc, e)?)),
+    }
 }
 
 /// The answer of `check` to an input of two parts, the tables and the ranks: a verdict or the first fault.

@@ -1,5 +1,5 @@
 //! The answer of `replay`.
-ghost use Rattle.std.specs.Prelude.{◌≡◌, ◌<◌, List, map, Err, IfOk, OnOk};
+ghost use Rattle.std.specs.Prelude.{◌≡◌, ◌<◌, List, map, Ok, Err, IfOk, OnOk};
 ghost use Rattle.std.specs.Io.KnownBytes.{Appends};
 ghost use Rattle.card_digits.specs.Stream.{AppendsFront};
 ghost use Rattle.net_tables.specs.Reading.{tables_in};
@@ -129,6 +129,25 @@ fn write_checked<W: Sink>(
     }
 }
 
+/// Writes the first fault of the ranks, or the answer to the script.
+fn write_ranked<W: Sink>(
+    alloc: Global,
+    tables: &Tables,
+    ranks: &[u8],
+    script: &[u8],
+    writer: &mut W,
+) -> Result<Status, PrintFault>
+    ensures ok { IfOk result (Wrote (λ said. ReplayAnswers said (read_said (Ok tables.now) (cert_in ranks.now) script.now)) (W.written writer.old) (W.written writer.new)) }
+    ensures write { result ≡ Err PrintFault.Write → WroteFront (λ said. ReplayAnswers said (read_said (Ok tables.now) (cert_in ranks.now) script.now)) (W.written writer.old) (W.written writer.new) }
+    ensures failed { result ≡ Err PrintFault.Write → 0 < W.failures writer.new }
+    ensures memory { result ≡ Err PrintFault.Memory → W.written writer.new ≡ W.written writer.old }
+{
+    match read_cert(alloc, ranks) {
+        Ok(cert) => write_checked(alloc, tables, &cert, script, writer),
+        Err(e) => write_made(writer, cert_fault_answer(alloc, e)),
+    }
+}
+
 /// Writes the first fault of tables and ranks, or the answer to the script.
 fn write_read<W: Sink>(
     alloc: Global,
@@ -142,15 +161,10 @@ fn write_read<W: Sink>(
     ensures failed { result ≡ Err PrintFault.Write → 0 < W.failures writer.new }
     ensures memory { result ≡ Err PrintFault.Memory → W.written writer.new ≡ W.written writer.old }
 {
-    let tables = match read_tables(alloc, tables) {
-        Ok(tables) => tables,
-        Err(e) => return write_made(writer, table_fault_answer(alloc, e)),
-    };
-    let cert = match read_cert(alloc, ranks) {
-        Ok(cert) => cert,
-        Err(e) => return write_made(writer, cert_fault_answer(alloc, e)),
-    };
-    write_checked(alloc, &tables, &cert, script, writer)
+    match read_tables(alloc, tables) {
+        Ok(tables) => write_ranked(alloc, &tables, ranks, script, writer),
+        Err(e) => write_made(writer, table_fault_answer(alloc, e)),
+    }
 }
 
 #[tactic(auto, using(crate::proofs::Parts::not_three, crate::proofs::Parts::three))]

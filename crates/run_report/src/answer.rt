@@ -1,5 +1,5 @@
 //! The answer of `run`.
-ghost use Rattle.std.specs.Prelude.{◌≢◌, ◌⊎◌, map, IfOk};
+ghost use Rattle.std.specs.Prelude.{◌≢◌, ◌⊎◌, map, Ok, IfOk};
 ghost use Rattle.net_tables.specs.Reading.{tables_in};
 ghost use Rattle.rank_cert.specs.Reading.{cert_in};
 ghost use Rattle.table_checker.specs.Rules.{first_refusal};
@@ -56,6 +56,22 @@ fn checked_answer<R: Threads + Wait + Sync>(
     }
 }
 
+/// The first fault of the ranks, or the answer to the plan.
+fn ranked_answer<R: Threads + Wait + Sync>(
+    rt: &R,
+    alloc: Global,
+    tables: &Tables,
+    ranks: &[u8],
+    plan: &[u8],
+) -> Result<Answer, AllocError>
+    ensures { IfOk result (λ a. IsOfRead (Ok tables.now) (cert_in ranks.now) a ⊎ NamesMemory a) }
+{
+    match read_cert(alloc, ranks) {
+        Ok(cert) => checked_answer(rt, alloc, tables, &cert, plan),
+        Err(e) => Ok(fault_answer(cert_fault_line(alloc, e)?)),
+    }
+}
+
 /// The first fault of tables and ranks, or the answer to the plan.
 fn read_answer<R: Threads + Wait + Sync>(
     rt: &R,
@@ -66,15 +82,10 @@ fn read_answer<R: Threads + Wait + Sync>(
 ) -> Result<Answer, AllocError>
     ensures { IfOk result (λ a. IsOfRead (tables_in tables.now) (cert_in ranks.now) a ⊎ NamesMemory a) }
 {
-    let tables = match read_tables(alloc, tables) {
-        Ok(tables) => tables,
-        Err(e) => return Ok(fault_answer(table_fault_line(alloc, e)?)),
-    };
-    let cert = match read_cert(alloc, ranks) {
-        Ok(cert) => cert,
-        Err(e) => return Ok(fault_answer(cert_fault_line(alloc, e)?)),
-    };
-    checked_answer(rt, alloc, &tables, &cert, plan)
+    match read_tables(alloc, tables) {
+        Ok(tables) => ranked_answer(rt, alloc, &tables, ranks, plan),
+        Err(e) => Ok(fault_answer(table_fault_line(alloc, e)?)),
+    }
 }
 
 #[tactic(auto, using(crate::proofs::Parts::of_others, crate::proofs::Parts::three))]
