@@ -51,20 +51,30 @@ fn ticks(store: &mut AdviceStore, count: u32) -> Result<u64, AllocError> {
     Ok(due)
 }
 
+fn measure_stored(rt: &HostRuntime, store: &mut AdviceStore, count: u32) -> io::Result<()> {
+    let from = start(rt)?;
+    store_all(rt.alloc(), store, count)?;
+    report(rt, from, "advices stored", count, store.len() as u64)
+}
+
+fn measure_ticks(rt: &HostRuntime, store: &mut AdviceStore, count: u32) -> io::Result<()> {
+    let from = start(rt)?;
+    let due = ticks(store, count)?;
+    report(rt, from, "ticks with none due", count, due)
+}
+
+fn measure_in(
+    rt: &HostRuntime,
+    store: &mut AdviceStore,
+    stored: u32,
+    count: u32,
+) -> io::Result<()> {
+    measure_stored(rt, store, stored)?;
+    measure_ticks(rt, store, count)
+}
+
 /// Ticks beside so many that are stored, none of which is due.
 pub(crate) fn measure(rt: &HostRuntime, stored: u32, calls: u32) -> io::Result<()> {
-    let alloc = rt.alloc();
-    let mut store = AdviceStore::new(alloc, TICKS)?;
-    let from = start(rt)?;
-    store_all(alloc, &mut store, stored)?;
-    report(rt, from, "advices stored", stored, store.len() as u64)?;
-    let from = start(rt)?;
-    let due = ticks(&mut store, calls.wrapping_mul(100))?;
-    report(
-        rt,
-        from,
-        "ticks with none due",
-        calls.wrapping_mul(100),
-        due,
-    )
+    let mut store = AdviceStore::new(rt.alloc(), TICKS)?;
+    measure_in(rt, &mut store, stored, calls.wrapping_mul(100))
 }

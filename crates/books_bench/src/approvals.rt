@@ -71,27 +71,41 @@ fn take_all(
     Ok(taken)
 }
 
-/// Approvals, and then as many whole reversals.
-pub(crate) fn measure(rt: &HostRuntime, calls: u32) -> io::Result<()> {
-    let alloc = rt.alloc();
-    let days = days(alloc)?;
-    let (Ok(amount), Ok(nothing)) = (Amount::read(b"000000001000"), Amount::read(b"000000000000"))
-    else {
+/// The number of the approvals that were taken is printed.
+fn measure_takes(rt: &HostRuntime, book: &mut StandInBook, calls: u32) -> io::Result<()> {
+    let days = days(rt.alloc())?;
+    let Ok(amount) = Amount::read(b"000000001000") else {
         return Ok(());
     };
-    let mut book = StandInBook::new(alloc);
     let from = start(rt)?;
-    let taken = take_all(&mut book, days.as_slice(), amount, calls)?;
-    report(rt, from, "approvals taken", calls, taken)?;
-    let from = start(rt)?;
-    for trace in 0..calls {
-        book.give_back(key(trace), nothing);
+    let taken = take_all(book, days.as_slice(), amount, calls)?;
+    report(rt, from, "approvals taken", calls, taken)
+}
+
+fn give_all_back(book: &mut StandInBook, actual: Amount, count: u32) -> u64 {
+    for trace in 0..count {
+        book.give_back(key(trace), actual);
     }
-    report(
-        rt,
-        from,
-        "approvals given back",
-        calls,
-        book.takes().len() as u64,
-    )
+    book.takes().len() as u64
+}
+
+/// The number of the approvals that are in the book at the end is printed.
+fn measure_reversals(rt: &HostRuntime, book: &mut StandInBook, calls: u32) -> io::Result<()> {
+    let Ok(nothing) = Amount::read(b"000000000000") else {
+        return Ok(());
+    };
+    let from = start(rt)?;
+    let left = give_all_back(book, nothing, calls);
+    report(rt, from, "approvals given back", calls, left)
+}
+
+fn measure_in(rt: &HostRuntime, book: &mut StandInBook, calls: u32) -> io::Result<()> {
+    measure_takes(rt, book, calls)?;
+    measure_reversals(rt, book, calls)
+}
+
+/// Approvals, and then as many whole reversals.
+pub(crate) fn measure(rt: &HostRuntime, calls: u32) -> io::Result<()> {
+    let mut book = StandInBook::new(rt.alloc());
+    measure_in(rt, &mut book, calls)
 }

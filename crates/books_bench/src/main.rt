@@ -34,26 +34,29 @@ fn measure(rt: &HostRuntime, calls: u32) -> io::Result<()> {
     approvals::measure(rt, calls)
 }
 
-fn main(rt: HostRuntime) -> io::Result<()> {
-    let mut calls = CALLS;
-    let mut nodes = 0;
-    let mut resting = false;
-    let mut slots = false;
-    for (place, word) in std::env::args(&rt)?.enumerate() {
-        if place == 1 {
-            resting = word.as_str() == "rest";
-            slots = word.as_str() == "slots";
-            calls = word.parse().unwrap_or(CALLS);
-        }
-        if place == 2 {
-            nodes = word.parse().unwrap_or(nodes);
-        }
+/// The number that a word of the command line is, or the other one if it is none.
+fn number(word: Option<String>, or: u32) -> u32 {
+    match word {
+        Some(word) => word.parse().unwrap_or(or),
+        None => or,
     }
-    if resting {
-        rest::hold(&rt, nodes)
-    } else if slots {
-        rest::hold_slots(&rt, nodes)
+}
+
+/// Does what the first argument says.
+fn run(rt: &HostRuntime, word: &str, nodes: u32) -> io::Result<()> {
+    if word == "rest" {
+        rest::hold(rt, nodes)
+    } else if word == "slots" {
+        rest::hold_slots(rt, nodes)
     } else {
-        measure(&rt, calls.min(MOST_CALLS))
+        measure(rt, word.parse().unwrap_or(CALLS).min(MOST_CALLS))
+    }
+}
+
+fn main(rt: HostRuntime) -> io::Result<()> {
+    let mut words = std::env::args(&rt)?.skip(1);
+    match words.next() {
+        Some(first) => run(&rt, first.as_str(), number(words.next(), 0)),
+        None => measure(&rt, CALLS),
     }
 }

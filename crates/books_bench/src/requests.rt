@@ -69,6 +69,11 @@ fn open_all(book: &mut PendingBook, rows: Vec<Row>) -> Result<(), AllocError> {
     Ok(())
 }
 
+fn pair(book: &mut PendingBook, row: Row, answer: PreparedOutput) -> Result<(), AllocError> {
+    open(book, row)?;
+    close(book, answer)
+}
+
 /// Opens a request and closes the oldest one, for each of these.
 fn pairs(
     book: &mut PendingBook,
@@ -76,20 +81,26 @@ fn pairs(
     answers: Vec<PreparedOutput>,
 ) -> Result<(), AllocError> {
     for (row, answer) in rows.into_iter().zip(answers) {
-        open(book, row)?;
-        close(book, answer)?;
+        pair(book, row, answer)?;
     }
     Ok(())
 }
 
-/// Beside so many that are pending, requests are opened and closed. As many are pending in the end.
-pub(crate) fn measure(rt: &HostRuntime, pending: u32, calls: u32) -> io::Result<()> {
-    let alloc = rt.alloc();
-    let mut book = PendingBook::new(alloc);
-    open_all(&mut book, rows(alloc, 0, pending)?)?;
-    let (rows, answers) = (rows(alloc, pending, calls)?, answers(alloc, calls)?);
+fn fill(alloc: Global, book: &mut PendingBook, count: u32) -> Result<(), AllocError> {
+    let rows = rows(alloc, 0, count)?;
+    open_all(book, rows)
+}
+
+/// The number of the requests that are pending in the end is printed.
+fn measure_pairs(
+    rt: &HostRuntime,
+    book: &mut PendingBook,
+    rows: Vec<Row>,
+    answers: Vec<PreparedOutput>,
+    calls: u32,
+) -> io::Result<()> {
     let from = start(rt)?;
-    pairs(&mut book, rows, answers)?;
+    pairs(book, rows, answers)?;
     report(
         rt,
         from,
@@ -97,4 +108,24 @@ pub(crate) fn measure(rt: &HostRuntime, pending: u32, calls: u32) -> io::Result<
         calls,
         book.open_count() as u64,
     )
+}
+
+/// Fills the book, and makes the requests that are opened beside those and their answers, all before the time is taken.
+fn measure_in(
+    rt: &HostRuntime,
+    book: &mut PendingBook,
+    pending: u32,
+    calls: u32,
+) -> io::Result<()> {
+    let alloc = rt.alloc();
+    fill(alloc, book, pending)?;
+    let rows = rows(alloc, pending, calls)?;
+    let answers = answers(alloc, calls)?;
+    measure_pairs(rt, book, rows, answers, calls)
+}
+
+/// Beside so many that are pending, requests are opened and closed. As many are pending in the end.
+pub(crate) fn measure(rt: &HostRuntime, pending: u32, calls: u32) -> io::Result<()> {
+    let mut book = PendingBook::new(rt.alloc());
+    measure_in(rt, &mut book, pending, calls)
 }

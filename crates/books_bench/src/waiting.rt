@@ -84,15 +84,29 @@ fn pairs(alloc: Global, book: &mut PendingBook, new: &[Key], old: &[Key]) -> u64
     made
 }
 
+/// The number of the requests that were opened and closed is printed.
+fn measure_pairs(
+    rt: &HostRuntime,
+    book: &mut PendingBook,
+    new: &[Key],
+    old: &[Key],
+    calls: u32,
+) -> io::Result<()> {
+    let from = start(rt)?;
+    let made = pairs(rt.alloc(), book, new, old);
+    report(rt, from, "waiting opened and closed", calls, made)
+}
+
+/// The first so many of the keys are pending before.
+fn measure_keys(rt: &HostRuntime, keys: &[Key], pending: u32, calls: u32) -> io::Result<()> {
+    let mut book = PendingBook::new(rt.alloc())?;
+    let (before, new) = keys.split_at(keys.len().min(pending as usize));
+    let _ = open_all(rt.alloc(), &mut book, before);
+    measure_pairs(rt, &mut book, new, keys, calls)
+}
+
 /// Beside so many that are pending, requests are opened and closed.
 pub(crate) fn measure(rt: &HostRuntime, pending: u32, calls: u32) -> io::Result<()> {
-    let alloc = rt.alloc();
-    let keys = keys(alloc, pending.wrapping_add(calls))?;
-    let keys = keys.as_slice();
-    let mut book = PendingBook::new(alloc)?;
-    let new = keys.len().min(pending as usize);
-    let _ = open_all(alloc, &mut book, &keys[..new]);
-    let from = start(rt)?;
-    let made = pairs(alloc, &mut book, &keys[new..], keys);
-    report(rt, from, "waiting opened and closed", calls, made)
+    let keys = keys(rt.alloc(), pending.wrapping_add(calls))?;
+    measure_keys(rt, keys.as_slice(), pending, calls)
 }
