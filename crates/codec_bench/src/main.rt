@@ -72,6 +72,12 @@ fn first_frame(frames: &[u8]) -> Option<(&[u8], &[u8])> {
     rest.split_at_checked(len)
 }
 
+/// So many frames of the message.
+fn frames_with(alloc: Global, message: &Message) -> Result<Vec<u8>, AllocError> {
+    let bytes = encode(alloc, message)?;
+    frames_of(alloc, &bytes)
+}
+
 /// Decodes each frame of the buffer, and counts the elements.
 fn decode_frames(alloc: Global, frames: &[u8]) -> usize {
     let mut elements: usize = 0;
@@ -87,6 +93,15 @@ fn decode_frames(alloc: Global, frames: &[u8]) -> usize {
     elements
 }
 
+/// The elements that are counted in so many rounds.
+fn decode_rounds(alloc: Global, frames: &[u8], rounds: u32) -> usize {
+    let mut elements: usize = 0;
+    for _ in 0..rounds {
+        elements = elements.wrapping_add(decode_frames(alloc, frames));
+    }
+    elements
+}
+
 /// Decodes each frame of the buffer in the place of one message, and counts the elements.
 fn read_frames(message: &mut Message, frames: &[u8]) -> usize {
     let mut elements: usize = 0;
@@ -98,6 +113,15 @@ fn read_frames(message: &mut Message, frames: &[u8]) -> usize {
             }
             rest = later;
         }
+    }
+    elements
+}
+
+/// The elements that are counted so in so many rounds.
+fn read_rounds(message: &mut Message, frames: &[u8], rounds: u32) -> usize {
+    let mut elements: usize = 0;
+    for _ in 0..rounds {
+        elements = elements.wrapping_add(read_frames(message, frames));
     }
     elements
 }
@@ -205,22 +229,28 @@ impl<'a> Bench<'a> {
 
     /// Reads the frames of a message, in new memory and in a message's own.
     fn read(&self, message: &Message) -> io::Result<()> {
-        let alloc = self.rt.alloc();
-        let frames = frames_of(alloc, &encode(alloc, message)?)?;
+        let frames = frames_with(self.rt.alloc(), message)?;
+        self.read_new(frames.as_slice())?;
+        self.read_in_place(message, frames.as_slice())
+    }
+
+    fn read_new(&self, frames: &[u8]) -> io::Result<()> {
         let start = Instant::now(self.rt)?;
-        let mut elements: usize = 0;
-        for _ in 0..self.rounds {
-            elements = elements.wrapping_add(decode_frames(alloc, &frames));
-        }
-        self.report("elements decoded", elements, start)?;
+        let elements = decode_rounds(self.rt.alloc(), frames, self.rounds);
+        self.report("elements decoded", elements, start)
+    }
+
+    /// Reads the frames in the place of a copy of the message, and writes what was read last.
+    fn read_in_place(&self, message: &Message, frames: &[u8]) -> io::Result<()> {
         let mut place = message.copy()?;
-        let start = Instant::now(self.rt)?;
-        let mut elements: usize = 0;
-        for _ in 0..self.rounds {
-            elements = elements.wrapping_add(read_frames(&mut place, &frames));
-        }
-        self.report("elements decoded in place", elements, start)?;
+        self.read_into(&mut place, frames)?;
         self.write("bytes encoded", &place)
+    }
+
+    fn read_into(&self, place: &mut Message, frames: &[u8]) -> io::Result<()> {
+        let start = Instant::now(self.rt)?;
+        let elements = read_rounds(place, frames, self.rounds);
+        self.report("elements decoded in place", elements, start)
     }
 
     /// Writes a message, in new memory and in a buffer's own.
@@ -262,40 +292,57 @@ impl<'a> Bench<'a> {
     }
 }
 
+/// The rounds that a word names; two where it names none.
+fn rounds_of(word: Option<String>) -> u32 {
+    match word {
+        Some(word) => word.parse().unwrap_or(2),
+        None => 2,
+    }
+}
+
+fn is_time(word: Option<String>) -> bool {
+    match word {
+        Some(word) => word.as_str() == "time",
+        None => false,
+    }
+}
+
 /// The rounds that the first argument names, and whether the second asks for times.
 fn arguments(rt: &HostRuntime) -> io::Result<(u32, bool)> {
-    let mut rounds: u32 = 2;
-    let mut timed = false;
-    for (place, word) in std::env::args(rt)?.enumerate() {
-        if place == 1 {
-            rounds = word.parse().unwrap_or(2);
-        }
-        if place == 2 {
-            timed = word.as_str() == "time";
-        }
-    }
+    let mut words = std::env::args(rt)?.skip(1);
+    let rounds = rounds_of(words.next());
+    let timed = is_time(words.next());
     Ok((rounds, timed))
 }
 
-fn main(rt: HostRuntime) -> io::Result<()> {
-    let alloc = rt.alloc();
-    let (rounds, timed) = arguments(&rt)?;
-    if let (Ok(short), Ok(mixed)) = (decode(alloc, SHORT), mixed(alloc)) {
-        for (name, message) in [("short", &short), ("mixed", &mixed)] {
-            let bench = Bench {
-                rt: &rt,
-                name,
-                rounds,
-                timed,
-            };
-            bench.run(message)?;
-        }
-    }
+/// All of it on the message, where there is one.
+fn run(rt: &HostRuntime, name: &str, message: Option<Message>, rounds: u32, timed: bool) -> io::Result<()> {
+    let Some(message) = message else {
+        return Ok(());
+    };
     let bench = Bench {
-        rt: &rt,
+        rt,
+        name,
+        rounds,
+        timed,
+    };
+    bench.run(&message)
+}
+
+/// The lines without a byte are printed, which are no messages.
+fn run_on_empty_lines(rt: &HostRuntime, rounds: u32, timed: bool) -> io::Result<()> {
+    let bench = Bench {
+        rt,
         name: "empty lines",
         rounds,
         timed,
     };
     bench.print(b"")
+}
+
+fn main(rt: HostRuntime) -> io::Result<()> {
+    let (rounds, timed) = arguments(&rt)?;
+    run(&rt, "short", decode(rt.alloc(), SHORT).ok(), rounds, timed)?;
+    run(&rt, "mixed", mixed(rt.alloc()).ok(), rounds, timed)?;
+    run_on_empty_lines(&rt, rounds, timed)
 }
