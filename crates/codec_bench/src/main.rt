@@ -316,7 +316,13 @@ fn arguments(rt: &HostRuntime) -> io::Result<(u32, bool)> {
 }
 
 /// All of it on the message, where there is one.
-fn run(rt: &HostRuntime, name: &str, message: Option<Message>, rounds: u32, timed: bool) -> io::Result<()> {
+fn run(
+    rt: &HostRuntime,
+    name: &str,
+    message: Option<Message>,
+    rounds: u32,
+    timed: bool,
+) -> io::Result<()> {
     let Some(message) = message else {
         return Ok(());
     };
