@@ -163,15 +163,20 @@ struct Desk {
 impl Desk {
     /// Slots with the letters a, b and c, which stand in this order in the list of each family.
     fn new(alloc: Global) -> Result<Desk, AllocError> {
+        let letters = Letters::new(alloc)?;
         let mut desk = Desk {
             alloc,
-            letters: Letters::new(alloc)?,
+            letters,
             slots: Vec::new(alloc),
         };
-        for letter in [b'a', b'b', b'c'] {
-            desk.begin(letter)?;
-        }
+        desk.begin_all()?;
         Ok(desk)
+    }
+
+    fn begin_all(&mut self) -> Result<(), AllocError> {
+        self.begin(b'a')?;
+        self.begin(b'b')?;
+        self.begin(b'c')
     }
 
     fn begin(&mut self, letter: u8) -> Result<(), AllocError> {
@@ -243,26 +248,42 @@ impl Desk {
     }
 }
 
-/// The slots after some steps; none where one could not be made.
-fn after(alloc: Global, steps: &[Step]) -> Result<Option<Desk>, AllocError> {
-    let mut desk = Desk::new(alloc)?;
+/// Whether all steps could be made.
+fn does_all(desk: &mut Desk, steps: &[Step]) -> Result<bool, AllocError> {
     for step in steps {
         if !desk.does(*step)? {
-            return Ok(None);
+            return Ok(false);
         }
     }
-    Ok(Some(desk))
+    Ok(true)
+}
+
+fn lists_in(desk: &mut Desk, steps: &[Step], wanted: [&str; 3]) -> Result<bool, AllocError> {
+    Ok(
+        does_all(desk, steps)?
+            && desk.says(Family::Bucket, wanted[0])?
+            && desk.says(Family::Card, wanted[1])?
+            && desk.says(Family::Link, wanted[2])?,
+    )
 }
 
 /// Whether the lists of the families `Bucket`, `Card` and `Link` are these after some steps.
 pub(crate) fn lists(alloc: Global, steps: &[Step], wanted: [&str; 3]) -> Result<bool, AllocError> {
-    let Some(desk) = after(alloc, steps)? else {
-        return Ok(false);
-    };
+    let mut desk = Desk::new(alloc)?;
+    lists_in(&mut desk, steps, wanted)
+}
+
+fn neighbours_in(
+    desk: &mut Desk,
+    steps: &[Step],
+    family: Family,
+    place: usize,
+    wanted: [&str; 2],
+) -> Result<bool, AllocError> {
     Ok(
-        desk.says(Family::Bucket, wanted[0])?
-            && desk.says(Family::Card, wanted[1])?
-            && desk.says(Family::Link, wanted[2])?,
+        does_all(desk, steps)?
+            && desk.walks(family, place, false, wanted[0])?
+            && desk.walks(family, place, true, wanted[1])?,
     )
 }
 
@@ -274,8 +295,6 @@ pub(crate) fn neighbours(
     place: usize,
     wanted: [&str; 2],
 ) -> Result<bool, AllocError> {
-    let Some(desk) = after(alloc, steps)? else {
-        return Ok(false);
-    };
-    Ok(desk.walks(family, place, false, wanted[0])? && desk.walks(family, place, true, wanted[1])?)
+    let mut desk = Desk::new(alloc)?;
+    neighbours_in(&mut desk, steps, family, place, wanted)
 }

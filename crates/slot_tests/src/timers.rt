@@ -29,15 +29,20 @@ fn capacity() -> u32 {
 impl Timers {
     /// Slots with the letters a, b and c, none of which is armed.
     fn new(alloc: Global) -> Result<Timers, AllocError> {
+        let wheel = Wheel::new(alloc, capacity(), 1, 1)?;
         let mut timers = Timers {
             alloc,
-            wheel: Wheel::new(alloc, capacity(), 1, 1)?,
+            wheel,
             slots: Vec::new(alloc),
         };
-        for letter in [b'a', b'b', b'c'] {
-            timers.hold(letter)?;
-        }
+        timers.hold_all()?;
         Ok(timers)
+    }
+
+    fn hold_all(&mut self) -> Result<(), AllocError> {
+        self.hold(b'a')?;
+        self.hold(b'b')?;
+        self.hold(b'c')
     }
 
     fn hold(&mut self, letter: u8) -> Result<(), AllocError> {
@@ -115,13 +120,17 @@ impl Timers {
     }
 }
 
-/// The first step that goes otherwise.
-pub(crate) fn first_wrong(alloc: Global, steps: &[Step]) -> Result<Option<usize>, AllocError> {
-    let mut timers = Timers::new(alloc)?;
-    for (place, step) in steps.iter().enumerate() {
-        if !timers.does(*step)? {
+fn first_wrong_in(timers: &mut Timers, steps: &[Step]) -> Result<Option<usize>, AllocError> {
+    for place in 0..steps.len() {
+        if !timers.does(steps[place])? {
             return Ok(Some(place));
         }
     }
     Ok(None)
+}
+
+/// The first step that goes otherwise.
+pub(crate) fn first_wrong(alloc: Global, steps: &[Step]) -> Result<Option<usize>, AllocError> {
+    let mut timers = Timers::new(alloc)?;
+    first_wrong_in(&mut timers, steps)
 }

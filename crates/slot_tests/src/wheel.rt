@@ -5,7 +5,7 @@ use std::test::*;
 /// What is due at one tick comes in the order of arming, and what is due after 4,000 ticks comes then.
 #[test]
 fn arming_order(rt: HostRuntime) -> Result<(), Fail> {
-    let steps = [
+    const STEPS: &[Step] = &[
         Step::Arm(0, 4000),
         Step::Arm(2, 1),
         Step::Arm(1, 1),
@@ -14,14 +14,14 @@ fn arming_order(rt: HostRuntime) -> Result<(), Fail> {
         Step::Tick("a"),
         Step::Quiet(1),
     ];
-    assert_eq!(rt; first_wrong(rt.alloc(), &steps)?, None);
+    assert_eq!(rt; first_wrong(rt.alloc(), STEPS)?, None);
     Ok(())
 }
 
 /// What is disarmed is not due; armed again, it comes behind those that were armed before.
 #[test]
 fn disarmed_and_armed_again(rt: HostRuntime) -> Result<(), Fail> {
-    let steps = [
+    const STEPS: &[Step] = &[
         Step::Arm(0, 2),
         Step::Arm(1, 2),
         Step::Arm(2, 2),
@@ -33,6 +33,6 @@ fn disarmed_and_armed_again(rt: HostRuntime) -> Result<(), Fail> {
         Step::Arm(1, 1),
         Step::Tick("b"),
     ];
-    assert_eq!(rt; first_wrong(rt.alloc(), &steps)?, None);
+    assert_eq!(rt; first_wrong(rt.alloc(), STEPS)?, None);
     Ok(())
 }

@@ -6,9 +6,42 @@ use std::alloc::{AllocError, Global};
 /// The ticks after which items are due again.
 const TICKS: u16 = 3;
 
+/// A line of a test. Advices and grants are named by their numbers.
+#[derive(Clone, Copy)]
+pub(crate) enum Step {
+    /// Storing an advice answers this.
+    Store(u32, Option<StoreFault>),
+    /// So many advices are stored, with numbers from the first on.
+    StoreAll(u32, u32),
+    /// So many places are reserved, and an advice is stored on one of them.
+    StoreReserved(u32, u32),
+    /// Storing a grant answers this.
+    Lend(u64, Option<GrantFault>),
+    /// Takes out what is held.
+    Ack(Name),
+    /// There is nothing to be taken out.
+    NotHeld(Name),
+    /// Marks an advice that is held as put.
+    Put(u32),
+    /// A tick at which these are due, in this order.
+    Tick(&'static [Name]),
+    /// Reserving so many places answers this.
+    Reserve(u32, Option<StoreFault>),
+    /// So many places are reserved, and then given back.
+    GiveBack(u32),
+    /// Noting an identity answers this.
+    Note(u32, Option<StoreFault>),
+    /// Whether the identity is known, and its advice held.
+    Known(u32, bool, bool),
+    /// Whether the advice is held and was put.
+    WasPut(u32, bool),
+    /// Whether the grant is held.
+    Lent(u64, bool),
+}
+
 /// A book of a test.
 #[derive(Drop)]
-pub(crate) struct Desk {
+struct Desk {
     alloc: Global,
     book: AdviceBook,
 }
@@ -43,15 +76,13 @@ fn reserve_and_give_back(book: &mut AdviceBook, count: u32) -> Result<(), StoreF
 }
 
 impl Desk {
-    pub(crate) fn new(alloc: Global) -> Result<Desk, AllocError> {
-        Ok(Desk {
-            alloc,
-            book: AdviceBook::new(alloc, TICKS)?,
-        })
+    fn new(alloc: Global) -> Result<Desk, AllocError> {
+        let book = AdviceBook::new(alloc, TICKS)?;
+        Ok(Desk { alloc, book })
     }
 
     /// Whether storing an advice answers this; what comes back is the advice.
-    pub(crate) fn stores(&mut self, number: u32, wanted: Option<StoreFault>) -> bool {
+    fn stores(&mut self, number: u32, wanted: Option<StoreFault>) -> bool {
         match self.book.store(advice(self.alloc, number), false) {
             Ok(()) => wanted.is_none(),
             Err((fault, back)) => wanted == Some(fault) && back.id == id(number),
@@ -59,7 +90,7 @@ impl Desk {
     }
 
     /// Whether so many advices are stored, with numbers from the first on.
-    pub(crate) fn stores_all(&mut self, first: u32, count: u32) -> bool {
+    fn stores_all(&mut self, first: u32, count: u32) -> bool {
         for i in 0..count {
             if !self.stores(first.wrapping_add(i), None) {
                 return false;
@@ -69,13 +100,13 @@ impl Desk {
     }
 
     /// Whether so many places are reserved, and an advice is stored on one of them.
-    pub(crate) fn stores_reserved(&mut self, count: u32, number: u32) -> bool {
+    fn stores_reserved(&mut self, count: u32, number: u32) -> bool {
         let advice = advice(self.alloc, number);
         reserve_and_store(&mut self.book, count, advice).is_ok()
     }
 
     /// Whether storing a grant answers this.
-    pub(crate) fn lends(&mut self, number: u64, wanted: Option<GrantFault>) -> bool {
+    fn lends(&mut self, number: u64, wanted: Option<GrantFault>) -> bool {
         match grant(number) {
             Ok(grant) => self.book.store_grant(grant).err() == wanted,
             Err(_) => false,
@@ -83,7 +114,7 @@ impl Desk {
     }
 
     /// Takes an item out, and says whether it was held.
-    pub(crate) fn acks(&mut self, name: Name) -> bool {
+    fn acks(&mut self, name: Name) -> bool {
         match name {
             Name::Advice(number) => self.book.ack(&id(number)),
             Name::Grant(number) => self.book.ack_grant(number),
@@ -91,7 +122,7 @@ impl Desk {
     }
 
     /// Marks an advice as put, if it is held.
-    pub(crate) fn puts(&mut self, number: u32) -> bool {
+    fn puts(&mut self, number: u32) -> bool {
         let id = id(number);
         if !self.book.holds(&id) {
             return false;
@@ -109,29 +140,29 @@ impl Desk {
     }
 
     /// Whether the next tick has these, and looks at no more than these and one.
-    pub(crate) fn ticks(&mut self, wanted: &[Name]) -> bool {
+    fn ticks(&mut self, wanted: &[Name]) -> bool {
         let same = self.is_due(wanted);
         self.book.tick();
         same && self.book.visits() <= (wanted.len() as u64).saturating_add(1)
     }
 
     /// Whether reserving so many places answers this.
-    pub(crate) fn reserves(&mut self, count: u32, wanted: Option<StoreFault>) -> bool {
+    fn reserves(&mut self, count: u32, wanted: Option<StoreFault>) -> bool {
         self.book.reserve(count).err() == wanted
     }
 
     /// Whether so many places are reserved, and then given back.
-    pub(crate) fn gives_back(&mut self, count: u32) -> bool {
+    fn gives_back(&mut self, count: u32) -> bool {
         reserve_and_give_back(&mut self.book, count).is_ok()
     }
 
     /// Whether noting an identity answers this.
-    pub(crate) fn notes(&mut self, number: u32, wanted: Option<StoreFault>) -> bool {
+    fn notes(&mut self, number: u32, wanted: Option<StoreFault>) -> bool {
         self.book.note(id(number)).err() == wanted
     }
 
     /// Whether this is so: the identity is known, and its advice held.
-    pub(crate) fn is_known(&self, number: u32, known: bool, held: bool) -> bool {
+    fn is_known(&self, number: u32, known: bool, held: bool) -> bool {
         let id = id(number);
         self.book.known(&id) == known
             && self.book.holds(&id) == held
@@ -139,7 +170,7 @@ impl Desk {
     }
 
     /// Whether the advice is held and was put.
-    pub(crate) fn was_put(&self, number: u32) -> bool {
+    fn was_put(&self, number: u32) -> bool {
         match self.book.get(&id(number)) {
             Some(advice) => advice.put,
             None => false,
@@ -147,10 +178,44 @@ impl Desk {
     }
 
     /// Whether the grant is held, and is the one that was stored.
-    pub(crate) fn is_lent(&self, number: u64) -> bool {
+    fn is_lent(&self, number: u64) -> bool {
         match self.book.grant(number) {
             Some(held) => Ok(*held) == grant(number),
             None => false,
         }
     }
+    /// Whether a step goes as it says.
+    fn does(&mut self, step: Step) -> bool {
+        match step {
+            Step::Store(number, wanted) => self.stores(number, wanted),
+            Step::StoreAll(first, count) => self.stores_all(first, count),
+            Step::StoreReserved(count, number) => self.stores_reserved(count, number),
+            Step::Lend(number, wanted) => self.lends(number, wanted),
+            Step::Ack(name) => self.acks(name),
+            Step::NotHeld(name) => !self.acks(name),
+            Step::Put(number) => self.puts(number),
+            Step::Tick(wanted) => self.ticks(wanted),
+            Step::Reserve(count, wanted) => self.reserves(count, wanted),
+            Step::GiveBack(count) => self.gives_back(count),
+            Step::Note(number, wanted) => self.notes(number, wanted),
+            Step::Known(number, known, held) => self.is_known(number, known, held),
+            Step::WasPut(number, put) => self.was_put(number) == put,
+            Step::Lent(number, lent) => self.is_lent(number) == lent,
+        }
+    }
+}
+
+fn first_wrong_in(desk: &mut Desk, steps: &[Step]) -> Option<usize> {
+    for place in 0..steps.len() {
+        if !desk.does(steps[place]) {
+            return Some(place);
+        }
+    }
+    None
+}
+
+/// The first step that goes otherwise.
+pub(crate) fn first_wrong(alloc: Global, steps: &[Step]) -> Result<Option<usize>, AllocError> {
+    let mut desk = Desk::new(alloc)?;
+    Ok(first_wrong_in(&mut desk, steps))
 }

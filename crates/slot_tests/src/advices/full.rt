@@ -1,5 +1,5 @@
 //! A book with as many places taken as it has.
-use crate::advices::desk::Desk;
+use crate::advices::desk::{Step, first_wrong};
 use crate::advices::words::Name;
 use advice_book::{GrantFault, StoreFault};
 use std::test::*;
@@ -7,61 +7,69 @@ use std::test::*;
 /// One more is refused, a tick looks at none of those stored, and a place that is given up is free again.
 #[test]
 fn the_last_place(rt: HostRuntime) -> Result<(), Fail> {
-    let mut desk = Desk::new(rt.alloc())?;
-    assert!(rt; desk.stores_all(0, 65_535));
-    assert!(rt; desk.lends(1, None));
-    assert!(rt; desk.stores(65_535, Some(StoreFault::Full)));
-    assert!(rt; desk.lends(2, Some(GrantFault::Full)));
-    assert!(rt; desk.lends(1, None));
-    assert!(rt; desk.reserves(1, Some(StoreFault::Full)));
-    assert!(rt; desk.ticks(&[]));
-    assert!(rt; desk.acks(Name::Advice(7)));
-    assert!(rt; desk.stores(65_535, None));
-    assert!(rt; desk.stores(65_536, Some(StoreFault::Full)));
-    assert!(rt; desk.acks(Name::Grant(1)));
-    assert!(rt; desk.lends(2, None));
-    assert!(rt; desk.lends(3, Some(GrantFault::Full)));
-    assert!(rt; desk.ticks(&[]));
+    const STEPS: &[Step] = &[
+        Step::StoreAll(0, 65_535),
+        Step::Lend(1, None),
+        Step::Store(65_535, Some(StoreFault::Full)),
+        Step::Lend(2, Some(GrantFault::Full)),
+        Step::Lend(1, None),
+        Step::Reserve(1, Some(StoreFault::Full)),
+        Step::Tick(&[]),
+        Step::Ack(Name::Advice(7)),
+        Step::Store(65_535, None),
+        Step::Store(65_536, Some(StoreFault::Full)),
+        Step::Ack(Name::Grant(1)),
+        Step::Lend(2, None),
+        Step::Lend(3, Some(GrantFault::Full)),
+        Step::Tick(&[]),
+    ];
+    assert_eq!(rt; first_wrong(rt.alloc(), STEPS)?, None);
     Ok(())
 }
 
 /// An identity is noted where no place is free, and takes none.
 #[test]
 fn noted_in_a_full_book(rt: HostRuntime) -> Result<(), Fail> {
-    let mut desk = Desk::new(rt.alloc())?;
-    assert!(rt; desk.reserves(65_536, None));
-    assert!(rt; desk.notes(1, None));
-    assert!(rt; desk.is_known(1, true, false));
-    assert!(rt; desk.notes(1, Some(StoreFault::Known)));
-    assert!(rt; desk.stores(2, Some(StoreFault::Full)));
-    assert!(rt; desk.is_known(2, false, false));
-    assert!(rt; desk.ticks(&[]));
+    const STEPS: &[Step] = &[
+        Step::Reserve(65_536, None),
+        Step::Note(1, None),
+        Step::Known(1, true, false),
+        Step::Note(1, Some(StoreFault::Known)),
+        Step::Store(2, Some(StoreFault::Full)),
+        Step::Known(2, false, false),
+        Step::Tick(&[]),
+    ];
+    assert_eq!(rt; first_wrong(rt.alloc(), STEPS)?, None);
     Ok(())
 }
 
 /// Reserved places are taken like others, until they are used or given back.
 #[test]
 fn reserved_places(rt: HostRuntime) -> Result<(), Fail> {
-    let mut desk = Desk::new(rt.alloc())?;
-    assert!(rt; desk.reserves(65_537, Some(StoreFault::Full)));
-    assert!(rt; desk.gives_back(65_536));
-    assert!(rt; desk.reserves(65_534, None));
-    assert!(rt; desk.stores_reserved(2, 1));
-    assert!(rt; desk.is_known(1, true, true));
-    assert!(rt; desk.reserves(1, Some(StoreFault::Full)));
-    assert!(rt; desk.lends(1, Some(GrantFault::Full)));
-    assert!(rt; desk.acks(Name::Advice(1)));
-    assert!(rt; desk.reserves(1, None));
-    assert!(rt; desk.reserves(1, Some(StoreFault::Full)));
+    const STEPS: &[Step] = &[
+        Step::Reserve(65_537, Some(StoreFault::Full)),
+        Step::GiveBack(65_536),
+        Step::Reserve(65_534, None),
+        Step::StoreReserved(2, 1),
+        Step::Known(1, true, true),
+        Step::Reserve(1, Some(StoreFault::Full)),
+        Step::Lend(1, Some(GrantFault::Full)),
+        Step::Ack(Name::Advice(1)),
+        Step::Reserve(1, None),
+        Step::Reserve(1, Some(StoreFault::Full)),
+    ];
+    assert_eq!(rt; first_wrong(rt.alloc(), STEPS)?, None);
     Ok(())
 }
 
 /// The whole book reserved leaves no place.
 #[test]
 fn all_reserved(rt: HostRuntime) -> Result<(), Fail> {
-    let mut desk = Desk::new(rt.alloc())?;
-    assert!(rt; desk.reserves(65_536, None));
-    assert!(rt; desk.reserves(1, Some(StoreFault::Full)));
-    assert!(rt; desk.reserves(0, None));
+    const STEPS: &[Step] = &[
+        Step::Reserve(65_536, None),
+        Step::Reserve(1, Some(StoreFault::Full)),
+        Step::Reserve(0, None),
+    ];
+    assert_eq!(rt; first_wrong(rt.alloc(), STEPS)?, None);
     Ok(())
 }

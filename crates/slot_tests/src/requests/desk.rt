@@ -84,10 +84,8 @@ fn close(book: &mut PendingBook, key: &Key, answer: Vec<u8>) -> bool {
 
 impl Desk {
     fn new(alloc: Global) -> Result<Desk, AllocError> {
-        Ok(Desk {
-            alloc,
-            book: PendingBook::new(alloc)?,
-        })
+        let book = PendingBook::new(alloc)?;
+        Ok(Desk { alloc, book })
     }
 
     fn opens(&mut self, number: u32, shape: Shape) -> bool {
@@ -166,13 +164,17 @@ impl Desk {
     }
 }
 
-/// The first step that goes otherwise.
-pub(crate) fn first_wrong(alloc: Global, steps: &[Step]) -> Result<Option<usize>, AllocError> {
-    let mut desk = Desk::new(alloc)?;
-    for (place, step) in steps.iter().enumerate() {
-        if !desk.does(*step)? {
+fn first_wrong_in(desk: &mut Desk, steps: &[Step]) -> Result<Option<usize>, AllocError> {
+    for place in 0..steps.len() {
+        if !desk.does(steps[place])? {
             return Ok(Some(place));
         }
     }
     Ok(None)
+}
+
+/// The first step that goes otherwise.
+pub(crate) fn first_wrong(alloc: Global, steps: &[Step]) -> Result<Option<usize>, AllocError> {
+    let mut desk = Desk::new(alloc)?;
+    first_wrong_in(&mut desk, steps)
 }

@@ -1,6 +1,6 @@
 //! Keys that a map can't tell apart by their hashes.
 use crate::requests::desk::{Step, first_wrong};
-use crate::requests::words::{SAME_HASH, hash, plain};
+use crate::requests::words::{SAME_HASH, Shape, hash};
 use std::test::*;
 
 const FIRST: u32 = SAME_HASH[0];
@@ -17,12 +17,12 @@ fn they_have_one_hash(rt: HostRuntime) -> Result<(), Fail> {
 /// Each is found by itself.
 #[test]
 fn told_apart(rt: HostRuntime) -> Result<(), Fail> {
-    let steps = [
-        Step::Open(FIRST, plain(3)),
+    const STEPS: &[Step] = &[
+        Step::Open(FIRST, Shape::Plain(3)),
         Step::Mark(SECOND),
         Step::Known(FIRST, true, None, false),
         Step::Known(SECOND, false, None, true),
-        Step::Open(SECOND, plain(3)),
+        Step::Open(SECOND, Shape::Plain(3)),
         Step::Close(SECOND, "00"),
         Step::Known(FIRST, true, None, false),
         Step::Known(SECOND, true, Some("00"), true),
@@ -30,6 +30,6 @@ fn told_apart(rt: HostRuntime) -> Result<(), Fail> {
         Step::Tick(&[]),
         Step::Tick(&[FIRST]),
     ];
-    assert_eq!(rt; first_wrong(rt.alloc(), &steps)?, None);
+    assert_eq!(rt; first_wrong(rt.alloc(), STEPS)?, None);
     Ok(())
 }

@@ -5,38 +5,15 @@ use pending_book::{Request, Source};
 use std::alloc::Global;
 use std::hash::{FoldHasher, Hash, Hasher};
 
-/// What a test says of a request: its card, the place of its link, and the ticks that it waits.
+/// What a test says of a request.
 #[derive(Clone, Copy)]
-pub(crate) struct Shape {
-    pub(crate) card: Option<&'static str>,
-    pub(crate) link: Option<u8>,
-    pub(crate) ticks: u16,
-}
-
-/// Neither card nor link.
-pub(crate) fn plain(ticks: u16) -> Shape {
-    Shape {
-        card: None,
-        link: None,
-        ticks,
-    }
-}
-
-pub(crate) fn of_card(card: &'static str, link: u8) -> Shape {
-    Shape {
-        card: Some(card),
-        link: Some(link),
-        ticks: 10,
-    }
-}
-
-/// The same for one tick.
-pub(crate) fn due_at_once(card: &'static str, link: u8) -> Shape {
-    Shape {
-        card: Some(card),
-        link: Some(link),
-        ticks: 1,
-    }
+pub(crate) enum Shape {
+    /// Neither card nor link. The request waits for so many ticks.
+    Plain(u16),
+    /// A card, and the place of a link. The request waits for ten ticks.
+    OfCard(&'static str, u8),
+    /// The same for one tick.
+    DueAtOnce(&'static str, u8),
 }
 
 fn digits(number: u32) -> [u8; 6] {
@@ -83,30 +60,24 @@ pub(crate) fn card(text: &str) -> Option<Card> {
     Card::read(text.as_bytes()).ok()
 }
 
-fn card_if(text: Option<&str>) -> Option<Card> {
-    match text {
-        Some(text) => card(text),
-        None => None,
-    }
-}
-
 pub(crate) fn link(place: u8) -> LinkNo {
     LinkNo::new(place as usize)
 }
 
-fn link_if(place: Option<u8>) -> Option<LinkNo> {
-    match place {
-        Some(place) => Some(link(place)),
-        None => None,
+fn request_of(alloc: Global, card: Option<Card>, link: Option<LinkNo>, ticks: u16) -> Request {
+    Request {
+        message: Message::new(alloc, Kind::K0100),
+        card,
+        source: Source::Gate,
+        link,
+        ticks,
     }
 }
 
 pub(crate) fn request(alloc: Global, shape: Shape) -> Request {
-    Request {
-        message: Message::new(alloc, Kind::K0100),
-        card: card_if(shape.card),
-        source: Source::Gate,
-        link: link_if(shape.link),
-        ticks: shape.ticks,
+    match shape {
+        Shape::Plain(ticks) => request_of(alloc, None, None, ticks),
+        Shape::OfCard(text, place) => request_of(alloc, card(text), Some(link(place)), 10),
+        Shape::DueAtOnce(text, place) => request_of(alloc, card(text), Some(link(place)), 1),
     }
 }
