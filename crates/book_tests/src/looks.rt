@@ -69,31 +69,43 @@ fn stored_still(changes: &Changes, id: AdviceId) -> bool {
     changes.advice_after(id, STORED).stored
 }
 
+/// Whether link 1 went down and link 2 stayed up.
+fn one_link_is_down(changes: &Changes) -> bool {
+    link_seen(changes, LinkNo::new(1)) == (false, true)
+        && link_seen(changes, LinkNo::new(2)) == (true, true)
+}
+
+/// Whether one advice is acknowledged and the other is still stored.
+fn one_is_stored(changes: &Changes) -> bool {
+    !stored_still(changes, ID) && stored_still(changes, OTHER)
+}
+
+fn has_no_link(changes: &Changes) -> bool {
+    changes.forwarded_after(KEY, NO_REQUEST).link.is_none()
+}
+
+/// Whether there are so many changes and ticks, and those of the link and of the advice are seen.
+fn are_seen(changes: &Changes, len: usize, late: bool, ticks: u64) -> bool {
+    changes.len() == len
+        && changes.is_next_late() == late
+        && ticks_seen(changes) == ticks
+        && one_link_is_down(changes)
+        && one_is_stored(changes)
+}
+
 #[test]
 fn after_few_changes(rt: HostRuntime) -> Result<(), Fail> {
     let changes = changed(rt.alloc(), 2)?;
-    assert!(rt; changes.len() == 4);
-    assert!(rt; !changes.is_next_late());
-    assert!(rt; ticks_seen(&changes) == 102);
-    assert!(rt; link_seen(&changes, LinkNo::new(1)) == (false, true));
-    assert!(rt; link_seen(&changes, LinkNo::new(2)) == (true, true));
-    assert!(rt; !stored_still(&changes, ID));
-    assert!(rt; stored_still(&changes, OTHER));
+    assert!(rt; are_seen(&changes, 4, false, 102));
     Ok(())
 }
 
 #[test]
 fn after_many_changes(rt: HostRuntime) -> Result<(), Fail> {
     let changes = changed(rt.alloc(), 1000)?;
-    assert!(rt; changes.len() == 1002);
-    assert!(rt; changes.is_next_late());
-    assert!(rt; changes.first().len() == 8);
-    assert!(rt; ticks_seen(&changes) == 1100);
-    assert!(rt; link_seen(&changes, LinkNo::new(1)) == (false, true));
-    assert!(rt; link_seen(&changes, LinkNo::new(2)) == (true, true));
-    assert!(rt; !stored_still(&changes, ID));
-    assert!(rt; stored_still(&changes, OTHER));
-    assert!(rt; changes.forwarded_after(KEY, NO_REQUEST).link.is_none());
+    assert!(rt;
+        are_seen(&changes, 1002, true, 1100) && changes.first().len() == 8 && has_no_link(&changes)
+    );
     Ok(())
 }
 
@@ -107,17 +119,32 @@ fn books_after(alloc: Global, date: DateLabel, changes: &mut Changes) -> Result<
     Ok(books)
 }
 
-#[test]
-fn applied_and_cleared(rt: HostRuntime) -> Result<(), Fail> {
-    let alloc = rt.alloc();
-    let date = DateLabel::read(b"0314").ok().ok_or("date")?;
-    let mut changes = changed(alloc, 20)?;
-    let books = books_after(alloc, date, &mut changes)?;
-    assert!(rt; books.count() == 20);
-    assert!(rt; changes.len() == 0);
-    assert!(rt; link_seen(&changes, LinkNo::new(1)) == (true, true));
+/// How many ticks new books have after the changes.
+fn ticks_applied(alloc: Global, date: DateLabel, changes: &mut Changes) -> Result<u64, AllocError>
+    requires { length changes.old ≤ 2 ^ 62 }
+{
+    let books = books_after(alloc, date, changes)?;
+    Ok(books.count())
+}
+
+/// Whether there is no change, and link 1 is as it was.
+fn is_as_before(changes: &Changes) -> bool {
+    changes.len() == 0 && link_seen(changes, LinkNo::new(1)) == (true, true)
+}
+
+/// The ticks that are seen after one was cleared.
+fn ticks_cleared(changes: &mut Changes) -> Result<u64, Fail> {
     changes.push(Effect::Ticked)?;
     changes.clear();
-    assert!(rt; ticks_seen(&changes) == 100);
+    Ok(ticks_seen(changes))
+}
+
+#[test]
+fn applied_and_cleared(rt: HostRuntime) -> Result<(), Fail> {
+    let date = DateLabel::read(b"0314")?;
+    let mut changes = changed(rt.alloc(), 20)?;
+    let applied = ticks_applied(rt.alloc(), date, &mut changes)?;
+    assert!(rt; applied == 20 && is_as_before(&changes));
+    assert!(rt; ticks_cleared(&mut changes)? == 100);
     Ok(())
 }

@@ -2,6 +2,7 @@
 
 use card_digits::{Amount, Card, DateLabel, DigitFault};
 use network_law::{Grant, GrantPacket, packet_bytes, read_packet};
+use std::alloc::{AllocError, Global};
 use std::test::*;
 
 const GRANT: &[u8] = b"GRNT000000010010000000001000000010031641111111111111110314000000000100";
@@ -19,11 +20,15 @@ fn grant() -> Result<Grant, DigitFault> {
     })
 }
 
+fn is_written(alloc: Global, packet: &GrantPacket, wanted: &[u8]) -> Result<bool, AllocError> {
+    let bytes = packet_bytes(alloc, packet)?;
+    Ok(bytes.as_slice() == wanted)
+}
+
 #[test]
 fn grant_there_and_back(rt: HostRuntime) -> Result<(), Fail> {
     let packet = GrantPacket::Grant(grant()?);
-    let bytes = packet_bytes(rt.alloc(), &packet)?;
-    assert_eq!(rt; bytes.as_slice(), GRANT);
+    assert!(rt; is_written(rt.alloc(), &packet, GRANT)?);
     assert!(rt; read_packet(GRANT) == Some(packet));
     Ok(())
 }
@@ -34,8 +39,7 @@ fn acknowledgement_there_and_back(rt: HostRuntime) -> Result<(), Fail> {
         lender: *b"00000001001",
         number: 1,
     };
-    let bytes = packet_bytes(rt.alloc(), &packet)?;
-    assert_eq!(rt; bytes.as_slice(), ACK);
+    assert!(rt; is_written(rt.alloc(), &packet, ACK)?);
     assert!(rt; read_packet(ACK) == Some(packet));
     Ok(())
 }

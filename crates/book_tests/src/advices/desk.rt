@@ -3,16 +3,37 @@ use advice_store::{AdviceStore, KeptAdvice};
 use iso_message::{AdviceId, Message, advice_id, decode};
 use std::alloc::{AllocError, Global};
 
-/// A line of a test. Advices are written out.
+/// The advices of stand-in approvals, with trace numbers 000001 and 000002.
+#[derive(Clone, Copy)]
+pub(crate) enum Advice {
+    First,
+    Second,
+}
+
+/// The bytes of an advice.
+fn text(advice: Advice) -> &'static [u8] {
+    match advice {
+        Advice::First => {
+            b"0120722200018200800016411111111111111100000000000000100003140915300000010314064000010\
+4100100840"
+        }
+        Advice::Second => {
+            b"0120722200018200800016411111111111111100000000000000100003140915300000020314064000010\
+4100100840"
+        }
+    }
+}
+
+/// A line of a test.
 #[derive(Clone, Copy)]
 pub(crate) enum Step {
     /// Stored at a count of ticks.
-    Store(&'static [u8], u64),
-    Note(&'static [u8]),
-    Put(&'static [u8]),
-    Ack(&'static [u8]),
+    Store(Advice, u64),
+    Note(Advice),
+    Put(Advice),
+    Ack(Advice),
     /// Whether it is known, stored, and was put.
-    Is(&'static [u8], bool, bool, bool),
+    Is(Advice, bool, bool, bool),
     /// How many are due at a count, which is that of a tick.
     Due(u64, usize),
 }
@@ -34,29 +55,36 @@ fn kept(message: Message, count: u64) -> Option<KeptAdvice> {
 }
 
 impl Desk {
-    fn read(&self, text: &[u8]) -> Option<Message> {
-        decode(self.alloc, text).ok()
+    fn read(&self, advice: Advice) -> Option<Message> {
+        match decode(self.alloc, text(advice)) {
+            Ok(message) => Some(message),
+            Err(_) => None,
+        }
     }
 
-    fn id(&self, text: &[u8]) -> Option<AdviceId> {
-        advice_id(&self.read(text)?)
+    fn id(&self, advice: Advice) -> Option<AdviceId> {
+        let message = self.read(advice)?;
+        advice_id(&message)
     }
 
-    fn keep(&mut self, advice: KeptAdvice) -> Result<(), AllocError> {
+    fn keep(&mut self, advice: KeptAdvice) -> Result<bool, AllocError> {
         self.store.reserve(1)?;
         self.store.store(advice);
-        Ok(())
+        Ok(true)
     }
 
-    fn stores(&mut self, text: &[u8], count: u64) -> Result<bool, AllocError> {
-        let Some(message) = self.read(text) else {
-            return Ok(false);
-        };
-        let Some(advice) = kept(message, count) else {
-            return Ok(false);
-        };
-        self.keep(advice)?;
-        Ok(true)
+    fn keep_at(&mut self, message: Message, count: u64) -> Result<bool, AllocError> {
+        match kept(message, count) {
+            Some(advice) => self.keep(advice),
+            None => Ok(false),
+        }
+    }
+
+    fn stores(&mut self, advice: Advice, count: u64) -> Result<bool, AllocError> {
+        match self.read(advice) {
+            Some(message) => self.keep_at(message, count),
+            None => Ok(false),
+        }
     }
 
     fn note(&mut self, id: AdviceId) -> Result<(), AllocError> {
@@ -77,6 +105,13 @@ impl Desk {
             && self.store.was_put(id) == put
     }
 
+    fn seems(&self, advice: Advice, known: bool, stored: bool, put: bool) -> bool {
+        match self.id(advice) {
+            Some(id) => self.is(id, known, stored, put),
+            None => false,
+        }
+    }
+
     fn changes(&mut self, step: Step, id: AdviceId) -> Result<bool, AllocError> {
         match step {
             Step::Note(_) => self.note(id)?,
@@ -87,8 +122,8 @@ impl Desk {
         Ok(true)
     }
 
-    fn changes_it(&mut self, step: Step, text: &[u8]) -> Result<bool, AllocError> {
-        match self.id(text) {
+    fn changes_it(&mut self, step: Step, advice: Advice) -> Result<bool, AllocError> {
+        match self.id(advice) {
             Some(id) => self.changes(step, id),
             None => Ok(false),
         }
@@ -96,29 +131,28 @@ impl Desk {
 
     fn does(&mut self, step: Step) -> Result<bool, AllocError> {
         match step {
-            Step::Store(text, count) => self.stores(text, count),
-            Step::Note(text) => self.changes_it(step, text),
-            Step::Put(text) => self.changes_it(step, text),
-            Step::Ack(text) => self.changes_it(step, text),
-            Step::Is(text, known, stored, put) => match self.id(text) {
-                Some(id) => Ok(self.is(id, known, stored, put)),
-                None => Ok(false),
-            },
+            Step::Store(advice, count) => self.stores(advice, count),
+            Step::Note(advice) => self.changes_it(step, advice),
+            Step::Put(advice) => self.changes_it(step, advice),
+            Step::Ack(advice) => self.changes_it(step, advice),
+            Step::Is(advice, known, stored, put) => Ok(self.seems(advice, known, stored, put)),
             Step::Due(now, count) => self.is_due(now, count),
         }
     }
 }
 
-/// The first step that goes otherwise.
-pub(crate) fn first_wrong(alloc: Global, steps: &[Step]) -> Result<Option<usize>, AllocError> {
-    let mut desk = Desk {
-        alloc,
-        store: AdviceStore::new(alloc, ticks())?,
-    };
-    for (place, step) in steps.iter().enumerate() {
-        if !desk.does(*step)? {
+fn first_wrong_in(desk: &mut Desk, steps: &[Step]) -> Result<Option<usize>, AllocError> {
+    for place in 0..steps.len() {
+        if !desk.does(steps[place])? {
             return Ok(Some(place));
         }
     }
     Ok(None)
+}
+
+/// The first step that goes otherwise.
+pub(crate) fn first_wrong(alloc: Global, steps: &[Step]) -> Result<Option<usize>, AllocError> {
+    let store = AdviceStore::new(alloc, ticks())?;
+    let mut desk = Desk { alloc, store };
+    first_wrong_in(&mut desk, steps)
 }

@@ -1,87 +1,161 @@
 //! Grants, stored, sent again and acknowledged.
-
 use advice_store::{AdviceStore, KeptGrant};
-use card_digits::{Amount, Card, DateLabel, NodeNo};
+use card_digits::{Amount, Card, DateLabel, DigitFault, NodeNo};
 use network_law::{Grant, GrantPacket};
+use std::alloc::{AllocError, Global};
 use std::test::*;
 
-/// Stores a grant of this number at a count.
-fn lend(store: &mut AdviceStore, number: u64, count: u64) -> Result<(), Fail> {
-    let grant = Grant {
+/// A line of a test. Grants are named by their numbers.
+#[derive(Clone, Copy)]
+enum Step {
+    /// Stored at a count of ticks.
+    Lend(u64, u64),
+    /// How many are due after three ticks at a count.
+    Due(u64, usize),
+    /// How many are due after two ticks at a count.
+    DueOfTwo(u64, usize),
+    Tick(u64),
+    /// The grant's acknowledgement comes.
+    Ack(u64),
+    /// How many are stored.
+    Stored(usize),
+}
+
+/// A new store is one in which grants are sent again after so many ticks.
+fn ticks() -> u16 {
+    3
+}
+
+fn grant(number: u64) -> Result<Grant, DigitFault> {
+    Ok(Grant {
         lender: *b"00000001001",
         number,
         borrower: *b"00000001003",
         card: Card::read(b"4111111111111111")?,
         date: DateLabel::read(b"0314")?,
         amount: Amount::read(b"000000000100")?,
-    };
+    })
+}
+
+fn store(store: &mut AdviceStore, grant: Grant, count: u64) -> Result<bool, AllocError> {
     store.reserve(1)?;
     store.lend(KeptGrant::new(grant, NodeNo::new(2), count));
-    Ok(())
+    Ok(true)
+}
+
+fn lend(to: &mut AdviceStore, number: u64, count: u64) -> Result<bool, AllocError> {
+    match grant(number) {
+        Ok(grant) => store(to, grant, count),
+        Err(_) => Ok(false),
+    }
+}
+
+fn is_due(store: &AdviceStore, ticks: u16, now: u64, count: usize) -> Result<bool, AllocError> {
+    let due = store.due(ticks, now)?;
+    Ok(due.len() == count)
+}
+
+fn ack(number: u64) -> GrantPacket {
+    GrantPacket::Ack {
+        lender: *b"00000001001",
+        number,
+    }
+}
+
+/// Whether a step goes as it says.
+fn does(store: &mut AdviceStore, step: Step) -> Result<bool, AllocError> {
+    match step {
+        Step::Lend(number, count) => lend(store, number, count),
+        Step::Due(now, count) => is_due(store, ticks(), now, count),
+        Step::DueOfTwo(now, count) => is_due(store, 2, now, count),
+        Step::Tick(now) => {
+            store.tick(now);
+            Ok(true)
+        }
+        Step::Ack(number) => {
+            store.take_packet(&ack(number));
+            Ok(true)
+        }
+        Step::Stored(count) => Ok(store.len() == count),
+    }
+}
+
+fn first_wrong_in(store: &mut AdviceStore, steps: &[Step]) -> Result<Option<usize>, AllocError> {
+    for place in 0..steps.len() {
+        if !does(store, steps[place])? {
+            return Ok(Some(place));
+        }
+    }
+    Ok(None)
+}
+
+/// The first step that goes otherwise in a new store.
+fn first_wrong(alloc: Global, steps: &[Step]) -> Result<Option<usize>, AllocError> {
+    let mut store = AdviceStore::new(alloc, ticks())?;
+    first_wrong_in(&mut store, steps)
 }
 
 #[test]
 fn due_at_each_third_count(rt: HostRuntime) -> Result<(), Fail> {
-    let mut store = AdviceStore::new(rt.alloc(), 3)?;
-    lend(&mut store, 1, 1)?;
-    assert!(rt; store.due(3, 1)?.len() == 0);
-    assert!(rt; store.due(3, 3)?.len() == 0);
-    assert!(rt; store.due(3, 4)?.len() == 1);
-    store.tick(4);
-    assert!(rt; store.due(3, 5)?.len() == 0);
-    assert!(rt; store.due(3, 7)?.len() == 1);
+    const STEPS: &[Step] = &[
+        Step::Lend(1, 1),
+        Step::Due(1, 0),
+        Step::Due(3, 0),
+        Step::Due(4, 1),
+        Step::Tick(4),
+        Step::Due(5, 0),
+        Step::Due(7, 1),
+    ];
+    assert_eq!(rt; first_wrong(rt.alloc(), STEPS)?, None);
     Ok(())
 }
 
 #[test]
 fn due_of_two_classes(rt: HostRuntime) -> Result<(), Fail> {
-    let mut store = AdviceStore::new(rt.alloc(), 3)?;
-    lend(&mut store, 1, 0)?;
-    lend(&mut store, 2, 1)?;
-    lend(&mut store, 3, 0)?;
-    assert!(rt; store.due(3, 3)?.len() == 2);
-    assert!(rt; store.due(3, 4)?.len() == 1);
-    assert!(rt; store.len() == 3);
+    const STEPS: &[Step] = &[
+        Step::Lend(1, 0),
+        Step::Lend(2, 1),
+        Step::Lend(3, 0),
+        Step::Due(3, 2),
+        Step::Due(4, 1),
+        Step::Stored(3),
+    ];
+    assert_eq!(rt; first_wrong(rt.alloc(), STEPS)?, None);
     Ok(())
 }
 
 #[test]
 fn acknowledged_is_not_due(rt: HostRuntime) -> Result<(), Fail> {
-    let mut store = AdviceStore::new(rt.alloc(), 3)?;
-    lend(&mut store, 1, 0)?;
-    lend(&mut store, 2, 0)?;
-    let ack = GrantPacket::Ack {
-        lender: *b"00000001001",
-        number: 1,
-    };
-    store.take_packet(&ack);
-    assert!(rt; store.len() == 1);
-    assert!(rt; store.due(3, 3)?.len() == 1);
-    store.tick(3);
-    store.take_packet(&ack);
-    assert!(rt; store.due(3, 6)?.len() == 1);
+    const STEPS: &[Step] = &[
+        Step::Lend(1, 0),
+        Step::Lend(2, 0),
+        Step::Ack(1),
+        Step::Stored(1),
+        Step::Due(3, 1),
+        Step::Tick(3),
+        Step::Ack(1),
+        Step::Due(6, 1),
+    ];
+    assert_eq!(rt; first_wrong(rt.alloc(), STEPS)?, None);
     Ok(())
 }
 
 #[test]
 fn a_grant_that_is_stored_twice(rt: HostRuntime) -> Result<(), Fail> {
-    let mut store = AdviceStore::new(rt.alloc(), 3)?;
-    lend(&mut store, 1, 0)?;
-    lend(&mut store, 1, 0)?;
-    assert!(rt; store.len() == 2);
-    store.take_packet(&GrantPacket::Ack {
-        lender: *b"00000001001",
-        number: 1,
-    });
-    assert!(rt; store.len() == 0);
+    const STEPS: &[Step] = &[
+        Step::Lend(1, 0),
+        Step::Lend(1, 0),
+        Step::Stored(2),
+        Step::Ack(1),
+        Step::Stored(0),
+    ];
+    assert_eq!(rt; first_wrong(rt.alloc(), STEPS)?, None);
     Ok(())
 }
 
 #[test]
 fn another_number_of_ticks(rt: HostRuntime) -> Result<(), Fail> {
-    let mut store = AdviceStore::new(rt.alloc(), 3)?;
-    lend(&mut store, 1, 0)?;
-    assert!(rt; store.due(2, 2)?.len() == 1);
-    assert!(rt; store.due(2, 3)?.len() == 0);
+    const STEPS: &[Step] = &[Step::Lend(1, 0), Step::DueOfTwo(2, 1), Step::DueOfTwo(3, 0)];
+    assert_eq!(rt; first_wrong(rt.alloc(), STEPS)?, None);
     Ok(())
 }
