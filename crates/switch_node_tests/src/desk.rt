@@ -52,6 +52,8 @@ struct Stepped<'t> {
     node: Node<'t>,
     outputs: Outputs,
     fault: Option<StepFault>,
+    // How many of the outputs the test named.
+    named: usize,
 }
 
 impl<'t> Stepped<'t> {
@@ -61,12 +63,28 @@ impl<'t> Stepped<'t> {
         cert: &Cert,
         place: NodeNo,
     ) -> Result<Stepped<'t>, Fail> {
+        let node = node_at(alloc, tables, cert, place)?;
         Ok(Stepped {
             alloc,
-            node: node_at(alloc, tables, cert, place)?,
+            node,
             outputs: Outputs::new(alloc),
             fault: None,
+            named: 0,
         })
+    }
+
+    /// Whether the test named all that came of the last input.
+    fn is_done(&self) -> bool {
+        self.fault.is_none() && self.named == self.outputs.as_slice().len()
+    }
+
+    fn is_next(&mut self, way: Way, message: &str) -> bool {
+        let Some(output) = self.outputs.as_slice().get(self.named) else {
+            return false;
+        };
+        let found = same_way(way, output.way()) && output.bytes() == message.as_bytes();
+        self.named = self.named.saturating_add(1);
+        found
     }
 
     fn enter(&mut self, text: &str) -> Result<(), Fail> {
@@ -222,87 +240,62 @@ fn same_traces(node: &Node, other: &Node) -> bool {
     same
 }
 
-/// A node, and another one to which everything comes but what the first refuses.
-#[derive(Drop)]
-struct Desk<'t> {
-    node: Stepped<'t>,
-    twin: Stepped<'t>,
-    // How many of the outputs the test named.
-    named: usize,
+/// Gives a node an input, and its twin too where the node accepts it. Then both have the same outputs.
+fn give(
+    node: &mut Stepped,
+    twin: &mut Stepped,
+    given: &Given,
+    message: &str,
+) -> Result<bool, Fail> {
+    let done = node.is_done();
+    node.named = 0;
+    node.give(given, message)?;
+    if node.fault.is_some() {
+        return Ok(done);
+    }
+    twin.give(given, message)?;
+    Ok(done && twin.fault.is_none() && same_outputs(&node.outputs, &twin.outputs))
 }
 
-impl<'t> Desk<'t> {
-    fn new(
-        alloc: Global,
-        tables: &'t Tables,
-        cert: &Cert,
-        place: NodeNo,
-    ) -> Result<Desk<'t>, Fail> {
-        Ok(Desk {
-            node: Stepped::new(alloc, tables, cert, place)?,
-            twin: Stepped::new(alloc, tables, cert, place)?,
-            named: 0,
-        })
-    }
+/// Whether the last input was refused so, nothing was put out, and the trace is what it was.
+fn is_refused(node: &mut Stepped, twin: &Stepped, wanted: StepFault) -> bool {
+    let found = node.fault == Some(wanted);
+    node.fault = None;
+    found && node.outputs.as_slice().is_empty() && same_traces(&node.node, &twin.node)
+}
 
-    /// Whether the test named all that came of the last input.
-    fn is_done(&self) -> bool {
-        self.node.fault.is_none() && self.named == self.node.outputs.as_slice().len()
+fn does(node: &mut Stepped, twin: &mut Stepped, line: &Line, message: &str) -> Result<bool, Fail> {
+    match line {
+        Line::Aside => Ok(true),
+        Line::In(given) => give(node, twin, given, message),
+        Line::Out(way) => Ok(node.is_next(*way, message)),
+        Line::Refused(fault) => Ok(is_refused(node, twin, *fault)),
     }
+}
 
-    /// Gives both nodes an input. What the first accepts has the same outputs at the other one.
-    fn give(&mut self, given: &Given, message: &str) -> Result<bool, Fail> {
-        let done = self.is_done();
-        self.named = 0;
-        self.node.give(given, message)?;
-        if self.node.fault.is_some() {
-            return Ok(done);
-        }
-        self.twin.give(given, message)?;
-        Ok(
-            done && self.twin.fault.is_none()
-                && same_outputs(&self.node.outputs, &self.twin.outputs),
-        )
-    }
-
-    fn is_next(&mut self, way: Way, message: &str) -> bool {
-        let Some(output) = self.node.outputs.as_slice().get(self.named) else {
-            return false;
-        };
-        let found = same_way(way, output.way()) && output.bytes() == message.as_bytes();
-        self.named = self.named.saturating_add(1);
-        found
-    }
-
-    /// Whether the last input was refused so, nothing was put out, and the trace is what it was.
-    fn is_refused(&mut self, wanted: StepFault) -> bool {
-        let found = self.node.fault == Some(wanted);
-        self.node.fault = None;
-        found
-            && self.node.outputs.as_slice().is_empty()
-            && same_traces(&self.node.node, &self.twin.node)
-    }
-
-    fn does(&mut self, line: &Line, message: &str) -> Result<bool, Fail> {
-        match line {
-            Line::Aside => Ok(true),
-            Line::In(given) => self.give(given, message),
-            Line::Out(way) => Ok(self.is_next(*way, message)),
-            Line::Refused(fault) => Ok(self.is_refused(*fault)),
+fn run_both(node: &mut Stepped, twin: &mut Stepped, steps: &[Step]) -> Result<(), Fail> {
+    for step in steps {
+        if !does(node, twin, &step.line, step.message.as_str())? {
+            return Err(Fail::new(step.text));
         }
     }
-
-    fn run(&mut self, steps: &[Step]) -> Result<(), Fail> {
-        for step in steps {
-            if !self.does(&step.line, step.message.as_str())? {
-                return Err(Fail::new(step.text));
-            }
-        }
-        if self.is_done() {
-            return Ok(());
-        }
-        Err("something is left over".into())
+    if node.is_done() {
+        return Ok(());
     }
+    Err("something is left over".into())
+}
+
+/// Makes the twin of a node, to which everything comes but what the node refuses.
+fn run_beside(
+    alloc: Global,
+    tables: &Tables,
+    cert: &Cert,
+    place: NodeNo,
+    node: &mut Stepped,
+    steps: &[Step],
+) -> Result<(), Fail> {
+    let mut twin = Stepped::new(alloc, tables, cert, place)?;
+    run_both(node, &mut twin, steps)
 }
 
 fn run_steps(
@@ -312,8 +305,8 @@ fn run_steps(
     place: NodeNo,
     steps: &[Step],
 ) -> Result<(), Fail> {
-    let mut desk = Desk::new(alloc, tables, cert, place)?;
-    desk.run(steps)
+    let mut node = Stepped::new(alloc, tables, cert, place)?;
+    run_beside(alloc, tables, cert, place, &mut node, steps)
 }
 
 fn run_text(
