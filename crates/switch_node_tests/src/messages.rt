@@ -50,6 +50,12 @@ impl Purchase {
             ["dated_request", kind] => Ok(self.dated_request(alloc, kind)?),
             ["answered", code] => Ok(self.answered(alloc, code)?),
             ["stand_in", kind, node, code] => Ok(self.stand_in(alloc, kind, node, code)?),
+            _ => self.written_reversal(alloc, form),
+        }
+    }
+
+    fn written_reversal(&self, alloc: Global, form: &[&str]) -> Result<String, Fail> {
+        match form {
             ["own_reversal", kind, node, code] => Ok(self.own_reversal(alloc, kind, node, code)?),
             ["reversal", kind] => Ok(self.reversal(alloc, kind)?),
             ["partial_reversal", kind, actual] => Ok(self.partial_reversal(alloc, kind, actual)?),
@@ -205,15 +211,19 @@ const FORMS: &str = "
     own_reversal 0420 1001 68 = 0420F2220001820080000000004000000000164111111111111111000000000000001000031409153000000103140640000104100168840010000000103140915300000040000100000000000
 ";
 
+/// Whether a line has a form, and the message of the first purchase in that form.
+fn is_written(alloc: Global, line: &'static str) -> Result<bool, Fail> {
+    let (form, wanted) = line.split_once(" = ").ok_or("form")?;
+    let form = words(alloc, form)?;
+    let text = Purchase::new("one").written(alloc, form.as_slice())?;
+    Ok(text.as_str() == wanted)
+}
+
 /// The forms above at the first purchase.
 #[test]
 fn forms(rt: HostRuntime) -> Result<(), Fail> {
-    let alloc = rt.alloc();
     for line in FORMS.trim().lines() {
-        let (form, wanted) = line.split_once(" = ").ok_or("form")?;
-        let form = words(alloc, form)?;
-        let text = Purchase::new("one").written(alloc, form.as_slice())?;
-        assert_eq!(rt; text.as_str(), wanted);
+        assert!(rt; is_written(rt.alloc(), line)?);
     }
     Ok(())
 }
