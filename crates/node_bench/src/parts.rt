@@ -219,7 +219,9 @@ impl Part {
         accepted: &Accepted,
         requests: u32,
     ) -> io::Result<()> {
-        let mut desk = Desk::new(rt.alloc(), accepted)?;
-        self.measure_at(rt, &mut desk, requests)
+        match Desk::new(rt.alloc(), accepted) {
+            Ok(mut desk) => self.measure_at(rt, &mut desk, requests),
+            Err(fault) => Err(fault),
+        }
     }
 }

@@ -3,9 +3,10 @@
 #![tactic(auto)]
 
 use card_digits::{LinkNo, NodeNo};
+use net_rows::Tables;
 use net_tables::read_tables;
 use network_law::StepFault;
-use rank_cert::read_cert;
+use rank_cert::{Cert, read_cert};
 use sample_networks::Sample;
 use std::alloc::{AllocError, Global};
 use std::io;
@@ -85,24 +86,60 @@ fn write_outputs(writer: &mut impl Write, outputs: &Outputs) -> io::Result<()> {
     Ok(())
 }
 
-/// Whether all steps of the first node were made, and their outputs written.
-fn are_made(alloc: Global, writer: &mut impl Write, accepted: &Accepted<'_>) -> bool {
-    if accepted.tables().nodes().is_empty() {
-        return false;
-    }
-    let Ok(mut node) = Node::new(alloc, accepted, NodeNo::new(0)) else {
-        return false;
-    };
-    let mut outputs = Outputs::new(alloc);
+/// Whether the step was made, and its outputs written.
+fn is_done(
+    alloc: Global,
+    writer: &mut impl Write,
+    node: &mut Node<'_>,
+    event: Event,
+    outputs: &mut Outputs,
+) -> bool {
+    is_stepped(alloc, node, event, outputs) && write_outputs(writer, outputs).is_ok()
+}
+
+/// Whether all steps were made, and their outputs written.
+fn are_done(
+    alloc: Global,
+    writer: &mut impl Write,
+    node: &mut Node<'_>,
+    outputs: &mut Outputs,
+) -> bool {
     for event in [Event::Request, Event::Tick, Event::LinkDown] {
-        if !is_stepped(alloc, &mut node, event, &mut outputs) {
-            return false;
-        }
-        if write_outputs(writer, &outputs).is_err() {
+        if !is_done(alloc, writer, node, event, outputs) {
             return false;
         }
     }
     true
+}
+
+fn are_made_at(alloc: Global, writer: &mut impl Write, node: &mut Node<'_>) -> bool {
+    let mut outputs = Outputs::new(alloc);
+    are_done(alloc, writer, node, &mut outputs)
+}
+
+/// Whether there was memory for the first node, and all its steps were made.
+fn are_made(alloc: Global, writer: &mut impl Write, accepted: &Accepted<'_>) -> bool {
+    if accepted.tables().nodes().is_empty() {
+        return false;
+    }
+    match Node::new(alloc, accepted, NodeNo::new(0)) {
+        Ok(mut node) => are_made_at(alloc, writer, &mut node),
+        Err(_) => false,
+    }
+}
+
+fn is_checked(alloc: Global, writer: &mut impl Write, tables: &Tables, cert: &Cert) -> bool {
+    match check(alloc, tables, cert) {
+        Ok(accepted) => are_made(alloc, writer, &accepted),
+        Err(_) => false,
+    }
+}
+
+fn is_ranked(alloc: Global, writer: &mut impl Write, tables: &Tables) -> bool {
+    match read_cert(alloc, Sample::Diamond.ranks().as_bytes()) {
+        Ok(cert) => is_checked(alloc, writer, tables, &cert),
+        Err(_) => false,
+    }
 }
 
 /// Whether there was memory for the tables and their ranks, and all steps were made.
@@ -110,14 +147,10 @@ fn is_run(alloc: Global, writer: &mut impl Write) -> bool {
     let Ok(text) = Sample::Diamond.tables(alloc) else {
         return false;
     };
-    let tables = read_tables(alloc, text.as_bytes());
-    let cert = read_cert(alloc, Sample::Diamond.ranks().as_bytes());
-    if let (Ok(tables), Ok(cert)) = (tables, cert) {
-        if let Ok(accepted) = check(alloc, &tables, &cert) {
-            return are_made(alloc, writer, &accepted);
-        }
+    match read_tables(alloc, text.as_bytes()) {
+        Ok(tables) => is_ranked(alloc, writer, &tables),
+        Err(_) => false,
     }
-    false
 }
 
 fn main(rt: HostRuntime) -> ExitCode {
