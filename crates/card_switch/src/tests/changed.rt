@@ -21,10 +21,8 @@ const PLAN: &str =
     "tick_every 10\nhost H 1000\nlose AH 1\ndelay AH 2 3\nrepeat AH 1\nlend A H 4111111111111111 0314 1\nsession 400001\nsend 01007220000100008000164111111111111111000000000000001000031409153000000106400001840\nEND\n";
 
 /// The tables and ranks, and a third part whose text follows.
-fn bundle_with(alloc: Global, third: &str, rest: &[u8]) -> Result<Vec<u8>, AllocError> {
-    let tables = TWO_NODES.tables;
-    let ranks = TWO_NODES.ranks;
-    let front = format!(in alloc; "{tables}%%\n{ranks}%%\n{third}")?;
+fn bundle_with(alloc: Global, third: &str, rest: &[u8]) -> Result<Vec<u8>, Fail> {
+    let front = TWO_NODES.bundle_with(alloc, third)?;
     let mut input = front.into_bytes();
     input.extend_from_slice(rest)?;
     Ok(input)
@@ -47,7 +45,7 @@ fn is_line(text: &[u8], front: &[u8]) -> bool {
 }
 
 /// Whether a script is answered by traces or by a line of its fault.
-fn script_is_answered(alloc: Global, script: &[u8]) -> Result<bool, AllocError> {
+fn script_is_answered(alloc: Global, script: &[u8]) -> Result<bool, Fail> {
     let input = bundle_with(alloc, "", script)?;
     let Some((text, status)) = answer(alloc, Job::Replay, &input) else {
         return Ok(false);
@@ -64,7 +62,7 @@ fn plan_is_answered<T: Threads + Wait + Sync>(
     rt: &T,
     alloc: Global,
     plan: &[u8],
-) -> Result<bool, AllocError> {
+) -> Result<bool, Fail> {
     let input = bundle_with(alloc, FEW_TURNS, plan)?;
     let mut text: Vec<u8> = Vec::new(alloc);
     let mut reader = Counted::reader(input.as_slice());

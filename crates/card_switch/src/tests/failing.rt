@@ -115,11 +115,10 @@ fn first_bundle(alloc: Global) -> Result<String, AllocError> {
 }
 
 /// A script of one request and a link that fails, on a network with two ways to the home.
-fn script_bundle(alloc: Global) -> Result<String, AllocError> {
-    let tables = DIAMOND.tables;
-    let ranks = DIAMOND.ranks;
-    format!(in alloc;
-        "{tables}%%\n{ranks}%%\nenter A 01007220000100008000164111111111111111000000000000001000031409153000000106400001840\ndown AP A\n"
+fn script_bundle(alloc: Global) -> Result<String, Fail> {
+    DIAMOND.bundle_with(
+        alloc,
+        "enter A 01007220000100008000164111111111111111000000000000001000031409153000000106400001840\ndown AP A\n",
     )
 }
 

@@ -1,16 +1,13 @@
 //! Too many rows, and other shapes of whole inputs.
+use crate::tests::rows::SETTINGS;
 use crate::tests::says;
 use command_line::Job;
 use std::alloc::{AllocError, Global};
 use std::test::Fail;
 
-const NETWORK: &str =
-    "[network]\ncurrency = \"840\"\ndate = \"0314\"\nhost_ticks = 100\nadvice_ticks = 50\n";
-
-/// Whether a fault is printed for the network alone and more rows before and behind it.
+/// Whether a fault is printed for the settings alone and more rows before and behind it.
 fn says_of(alloc: Global, front: &str, back: &str, want: &str) -> Result<bool, AllocError> {
-    let network = NETWORK;
-    let input = format!(in alloc; "{front}{network}{back}%%\nRANKS 1\nEND\n")?;
+    let input = format!(in alloc; "{front}{SETTINGS}{back}%%\nRANKS 1\nEND\n")?;
     says(alloc, Job::Check, input.as_bytes(), want.as_bytes(), 2)
 }
 
@@ -157,10 +154,9 @@ fn parts_and_returns(rt: HostRuntime) -> Result<(), Fail> {
     assert!(rt; says(alloc, Job::Check, b"%%\n%%\n", fault, 2)?);
     assert!(rt; says(alloc, Job::Make, b"%%\n", fault, 2)?);
     assert!(rt; says(alloc, Job::Decode { frames: false }, b"%%", fault, 2)?);
-    let network = NETWORK;
-    let input = format!(in alloc; "{network}%%\r\nRANKS 1\r\nEND\r\n")?;
+    let input = format!(in alloc; "{SETTINGS}%%\r\nRANKS 1\r\nEND\r\n")?;
     assert!(rt; says(alloc, Job::Check, input.as_bytes(), b"accepted\n", 0)?);
-    let last = format!(in alloc; "{network}%%\r\nRANKS 1\r\nEND\r")?;
+    let last = format!(in alloc; "{SETTINGS}%%\r\nRANKS 1\r\nEND\r")?;
     assert!(rt;
         says(
             alloc,

@@ -3,7 +3,7 @@ use crate::bundle::run_bundle;
 use crate::tests::networks::{IN_A_LINE, Sample, TWO_ACQUIRERS, TWO_NODES};
 use card_digits::Counted;
 use command_line::Job;
-use std::alloc::{AllocError, Global};
+use std::alloc::Global;
 use std::sync::Wait;
 use std::test::Fail;
 use std::thread::Threads;
@@ -12,18 +12,15 @@ use std::thread::Threads;
 #[derive(Drop)]
 struct Plan {
     name: &'static str,
-    network: Sample,
+    network: &'static Sample,
     lines: &'static str,
     want: &'static str,
     status: u8,
 }
 
 /// Whether this is printed for the plan.
-fn gives<T: Threads + Wait + Sync>(rt: &T, alloc: Global, plan: &Plan) -> Result<bool, AllocError> {
-    let tables = plan.network.tables;
-    let ranks = plan.network.ranks;
-    let lines = plan.lines;
-    let input = format!(in alloc; "{tables}%%\n{ranks}%%\n{lines}")?;
+fn gives<T: Threads + Wait + Sync>(rt: &T, alloc: Global, plan: &Plan) -> Result<bool, Fail> {
+    let input = plan.network.bundle_with(alloc, plan.lines)?;
     let mut text: Vec<u8> = Vec::new(alloc);
     let mut reader = Counted::reader(input.as_bytes());
     let mut writer = Counted::writer(&mut text);
@@ -39,42 +36,42 @@ fn plans_and_their_faults(rt: HostRuntime) -> Result<(), Fail> {
     let plans = [
         Plan {
             name: "acquirer",
-            network: IN_A_LINE,
+            network: &IN_A_LINE,
             lines: "PLAN 1\nturns 4000000000\ntick_every 0\nhost H 1000\nsession 400002\nsend 01007220000100008000164111111111111111000000000000001000031409153000000106400001840\nEND\n",
             want: "fault plan 2 acquirer 5\n",
             status: 2,
         },
         Plan {
             name: "no_end",
-            network: IN_A_LINE,
+            network: &IN_A_LINE,
             lines: "PLAN 1\nturns 4000000000\ntick_every 0\nhost H 1000\nsession 400001\nsend 01007220000100008000164111111111111111000000000000001000031409153000000106400001840\n",
             want: "fault plan 3 no end\n",
             status: 2,
         },
         Plan {
             name: "plan_2",
-            network: IN_A_LINE,
+            network: &IN_A_LINE,
             lines: "PLAN 2\nturns 4000000000\ntick_every 0\nhost H 1000\nsession 400001\nsend 01007220000100008000164111111111111111000000000000001000031409153000000106400001840\nEND\n",
             want: "fault plan 1 line 1\n",
             status: 2,
         },
         Plan {
             name: "send_x",
-            network: IN_A_LINE,
+            network: &IN_A_LINE,
             lines: "PLAN 1\nturns 4000000000\ntick_every 0\nhost H 1000\nsession 400001\nsend X\nEND\n",
             want: "{\"answers\":[[\"refused 1\"]],\"linked\":\"yes\",\"own\":0,\"posts\":0}\n",
             status: 0,
         },
         Plan {
             name: "lose",
-            network: TWO_NODES,
+            network: &TWO_NODES,
             lines: "PLAN 1\nturns 4000000000\ntick_every 100\nhost H 1000\nlose AH 1\nsession 400001\nsend 01007220000100008000164111111111111111000000000000001000031409153000000106400001840\nEND\n",
             want: "{\"answers\":[[\"91\"]],\"linked\":\"yes\",\"own\":0,\"posts\":0}\n",
             status: 0,
         },
         Plan {
             name: "no_host",
-            network: TWO_NODES,
+            network: &TWO_NODES,
             lines: "PLAN 1\nturns 4000000000\ntick_every 0\nsession 400001\nsend 01007220000100008000164111111111111111000000000000001000031409153000000106400001840\nEND\n",
             want: "{\"answers\":[[\"05\"]],\"linked\":\"yes\",\"own\":0,\"posts\":0}\n",
             status: 0,
@@ -93,7 +90,7 @@ fn plans_and_their_faults(rt: HostRuntime) -> Result<(), Fail> {
 fn answers_of_one_entry(rt: HostRuntime) -> Result<(), Fail> {
     let plan = Plan {
         name: "one entry",
-        network: TWO_ACQUIRERS,
+        network: &TWO_ACQUIRERS,
         lines: "PLAN 1\nturns 1000000\ntick_every 1000\nlose AH 1\nsession 400001\nsend 01007220000100008000164111111111111111000000000000001000031409153000000106400001840\nsession 400002\nsend 01007220000100008000164111111111111111000000000000001000031409153000000106400002840\nEND\n",
         want: "{\"answers\":[[\"91\"],[\"91\"]],\"linked\":\"yes\",\"own\":0,\"posts\":0}\n",
         status: 0,

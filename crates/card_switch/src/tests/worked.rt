@@ -1,238 +1,31 @@
 //! Verdicts, ranks and messages that are worked out by hand.
+use crate::tests::networks::{NESTED, NO_ROWS, SHARED_CEILING, Sample, THERE_AND_BACK, TWO_NODES};
+use crate::tests::rows::SETTINGS;
 use crate::tests::says;
 use command_line::Job;
 use std::alloc::{AllocError, Global};
 use std::test::Fail;
 
-/// A gate and the home of the cards that begin with 4, joined by a link.
-const FIRST: &str = r#"[network]
-currency = "840"
-date = "0314"
-host_ticks = 100
-advice_ticks = 50
-[[node]]
-name = "A"
-id = "1001"
-[[node]]
-name = "H"
-id = "1002"
-[[link]]
-name = "AH"
-ends = ["A", "H"]
-ticks = 3
-[[acquirer]]
-id = "400001"
-node = "A"
-[[issuer]]
-name = "I"
-prefix = "4"
-home = "H"
-named = []
-ceiling = 0
-[[route]]
-node = "A"
-prefix = "4"
-links = ["AH"]
-%%
-RANKS 1
-A 4 1
-H 4 0
-END
-"#;
+/// Whether `check` says this of a network.
+fn checks(alloc: Global, network: &Sample, want: &str, status: u8) -> Result<bool, Fail> {
+    let input = network.bundle(alloc)?;
+    Ok(says(alloc, Job::Check, input.as_bytes(), want.as_bytes(), status)?)
+}
 
-/// No rows at all.
-const NO_NODES: &str = r#"[network]
-currency = "840"
-date = "0314"
-host_ticks = 100
-advice_ticks = 50
-%%
-RANKS 1
-END
-"#;
-
-/// B sends what it can't send to the home back to A.
-const THERE_AND_BACK: &str = r#"[network]
-currency = "840"
-date = "0314"
-host_ticks = 100
-advice_ticks = 50
-[[node]]
-name = "A"
-id = "1001"
-[[node]]
-name = "B"
-id = "1003"
-[[node]]
-name = "H"
-id = "1002"
-[[link]]
-name = "AB"
-ends = ["A", "B"]
-ticks = 3
-[[link]]
-name = "BH"
-ends = ["B", "H"]
-ticks = 3
-[[acquirer]]
-id = "400001"
-node = "A"
-[[issuer]]
-name = "I"
-prefix = "4"
-home = "H"
-named = []
-ceiling = 0
-[[route]]
-node = "A"
-prefix = "4"
-links = ["AB"]
-[[route]]
-node = "B"
-prefix = "4"
-links = ["BH", "AB"]
-%%
-RANKS 1
-A 4 2
-B 4 1
-H 4 0
-END
-"#;
-
-/// Two nodes share the ceiling of an issuer.
-const SHARED: &str = r#"[network]
-currency = "840"
-date = "0314"
-host_ticks = 100
-advice_ticks = 50
-[[node]]
-name = "A"
-id = "1001"
-[[node]]
-name = "B"
-id = "1003"
-[[node]]
-name = "H"
-id = "1002"
-[[link]]
-name = "AH"
-ends = ["A", "H"]
-ticks = 3
-[[link]]
-name = "BH"
-ends = ["B", "H"]
-ticks = 3
-[[acquirer]]
-id = "400001"
-node = "A"
-[[issuer]]
-name = "I"
-prefix = "4"
-home = "H"
-named = ["A", "B"]
-ceiling = 500
-[[route]]
-node = "A"
-prefix = "4"
-links = ["AH"]
-[[route]]
-node = "B"
-prefix = "4"
-links = ["BH"]
-[[stand_in]]
-node = "A"
-prefix = "4"
-day = 300
-single = 300
-[[stand_in]]
-node = "B"
-prefix = "4"
-day = 200
-single = 200
-%%
-RANKS 1
-A 4 1
-B 4 1
-H 4 0
-END
-"#;
-
-/// A node may approve for cards that begin with 4, but not for those that begin with 411111, which have another issuer.
-const NESTED: &str = r#"[network]
-currency = "840"
-date = "0314"
-host_ticks = 100
-advice_ticks = 50
-[[node]]
-name = "A"
-id = "1001"
-[[node]]
-name = "H"
-id = "1002"
-[[link]]
-name = "AH"
-ends = ["A", "H"]
-ticks = 3
-[[acquirer]]
-id = "400001"
-node = "A"
-[[issuer]]
-name = "I"
-prefix = "4"
-home = "H"
-named = ["A"]
-ceiling = 100
-[[issuer]]
-name = "J"
-prefix = "411111"
-home = "H"
-named = []
-ceiling = 0
-[[route]]
-node = "A"
-prefix = "4"
-links = ["AH"]
-[[stand_in]]
-node = "A"
-prefix = "4"
-day = 100
-single = 100
-[[stand_in]]
-node = "A"
-prefix = "411111"
-day = 0
-single = 0
-%%
-RANKS 1
-A 4 1
-H 4 0
-A 411111 1
-H 411111 0
-END
-"#;
-
-/// Whether `check` says this of a network with its ranks, where one piece of them is another.
-fn says_with(
-    alloc: Global,
-    bundle: &str,
-    old: &str,
-    new: &str,
-    want: &str,
-    status: u8,
-) -> Result<bool, AllocError> {
+/// Whether `check` says this of the two nodes, where one piece of their text is another.
+fn checks_with(alloc: Global, old: &str, new: &str, want: &str, status: u8) -> Result<bool, Fail> {
+    let bundle = TWO_NODES.bundle(alloc)?;
     let Some((front, back)) = bundle.split_once(old) else {
         return Ok(false);
     };
     let input = format!(in alloc; "{front}{new}{back}")?;
-    says(alloc, Job::Check, input.as_bytes(), want.as_bytes(), status)
+    Ok(says(alloc, Job::Check, input.as_bytes(), want.as_bytes(), status)?)
 }
 
 /// Whether `make` prints this for the tables of a network.
-fn makes(alloc: Global, bundle: &str, want: &str, status: u8) -> Result<bool, AllocError> {
-    match bundle.split_once("%%\n") {
-        Some((tables, _)) => says(alloc, Job::Make, tables.as_bytes(), want.as_bytes(), status),
-        None => Ok(false),
-    }
+fn makes(alloc: Global, network: &Sample, want: &str, status: u8) -> Result<bool, Fail> {
+    let tables = network.tables(alloc)?;
+    Ok(says(alloc, Job::Make, tables.as_bytes(), want.as_bytes(), status)?)
 }
 
 /// Whether `decode` prints this for lines.
@@ -243,10 +36,7 @@ fn decodes(alloc: Global, lines: &str, want: &str, status: u8) -> Result<bool, A
 
 /// A network of so many nodes and nothing else, with ranks.
 fn many_nodes(alloc: Global, count: usize) -> Result<String, AllocError> {
-    let mut input = String::from_str(
-        alloc,
-        "[network]\ncurrency = \"840\"\ndate = \"0314\"\nhost_ticks = 100\nadvice_ticks = 50\n",
-    )?;
+    let mut input = String::from_str(alloc, SETTINGS)?;
     for i in 1..=count {
         let node = format!(in alloc; "[[node]]\nname = \"N{i}\"\nid = \"{i}\"\n")?;
         input.push_str(&node)?;
@@ -257,7 +47,7 @@ fn many_nodes(alloc: Global, count: usize) -> Result<String, AllocError> {
 
 #[test]
 fn two_nodes_with_ranks_that_fall_are_accepted(rt: HostRuntime) -> Result<(), Fail> {
-    assert!(rt; says(rt.alloc(), Job::Check, FIRST.as_bytes(), b"accepted\n", 0)?);
+    assert!(rt; checks(rt.alloc(), &TWO_NODES, "accepted\n", 0)?);
     Ok(())
 }
 
@@ -269,324 +59,195 @@ fn an_input_without_parts_is_a_fault(rt: HostRuntime) -> Result<(), Fail> {
 
 #[test]
 fn a_network_without_nodes_is_accepted(rt: HostRuntime) -> Result<(), Fail> {
-    assert!(rt;
-        says(
-            rt.alloc(),
-            Job::Check,
-            NO_NODES.as_bytes(),
-            b"accepted\n",
-            0
-        )?
-    );
+    assert!(rt; checks(rt.alloc(), &NO_ROWS, "accepted\n", 0)?);
     Ok(())
 }
 
 #[test]
 fn a_rank_has_to_be_there(rt: HostRuntime) -> Result<(), Fail> {
-    assert!(rt;
-        says_with(
-            rt.alloc(),
-            FIRST,
-            r#"A 4 1
-H 4 0
-"#,
-            "",
-            "refused 1 no rank: node A prefix 4\n",
-            1
-        )?
-    );
+    let network = Sample {
+        ranks: &[],
+        ..TWO_NODES
+    };
+    let want = "refused 1 no rank: node A prefix 4\n";
+    assert!(rt; checks(rt.alloc(), &network, want, 1)?);
     Ok(())
 }
 
 #[test]
 fn a_rank_has_to_be_less_at_the_other_end(rt: HostRuntime) -> Result<(), Fail> {
-    assert!(rt;
-        says(
-            rt.alloc(),
-            Job::Check,
-            THERE_AND_BACK.as_bytes(),
-            b"refused 2 not less: node B prefix 4 link AB\n",
-            1
-        )?
-    );
+    let want = "refused 2 not less: node B prefix 4 link AB\n";
+    assert!(rt; checks(rt.alloc(), &THERE_AND_BACK, want, 1)?);
     Ok(())
 }
 
 #[test]
 fn limits_may_add_up_to_the_ceiling(rt: HostRuntime) -> Result<(), Fail> {
-    assert!(rt; says(rt.alloc(), Job::Check, SHARED.as_bytes(), b"accepted\n", 0)?);
+    assert!(rt; checks(rt.alloc(), &SHARED_CEILING, "accepted\n", 0)?);
     Ok(())
 }
 
 #[test]
 fn limits_may_not_add_up_to_more(rt: HostRuntime) -> Result<(), Fail> {
-    assert!(rt;
-        says_with(
-            rt.alloc(),
-            SHARED,
-            r#"day = 200
-single = 200
-"#,
-            r#"day = 201
-single = 201
-"#,
-            "refused 4 over ceiling: prefix 4 sum 501 ceiling 500\n",
-            1
-        )?
-    );
+    let network = Sample {
+        stand_in: &["A 4 300 300", "B 4 201 201"],
+        ..SHARED_CEILING
+    };
+    let want = "refused 4 over ceiling: prefix 4 sum 501 ceiling 500\n";
+    assert!(rt; checks(rt.alloc(), &network, want, 1)?);
     Ok(())
 }
 
 #[test]
 fn a_further_row_takes_a_limit_back(rt: HostRuntime) -> Result<(), Fail> {
-    assert!(rt; says(rt.alloc(), Job::Check, NESTED.as_bytes(), b"accepted\n", 0)?);
+    assert!(rt; checks(rt.alloc(), &NESTED, "accepted\n", 0)?);
     Ok(())
 }
 
 #[test]
 fn a_limit_goes_on_at_a_further_prefix(rt: HostRuntime) -> Result<(), Fail> {
-    assert!(rt;
-        says_with(
-            rt.alloc(),
-            NESTED,
-            r#"[[stand_in]]
-node = "A"
-prefix = "411111"
-day = 0
-single = 0
-"#,
-            "",
-            "refused 3 not named: node A prefix 411111\n",
-            1
-        )?
-    );
+    let network = Sample {
+        stand_in: &["A 4 100 100"],
+        ..NESTED
+    };
+    let want = "refused 3 not named: node A prefix 411111\n";
+    assert!(rt; checks(rt.alloc(), &network, want, 1)?);
     Ok(())
 }
 
 #[test]
 fn advices_are_sent_again_after_one_tick_at_least(rt: HostRuntime) -> Result<(), Fail> {
-    assert!(rt;
-        says_with(
-            rt.alloc(),
-            FIRST,
-            "advice_ticks = 50",
-            "advice_ticks = 0",
-            "fault tables 3 bad value: network 1 advice_ticks\n",
-            2
-        )?
-    );
+    let want = "fault tables 3 bad value: network 1 advice_ticks\n";
+    assert!(rt; checks_with(rt.alloc(), "advice_ticks = 50", "advice_ticks = 0", want, 2)?);
     Ok(())
 }
 
 #[test]
 fn a_timer_runs_for_4000_ticks_at_most(rt: HostRuntime) -> Result<(), Fail> {
-    assert!(rt;
-        says_with(
-            rt.alloc(),
-            FIRST,
-            "ticks = 3\n",
-            "ticks = 4000\n",
-            "accepted\n",
-            0
-        )?
-    );
-    assert!(rt;
-        says_with(
-            rt.alloc(),
-            FIRST,
-            "ticks = 3\n",
-            "ticks = 4001\n",
-            "refused 8 timer too long: link AH\n",
-            1
-        )?
-    );
+    let longest = Sample {
+        links: &["AH A H 4000"],
+        ..TWO_NODES
+    };
+    assert!(rt; checks(rt.alloc(), &longest, "accepted\n", 0)?);
+    let longer = Sample {
+        links: &["AH A H 4001"],
+        ..TWO_NODES
+    };
+    let want = "refused 8 timer too long: link AH\n";
+    assert!(rt; checks(rt.alloc(), &longer, want, 1)?);
     Ok(())
 }
 
 #[test]
 fn an_acquirer_has_one_gate(rt: HostRuntime) -> Result<(), Fail> {
-    assert!(rt;
-        says_with(
-            rt.alloc(),
-            FIRST,
-            "[[issuer]]\n",
-            r#"[[acquirer]]
-id = "0400001"
-node = "H"
-[[issuer]]
-"#,
-            "refused 6 acquirer twice: 00000400001\n",
-            1
-        )?
-    );
+    let network = Sample {
+        acquirers: &["400001 A", "0400001 H"],
+        ..TWO_NODES
+    };
+    let want = "refused 6 acquirer twice: 00000400001\n";
+    assert!(rt; checks(rt.alloc(), &network, want, 1)?);
     Ok(())
 }
 
 #[test]
 fn a_row_has_an_issuer(rt: HostRuntime) -> Result<(), Fail> {
-    assert!(rt;
-        says_with(
-            rt.alloc(),
-            FIRST,
-            "%%\n",
-            r#"[[route]]
-node = "A"
-prefix = "5"
-links = ["AH"]
-%%
-"#,
-            "refused 5 no issuer: node A prefix 5\n",
-            1
-        )?
-    );
+    let network = Sample {
+        routes: &["A 4 AH", "A 5 AH"],
+        ..TWO_NODES
+    };
+    let want = "refused 5 no issuer: node A prefix 5\n";
+    assert!(rt; checks(rt.alloc(), &network, want, 1)?);
     Ok(())
 }
 
 #[test]
 fn ids_of_nodes_are_told_apart_with_their_zeros(rt: HostRuntime) -> Result<(), Fail> {
-    assert!(rt;
-        says_with(
-            rt.alloc(),
-            FIRST,
-            "id = \"1002\"",
-            "id = \"01001\"",
-            "refused 7 node id twice: 00000001001\n",
-            1
-        )?
-    );
+    let network = Sample {
+        nodes: &["A 1001", "H 01001"],
+        ..TWO_NODES
+    };
+    let want = "refused 7 node id twice: 00000001001\n";
+    assert!(rt; checks(rt.alloc(), &network, want, 1)?);
     Ok(())
 }
 
 #[test]
 fn ranks_begin_with_their_header(rt: HostRuntime) -> Result<(), Fail> {
-    assert!(rt;
-        says_with(
-            rt.alloc(),
-            FIRST,
-            "RANKS 1\n",
-            "RANKS 2\n",
-            "fault ranks 1 header\n",
-            2
-        )?
-    );
+    let want = "fault ranks 1 header\n";
+    assert!(rt; checks_with(rt.alloc(), "RANKS 1\n", "RANKS 2\n", want, 2)?);
     Ok(())
 }
 
 #[test]
 fn a_rank_has_16_bits(rt: HostRuntime) -> Result<(), Fail> {
-    assert!(rt;
-        says_with(
-            rt.alloc(),
-            FIRST,
-            "A 4 1\n",
-            "A 4 65536\n",
-            "fault ranks 2 line 2\n",
-            2
-        )?
-    );
+    let network = Sample {
+        ranks: &["A 4 65536", "H 4 0"],
+        ..TWO_NODES
+    };
+    assert!(rt; checks(rt.alloc(), &network, "fault ranks 2 line 2\n", 2)?);
     Ok(())
 }
 
 #[test]
 fn a_pair_has_one_rank(rt: HostRuntime) -> Result<(), Fail> {
-    assert!(rt;
-        says_with(
-            rt.alloc(),
-            FIRST,
-            "H 4 0\n",
-            "A 4 1\n",
-            "fault ranks 3 twice 3\n",
-            2
-        )?
-    );
+    let network = Sample {
+        ranks: &["A 4 1", "A 4 1"],
+        ..TWO_NODES
+    };
+    assert!(rt; checks(rt.alloc(), &network, "fault ranks 3 twice 3\n", 2)?);
     Ok(())
 }
 
 #[test]
 fn ranks_have_an_end(rt: HostRuntime) -> Result<(), Fail> {
-    assert!(rt; says_with(rt.alloc(), FIRST, "END\n", "", "fault ranks 4 no end\n", 2)?);
+    assert!(rt; checks_with(rt.alloc(), "END\n", "", "fault ranks 4 no end\n", 2)?);
     Ok(())
 }
 
 #[test]
 fn nothing_stands_behind_the_end(rt: HostRuntime) -> Result<(), Fail> {
-    assert!(rt;
-        says_with(
-            rt.alloc(),
-            FIRST,
-            "END\n",
-            r#"END
-A 5 1
-"#,
-            "fault ranks 5 after end\n",
-            2
-        )?
-    );
+    let want = "fault ranks 5 after end\n";
+    assert!(rt; checks_with(rt.alloc(), "END\n", "END\nA 5 1\n", want, 2)?);
     Ok(())
 }
 
 #[test]
 fn a_node_has_an_id(rt: HostRuntime) -> Result<(), Fail> {
-    assert!(rt;
-        says_with(
-            rt.alloc(),
-            FIRST,
-            "id = \"1001\"\n",
-            "",
-            "fault tables 2 missing field: node 1 id\n",
-            2
-        )?
-    );
+    let want = "fault tables 2 missing field: node 1 id\n";
+    assert!(rt; checks_with(rt.alloc(), "id = \"1001\"\n", "", want, 2)?);
     Ok(())
 }
 
 #[test]
 fn a_name_stands_for_one_node(rt: HostRuntime) -> Result<(), Fail> {
-    assert!(rt;
-        says_with(
-            rt.alloc(),
-            FIRST,
-            "name = \"H\"",
-            "name = \"A\"",
-            "fault tables 5 twice: node 2 name\n",
-            2
-        )?
-    );
+    let network = Sample {
+        nodes: &["A 1001", "A 1002"],
+        ..TWO_NODES
+    };
+    let want = "fault tables 5 twice: node 2 name\n";
+    assert!(rt; checks(rt.alloc(), &network, want, 2)?);
     Ok(())
 }
 
 #[test]
 fn a_link_ends_at_nodes_of_the_tables(rt: HostRuntime) -> Result<(), Fail> {
-    assert!(rt;
-        says_with(
-            rt.alloc(),
-            FIRST,
-            "ends = [\"A\", \"H\"]",
-            "ends = [\"A\", \"Z\"]",
-            "fault tables 4 unknown name: link 1 ends\n",
-            2
-        )?
-    );
+    let network = Sample {
+        links: &["AH A Z 3"],
+        ..TWO_NODES
+    };
+    let want = "fault tables 4 unknown name: link 1 ends\n";
+    assert!(rt; checks(rt.alloc(), &network, want, 2)?);
     Ok(())
 }
 
 #[test]
 fn a_route_goes_over_links_of_its_node(rt: HostRuntime) -> Result<(), Fail> {
-    assert!(rt;
-        says_with(
-            rt.alloc(),
-            THERE_AND_BACK,
-            r#"links = ["AB"]
-[[route]]
-node = "B"
-prefix = "4"
-links = ["BH", "AB"]
-"#,
-            "links = [\"BH\"]\n",
-            "fault tables 7 not at link: route 1 links\n",
-            2
-        )?
-    );
+    let network = Sample {
+        routes: &["A 4 BH"],
+        ..THERE_AND_BACK
+    };
+    let want = "fault tables 7 not at link: route 1 links\n";
+    assert!(rt; checks(rt.alloc(), &network, want, 2)?);
     Ok(())
 }
 
@@ -621,13 +282,13 @@ fn there_are_at_most_64_nodes(rt: HostRuntime) -> Result<(), Fail> {
 
 #[test]
 fn a_route_there_and_back_is_a_circle(rt: HostRuntime) -> Result<(), Fail> {
-    assert!(rt; makes(rt.alloc(), THERE_AND_BACK, "circle 4 A B A\n", 1)?);
+    assert!(rt; makes(rt.alloc(), &THERE_AND_BACK, "circle 4 A B A\n", 1)?);
     Ok(())
 }
 
 #[test]
 fn a_rank_is_the_number_of_links_to_the_home(rt: HostRuntime) -> Result<(), Fail> {
-    assert!(rt; makes(rt.alloc(), FIRST, "RANKS 1\nA 4 1\nH 4 0\nEND\n", 0)?);
+    assert!(rt; makes(rt.alloc(), &TWO_NODES, "RANKS 1\nA 4 1\nH 4 0\nEND\n", 0)?);
     Ok(())
 }
 
