@@ -1,9 +1,9 @@
 //! The networks of the tests, and steps at their nodes. Nothing is promised of these functions, so that a test is proved fast.
 use card_digits::NodeNo;
-use net_tables::{Tables, read_tables};
+use net_rows::Tables;
+use net_tables::read_tables;
 use net_threads::{Network, StationFault};
 use rank_cert::{Cert, read_cert};
-use run_plan::{Plan, read_plan};
 use sample_networks::Sample;
 use std::alloc::{AllocError, Global};
 use std::sync::Wait;
@@ -11,41 +11,71 @@ use std::test::Fail;
 use switch_node::{Case, Input};
 use table_checker::{Accepted, check};
 
-fn tables_in(alloc: Global, text: &[u8]) -> Result<Tables, Fail> {
-    Ok(read_tables(alloc, text).ok().ok_or("tables")?)
-}
-
-fn ranks_in(alloc: Global, text: &[u8]) -> Result<Cert, Fail> {
-    Ok(read_cert(alloc, text).ok().ok_or("ranks")?)
-}
-
 pub(crate) fn tables(alloc: Global, sample: Sample) -> Result<Tables, Fail> {
-    tables_in(alloc, sample.tables(alloc)?.as_bytes())
+    let text = sample.tables(alloc)?;
+    match read_tables(alloc, text.as_bytes()) {
+        Ok(tables) => Ok(tables),
+        Err(_) => Err("tables".into()),
+    }
 }
 
 pub(crate) fn ranks(alloc: Global, sample: Sample) -> Result<Cert, Fail> {
-    ranks_in(alloc, sample.ranks().as_bytes())
+    match read_cert(alloc, sample.ranks().as_bytes()) {
+        Ok(cert) => Ok(cert),
+        Err(_) => Err("ranks".into()),
+    }
 }
 
-pub(crate) fn accepted<'t>(
+/// What a test without threads does with accepted tables. Tables, ranks and what was accepted are each held by a function of its own, since it is
+/// the ways out of a function beside such a value that take long to prove.
+pub(crate) trait Act {
+    type Seen: Drop;
+
+    fn act<R: Wait>(
+        &self,
+        rt: &R,
+        alloc: Global,
+        tables: &Tables,
+        accepted: &Accepted<'_>,
+    ) -> Result<Self::Seen, Fail>;
+}
+
+fn on_ranked<R: Wait, A: Act>(
+    rt: &R,
     alloc: Global,
-    tables: &'t Tables,
+    tables: &Tables,
     cert: &Cert,
-) -> Result<Accepted<'t>, Fail> {
+    act: &A,
+) -> Result<A::Seen, Fail> {
     match check(alloc, tables, cert) {
-        Ok(accepted) => Ok(accepted),
+        Ok(accepted) => act.act(rt, alloc, tables, &accepted),
         Err(_) => Err("not accepted".into()),
     }
 }
 
-pub(crate) fn plan_in<'a>(
+fn on_tables<R: Wait, A: Act>(
+    rt: &R,
     alloc: Global,
     tables: &Tables,
-    text: &'a [u8],
-) -> Result<Plan<'a>, Fail> {
-    match read_plan(alloc, tables, text) {
-        Ok(plan) => Ok(plan),
-        Err(_) => Err("plan".into()),
+    sample: Sample,
+    act: &A,
+) -> Result<A::Seen, Fail> {
+    match ranks(alloc, sample) {
+        Ok(cert) => on_ranked(rt, alloc, tables, &cert, act),
+        Err(fail) => Err(fail),
+    }
+}
+
+/// What is seen of an act on the tables of a sample.
+pub(crate) fn seen_on<R: Wait, A: Act>(
+    rt: &R,
+    alloc: Global,
+    sample: Sample,
+    act: &A,
+) -> Result<A::Seen, Fail> {
+    match tables(alloc, sample) {
+        Ok(tables) => on_tables(rt, alloc, &tables, sample, act),
+        Err(fail) => Err(fail),
     }
 }
 

@@ -1,9 +1,11 @@
 //! What runs while something else does not end.
-use crate::network::{accepted, plan_in, ranks, step, tables};
+use crate::network::{ranks, step, tables};
 use iso_message::{Code, Message};
 use net_operate::{Host, operate};
+use net_rows::Tables;
 use net_threads::{Ended, LineEnd, Network, Verdict};
-use run_plan::Plan;
+use rank_cert::Cert;
+use run_plan::{Plan, read_plan};
 use sample_networks::Sample;
 use std::alloc::Global;
 use std::sync::Wait;
@@ -12,7 +14,7 @@ use std::test::Fail;
 use std::thread;
 use std::thread::Threads;
 use switch_node::Case;
-use table_checker::Accepted;
+use table_checker::{Accepted, check};
 
 /// How often a waiting thread looks at most. Some seconds.
 const LOOKS: u64 = 10_000_000;
@@ -118,15 +120,37 @@ fn met<R: Threads + Wait + Sync>(
     Some([first, second, finished.verdict == Verdict::Linked])
 }
 
+fn met_by_plan<R: Threads + Wait + Sync>(
+    rt: &R,
+    alloc: Global,
+    tables: &Tables,
+    accepted: &Accepted<'_>,
+) -> Option<[bool; 3]> {
+    match read_plan(alloc, tables, TWO_HOMES) {
+        Ok(plan) => met(rt, alloc, accepted, &plan),
+        Err(_) => None,
+    }
+}
+
+fn met_on<R: Threads + Wait + Sync>(
+    rt: &R,
+    alloc: Global,
+    tables: &Tables,
+    cert: &Cert,
+) -> Option<[bool; 3]> {
+    match check(alloc, tables, cert) {
+        Ok(accepted) => met_by_plan(rt, alloc, tables, &accepted),
+        Err(_) => None,
+    }
+}
+
 /// The host of the first home answers only once that of the second was called.
 #[test]
 fn two_hosts_overlap(rt: HostRuntime) -> Result<(), Fail> {
     let alloc = rt.alloc();
     let tables = tables(alloc, Sample::LineOfTwoHomes)?;
     let cert = ranks(alloc, Sample::LineOfTwoHomes)?;
-    let accepted = accepted(alloc, &tables, &cert)?;
-    let plan = plan_in(alloc, &tables, TWO_HOMES)?;
-    assert_eq!(rt; met(&rt, alloc, &accepted, &plan), Some([true; 3]));
+    assert_eq!(rt; met_on(&rt, alloc, &tables, &cert), Some([true; 3]));
     Ok(())
 }
 
@@ -149,13 +173,34 @@ fn ticks_meanwhile<R: Threads + Wait + Sync>(rt: &R, network: &Network<'_, '_>) 
     })
 }
 
+fn ticks_meanwhile_on<R: Threads + Wait + Sync>(
+    rt: &R,
+    alloc: Global,
+    accepted: &Accepted<'_>,
+) -> bool {
+    match Network::new(alloc, accepted) {
+        Ok(network) => ticks_meanwhile(rt, &network),
+        Err(_) => false,
+    }
+}
+
+fn ticks_meanwhile_by<R: Threads + Wait + Sync>(
+    rt: &R,
+    alloc: Global,
+    tables: &Tables,
+    cert: &Cert,
+) -> bool {
+    match check(alloc, tables, cert) {
+        Ok(accepted) => ticks_meanwhile_on(rt, alloc, &accepted),
+        Err(_) => false,
+    }
+}
+
 #[test]
 fn holding_a_does_not_stop_b(rt: HostRuntime) -> Result<(), Fail> {
     let alloc = rt.alloc();
     let tables = tables(alloc, Sample::LineOfTwoHomes)?;
     let cert = ranks(alloc, Sample::LineOfTwoHomes)?;
-    let accepted = accepted(alloc, &tables, &cert)?;
-    let network = Network::new(alloc, &accepted)?;
-    assert!(rt; ticks_meanwhile(&rt, &network));
+    assert!(rt; ticks_meanwhile_by(&rt, alloc, &tables, &cert));
     Ok(())
 }

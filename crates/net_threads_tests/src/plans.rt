@@ -1,17 +1,19 @@
 //! Plans that threads run, and what their sessions ended with.
-use crate::network::{accepted, plan_in, ranks, request, tables};
+use crate::network::{ranks, request, tables};
 use iso_message::{Code, Message, code_of, decode};
 use net_operate::{Host, operate};
+use net_rows::Tables;
 use net_threads::{Ended, LineEnd, Network, SessionEnd, Station, Verdict};
+use rank_cert::Cert;
 use request_book::Way;
-use run_plan::Plan;
+use run_plan::{Plan, read_plan};
 use sample_networks::Sample;
 use std::alloc::{AllocError, Global};
 use std::sync::Wait;
 use std::test::Fail;
 use std::thread::Threads;
 use switch_node::Entry;
-use table_checker::Accepted;
+use table_checker::{Accepted, check};
 
 /// A host that always gives the same answer.
 #[derive(Clone, Copy)]
@@ -165,13 +167,65 @@ struct Run {
     code: [u8; 2],
 }
 
+fn outcome_of_text<R: Threads + Wait + Sync>(
+    rt: &R,
+    alloc: Global,
+    tables: &Tables,
+    accepted: &Accepted<'_>,
+    text: &[u8],
+    run: &Run,
+) -> Option<Outcome> {
+    match read_plan(alloc, tables, text) {
+        Ok(plan) => ran(rt, alloc, accepted, &plan, run.host, &run.code),
+        Err(_) => None,
+    }
+}
+
+fn outcome_on<R: Threads + Wait + Sync>(
+    rt: &R,
+    alloc: Global,
+    tables: &Tables,
+    cert: &Cert,
+    text: &[u8],
+    run: &Run,
+) -> Option<Outcome> {
+    match check(alloc, tables, cert) {
+        Ok(accepted) => outcome_of_text(rt, alloc, tables, &accepted, text, run),
+        Err(_) => None,
+    }
+}
+
+fn outcome_on_tables<R: Threads + Wait + Sync>(
+    rt: &R,
+    alloc: Global,
+    tables: &Tables,
+    text: &[u8],
+    run: &Run,
+) -> Result<Option<Outcome>, Fail> {
+    match ranks(alloc, run.sample) {
+        Ok(cert) => Ok(outcome_on(rt, alloc, tables, &cert, text, run)),
+        Err(fail) => Err(fail),
+    }
+}
+
+fn outcome_if_run<R: Threads + Wait + Sync>(
+    rt: &R,
+    alloc: Global,
+    text: &[u8],
+    run: &Run,
+) -> Result<Option<Outcome>, Fail> {
+    match tables(alloc, run.sample) {
+        Ok(tables) => outcome_on_tables(rt, alloc, &tables, text, run),
+        Err(fail) => Err(fail),
+    }
+}
+
 fn outcome_of<R: Threads + Wait + Sync>(rt: &R, alloc: Global, run: Run) -> Result<Outcome, Fail> {
-    let tables = tables(alloc, run.sample)?;
-    let cert = ranks(alloc, run.sample)?;
-    let accepted = accepted(alloc, &tables, &cert)?;
     let text = plan_text(alloc, run.head, run.requests)?;
-    let plan = plan_in(alloc, &tables, text.as_bytes())?;
-    Ok(ran(rt, alloc, &accepted, &plan, run.host, &run.code).ok_or("not run")?)
+    match outcome_if_run(rt, alloc, text.as_bytes(), &run)? {
+        Some(outcome) => Ok(outcome),
+        None => Err("not run".into()),
+    }
 }
 
 /// A hundred requests over two links are all approved.

@@ -1,12 +1,14 @@
 //! Rings between nodes that nobody pumps meanwhile.
-use crate::network::{accepted, copied, entries, pump, ranks, request, step, tables};
+use crate::network::{Act, copied, entries, pump, request, seen_on, step};
 use card_digits::LinkNo;
+use net_rows::Tables;
 use net_threads::{Network, StationFault};
 use sample_networks::Sample;
 use std::alloc::Global;
 use std::sync::Wait;
 use std::test::Fail;
 use switch_node::Case;
+use table_checker::Accepted;
 
 /// Enters requests at the first node, from trace number 1 on. False where one is refused.
 fn enter_all<R: Wait>(
@@ -25,46 +27,90 @@ fn enter_all<R: Wait>(
     Ok(true)
 }
 
+fn pump_all<R: Wait>(rt: &R, network: &Network<'_, '_>, count: usize) {
+    for _ in 0..count {
+        pump(rt, network, 1);
+    }
+}
+
 /// How many entries the nodes have after so many requests at the first and as many pumps of the second.
-fn after_pumps<R: Wait>(rt: &R, alloc: Global, count: usize) -> Result<(usize, usize), Fail> {
-    let tables = tables(alloc, Sample::TwoNodes)?;
-    let cert = ranks(alloc, Sample::TwoNodes)?;
-    let accepted = accepted(alloc, &tables, &cert)?;
-    let network = Network::new(alloc, &accepted)?;
-    if !enter_all(rt, alloc, &network, count)? {
+fn after_pumps<R: Wait>(
+    rt: &R,
+    alloc: Global,
+    network: &Network<'_, '_>,
+    count: usize,
+) -> Result<(usize, usize), Fail> {
+    if !enter_all(rt, alloc, network, count)? {
         return Err("refused".into());
     }
-    for _ in 0..count {
-        pump(rt, &network, 1);
+    pump_all(rt, network, count);
+    Ok((entries(rt, network, 0), entries(rt, network, 1)))
+}
+
+/// So many requests at the first node, and as many pumps of the second.
+#[derive(Clone, Copy)]
+struct Pumps {
+    count: usize,
+}
+
+impl Act for Pumps {
+    type Seen = (usize, usize);
+
+    fn act<R: Wait>(
+        &self,
+        rt: &R,
+        alloc: Global,
+        _tables: &Tables,
+        accepted: &Accepted<'_>,
+    ) -> Result<(usize, usize), Fail> {
+        match Network::new(alloc, accepted) {
+            Ok(network) => after_pumps(rt, alloc, &network, self.count),
+            Err(_) => Err("memory".into()),
+        }
     }
-    Ok((entries(rt, &network, 0), entries(rt, &network, 1)))
 }
 
 /// A ring has room for 64 packets. The 65th is lost, and nothing else is.
 #[test]
 fn full_ring_loses_one(rt: HostRuntime) -> Result<(), Fail> {
-    assert_eq!(rt; after_pumps(&rt, rt.alloc(), 65)?, (65, 64));
+    let seen = seen_on(&rt, rt.alloc(), Sample::TwoNodes, &Pumps { count: 65 })?;
+    assert_eq!(rt; seen, (65, 64));
     Ok(())
 }
 
-/// Takes the first node's link up at another node.
-fn strange_link_up<R: Wait>(rt: &R, alloc: Global) -> Result<Option<StationFault>, Fail> {
-    let tables = tables(alloc, Sample::LineOfTwoHomes)?;
-    let cert = ranks(alloc, Sample::LineOfTwoHomes)?;
-    let accepted = accepted(alloc, &tables, &cert)?;
-    let network = Network::new(alloc, &accepted)?;
-    match step(rt, &network, 0, Case::LinkUp(LinkNo::new(1))) {
-        Some(Err(fault)) if entries(rt, &network, 0) == 0 => Ok(Some(fault)),
-        _ => Ok(None),
+/// The fault of link BH at the first node, if that leaves it without an entry.
+fn strange_link_up<R: Wait>(rt: &R, network: &Network<'_, '_>) -> Option<StationFault> {
+    match step(rt, network, 0, Case::LinkUp(LinkNo::new(1))) {
+        Some(Err(fault)) if entries(rt, network, 0) == 0 => Some(fault),
+        _ => None,
+    }
+}
+
+/// Takes the link BH up at A.
+#[derive(Clone, Copy)]
+struct StrangeLink;
+
+impl Act for StrangeLink {
+    type Seen = Option<StationFault>;
+
+    fn act<R: Wait>(
+        &self,
+        rt: &R,
+        alloc: Global,
+        _tables: &Tables,
+        accepted: &Accepted<'_>,
+    ) -> Result<Option<StationFault>, Fail> {
+        match Network::new(alloc, accepted) {
+            Ok(network) => Ok(strange_link_up(rt, &network)),
+            Err(_) => Err("memory".into()),
+        }
     }
 }
 
 /// Link BH is none of A's.
 #[test]
 fn a_link_of_other_nodes(rt: HostRuntime) -> Result<(), Fail> {
-    assert_eq!(rt;
-        strange_link_up(&rt, rt.alloc())?,
-        Some(StationFault::StrangeLink)
-    );
+    let seen = seen_on(&rt, rt.alloc(), Sample::LineOfTwoHomes, &StrangeLink)?;
+    assert_eq!(rt; seen, Some(StationFault::StrangeLink));
     Ok(())
 }

@@ -1,6 +1,7 @@
 //! Networks that were meddled with, and what is said of them at the end.
-use crate::network::{accepted, copied, ranks, step, tables};
+use crate::network::{Act, copied, seen_on, step};
 use card_digits::{LinkNo, NodeNo};
+use net_rows::Tables;
 use net_threads::{Ended, LineEnd, Network, SessionEnd, Verdict};
 use sample_networks::Sample;
 use std::alloc::{AllocError, Global};
@@ -8,6 +9,7 @@ use std::mem;
 use std::sync::Wait;
 use std::test::Fail;
 use switch_node::Case;
+use table_checker::Accepted;
 
 /// What is done to a network.
 #[derive(Clone, Copy)]
@@ -74,16 +76,59 @@ fn ended(alloc: Global, trick: Trick) -> Result<Ended, AllocError> {
     Ok(Ended { sessions })
 }
 
-fn verdict_of<R: Wait>(rt: &R, alloc: Global, trick: Trick) -> Result<Verdict, Fail> {
-    let tables = tables(alloc, Sample::TwoNodes)?;
-    let cert = ranks(alloc, Sample::TwoNodes)?;
-    let accepted = accepted(alloc, &tables, &cert)?;
-    let network = Network::new(alloc, &accepted)?;
-    if !play(rt, alloc, &network, trick)? {
-        return Err("not played".into());
+fn verdict_on(network: Network<'_, '_>, ended: &Ended) -> Result<Verdict, Fail> {
+    match network.finish(ended) {
+        Ok(finished) => Ok(finished.verdict),
+        Err(_) => Err("memory".into()),
     }
-    let finished = network.finish(&ended(alloc, trick)?)?;
-    Ok(finished.verdict)
+}
+
+fn verdict_after(alloc: Global, network: Network<'_, '_>, trick: Trick) -> Result<Verdict, Fail> {
+    match ended(alloc, trick) {
+        Ok(ended) => verdict_on(network, &ended),
+        Err(_) => Err("memory".into()),
+    }
+}
+
+fn is_played<R: Wait>(rt: &R, alloc: Global, network: &Network<'_, '_>, trick: Trick) -> bool {
+    match play(rt, alloc, network, trick) {
+        Ok(is_played) => is_played,
+        Err(_) => false,
+    }
+}
+
+fn verdict_with<R: Wait>(
+    rt: &R,
+    alloc: Global,
+    network: Network<'_, '_>,
+    trick: Trick,
+) -> Result<Verdict, Fail> {
+    if is_played(rt, alloc, &network, trick) {
+        verdict_after(alloc, network, trick)
+    } else {
+        Err("not played".into())
+    }
+}
+
+impl Act for Trick {
+    type Seen = Verdict;
+
+    fn act<R: Wait>(
+        &self,
+        rt: &R,
+        alloc: Global,
+        _tables: &Tables,
+        accepted: &Accepted<'_>,
+    ) -> Result<Verdict, Fail> {
+        match Network::new(alloc, accepted) {
+            Ok(network) => verdict_with(rt, alloc, network, *self),
+            Err(_) => Err("memory".into()),
+        }
+    }
+}
+
+fn verdict_of<R: Wait>(rt: &R, alloc: Global, trick: Trick) -> Result<Verdict, Fail> {
+    seen_on(rt, alloc, Sample::TwoNodes, &trick)
 }
 
 #[test]
