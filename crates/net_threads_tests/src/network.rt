@@ -26,8 +26,8 @@ pub(crate) fn ranks(alloc: Global, sample: Sample) -> Result<Cert, Fail> {
     }
 }
 
-/// What a test without threads does with accepted tables. Tables, ranks and what was accepted are each held by a function of its own, since it is
-/// the ways out of a function beside such a value that take long to prove.
+/// What a test without threads does with accepted tables. Tables, ranks and what was accepted are each held by a function of its own:
+/// it is the ways out of a function beside such a value that take long to prove.
 pub(crate) trait Act {
     type Seen: Drop;
 
@@ -35,7 +35,6 @@ pub(crate) trait Act {
         &self,
         rt: &R,
         alloc: Global,
-        tables: &Tables,
         accepted: &Accepted<'_>,
     ) -> Result<Self::Seen, Fail>;
 }
@@ -48,7 +47,7 @@ fn on_ranked<R: Wait, A: Act>(
     act: &A,
 ) -> Result<A::Seen, Fail> {
     match check(alloc, tables, cert) {
-        Ok(accepted) => act.act(rt, alloc, tables, &accepted),
+        Ok(accepted) => act.act(rt, alloc, &accepted),
         Err(_) => Err("not accepted".into()),
     }
 }

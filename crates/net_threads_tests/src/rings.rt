@@ -1,7 +1,6 @@
 //! Rings between nodes that nobody pumps meanwhile.
 use crate::network::{Act, copied, entries, pump, request, seen_on, step};
 use card_digits::LinkNo;
-use net_rows::Tables;
 use net_threads::{Network, StationFault};
 use sample_networks::Sample;
 use std::alloc::Global;
@@ -60,7 +59,6 @@ impl Act for Pumps {
         &self,
         rt: &R,
         alloc: Global,
-        _tables: &Tables,
         accepted: &Accepted<'_>,
     ) -> Result<(usize, usize), Fail> {
         match Network::new(alloc, accepted) {
@@ -97,7 +95,6 @@ impl Act for StrangeLink {
         &self,
         rt: &R,
         alloc: Global,
-        _tables: &Tables,
         accepted: &Accepted<'_>,
     ) -> Result<Option<StationFault>, Fail> {
         match Network::new(alloc, accepted) {

@@ -1,7 +1,6 @@
 //! Networks that were meddled with, and what is said of them at the end.
 use crate::network::{Act, copied, seen_on, step};
 use card_digits::{LinkNo, NodeNo};
-use net_rows::Tables;
 use net_threads::{Ended, LineEnd, Network, SessionEnd, Verdict};
 use sample_networks::Sample;
 use std::alloc::{AllocError, Global};
@@ -117,7 +116,6 @@ impl Act for Trick {
         &self,
         rt: &R,
         alloc: Global,
-        _tables: &Tables,
         accepted: &Accepted<'_>,
     ) -> Result<Verdict, Fail> {
         match Network::new(alloc, accepted) {
