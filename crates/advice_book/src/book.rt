@@ -56,7 +56,8 @@ impl Model for AdviceBook {
 impl AdviceBook {
     /// A book without items, which are due again after so many ticks.
     pub fn new(alloc: Global, ticks: u16) -> Result<AdviceBook, AllocError>
-        requires { (1 ≤ ticks) × (ticks ≤ 4000) }
+        requires some { 1 ≤ ticks }
+        requires few { ticks ≤ 4000 }
         ensures { IfOk result (λ b. b ≡ record { items = []; known = []; reserved = 0; room = 0; ticks = ticks; count = 0; visits = 0 }) }
     {
         Ok(AdviceBook {
@@ -157,7 +158,9 @@ impl AdviceBook {
         ensures err { OnErr result (self.new ≡ self.old) }
         ensures value { IfErr result (λ e. e.1 ≡ advice) }
         ensures cause { IfErr result (λ e. (e.0 ≡ StoreFault.Memory) ⊎ (refusal self.old advice.id reserved ≡ Some e.0)) }
-        ensures memory { IfErr result (λ e. e.0 ≡ StoreFault.Memory → (self.old.room ≡ 0) × (refusal self.old advice.id reserved ≡ None)) }
+        // Memory is the cause only where no room was made and nothing else refuses.
+        ensures no_room { IfErr result (λ e. e.0 ≡ StoreFault.Memory → self.old.room ≡ 0) }
+        ensures memory_last { IfErr result (λ e. e.0 ≡ StoreFault.Memory → refusal self.old advice.id reserved ≡ None) }
     {
         if !reserved && self.load() >= PLACES {
             return Err((StoreFault::Full, advice));
@@ -185,7 +188,8 @@ impl AdviceBook {
         ensures accepted { OnOk result (is_known self.old id ≡ false) }
         ensures err { OnErr result (self.new ≡ self.old) }
         ensures cause { IfErr result (λ e. (e ≡ StoreFault.Memory) ⊎ ((e ≡ StoreFault.Known) × (is_known self.old id ≡ true))) }
-        ensures memory { IfErr result (λ e. e ≡ StoreFault.Memory → (self.old.room ≡ 0) × (is_known self.old id ≡ false)) }
+        ensures no_room { IfErr result (λ e. e ≡ StoreFault.Memory → self.old.room ≡ 0) }
+        ensures memory_last { IfErr result (λ e. e ≡ StoreFault.Memory → is_known self.old id ≡ false) }
     {
         if self.known(&id) {
             return Err(StoreFault::Known);
@@ -203,7 +207,8 @@ impl AdviceBook {
         ensures accepted { OnOk result (grant_refusal self.old grant.number ≡ None) }
         ensures err { OnErr result (self.new ≡ self.old) }
         ensures cause { IfErr result (λ e. (e ≡ GrantFault.Memory) ⊎ (grant_refusal self.old grant.number ≡ Some e)) }
-        ensures memory { IfErr result (λ e. e ≡ GrantFault.Memory → (self.old.room ≡ 0) × (grant_refusal self.old grant.number ≡ None)) }
+        ensures no_room { IfErr result (λ e. e ≡ GrantFault.Memory → self.old.room ≡ 0) }
+        ensures memory_last { IfErr result (λ e. e ≡ GrantFault.Memory → grant_refusal self.old grant.number ≡ None) }
         ensures again { is_held self.old.items (ItemName.Grant grant.number) ≡ true → IsOk result }
     {
         if self.has(&ItemName::Grant(grant.number)) {

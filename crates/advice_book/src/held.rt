@@ -60,7 +60,8 @@ fn names_in(
 
 impl HeldItems {
     pub fn new(alloc: Global, ticks: u16) -> Result<HeldItems, AllocError>
-        requires { (1 ≤ ticks) × (ticks ≤ 4000) }
+        requires some { 1 ≤ ticks }
+        requires few { ticks ≤ 4000 }
         ensures { IfOk result (λ h. h ≡ record { items = []; ticks = ticks; count = 0; visits = 0; room = h.room }) }
     {
         Ok(HeldItems {

@@ -18,7 +18,8 @@ pub(crate) fn class_of(count: u64, ticks: u16) -> u32
 
 /// Puts a slot at the end of the order and of its class, due after so many ticks.
 pub(crate) fn enter(wheel: &mut Wheel<ItemName>, slot: SlotId, class: u32, ticks: u16)
-    requires ticks { (1 ≤ ticks) × (ticks ≤ 4000) }
+    requires some { 1 ≤ ticks }
+    requires few { ticks ≤ 4000 }
     requires held { ContainsKey wheel.old.slots slot }
     requires unarmed { ¬ IsArmed wheel.old slot }
     requires loose { ¬ IsMember wheel.old.card slot }
@@ -53,7 +54,8 @@ pub(crate) fn leave(wheel: &mut Wheel<ItemName>, slot: SlotId)
 
 /// Lets all slots of a class be due after so many ticks, in their order.
 pub(crate) fn arm_class(wheel: &mut Wheel<ItemName>, class: u32, ticks: u16)
-    requires ticks { (1 ≤ ticks) × (ticks ≤ 4000) }
+    requires some { 1 ≤ ticks }
+    requires few { ticks ≤ 4000 }
     requires held { (slot : ℕ) → Among slot (list_at wheel.old.link class) → ContainsKey wheel.old.slots slot }
     requires unarmed { (slot : ℕ) → Among slot (list_at wheel.old.link class) → ¬ IsArmed wheel.old slot }
     requires none { due_after wheel.old (ticks - 1) ≡ [] }

@@ -14,7 +14,7 @@ arm-requires-clause-held c =
     let all = list_at old.link c.args.class in
     let I : Option ℕ → Type 0 = λ o. IsArming all old c.loop-cursor.wheel (c.args.ticks - 1) o in
     let a = subst I c.in-Some.is c.loop-cursor.invariant in
-    let held = c.requires.held c.in-Some.slot (arming_among all old c.loop-cursor.wheel (c.args.ticks - 1) c.in-Some.slot a (let b = c.requires.buckets in let t = c.requires.ticks in omega (arith, b, t))) in
+    let held = c.requires.held c.in-Some.slot (arming_among all old c.loop-cursor.wheel (c.args.ticks - 1) c.in-Some.slot a (let b = c.requires.buckets in omega (arith, b, c.requires.some, c.requires.few))) in
     let S : Slab ItemName → Type 0 = λ s. ContainsKey s c.in-Some.slot in
     subst S (sym (ap (λ w. w.slots) a.wheel)) held
 
@@ -24,7 +24,7 @@ arm-requires-clause-free c =
     let all = list_at old.link c.args.class in
     let I : Option ℕ → Type 0 = λ o. IsArming all old c.loop-cursor.wheel (c.args.ticks - 1) o in
     let a = subst I c.in-Some.is c.loop-cursor.invariant in
-    arming_free all old c.loop-cursor.wheel (c.args.ticks - 1) c.in-Some.slot a (let b = c.requires.buckets in let t = c.requires.ticks in omega (arith, b, t)) (c.first-cursor.ensures.apart.once c.args.class) c.requires.unarmed
+    arming_free all old c.loop-cursor.wheel (c.args.ticks - 1) c.in-Some.slot a (let b = c.requires.buckets in omega (arith, b, c.requires.some, c.requires.few)) (c.first-cursor.ensures.apart.once c.args.class) c.requires.unarmed
 
 pub loop-cursor-preserved : goal.loop-cursor-preserved
 loop-cursor-preserved c =
@@ -33,7 +33,7 @@ loop-cursor-preserved c =
     let I : Option ℕ → Type 0 = λ o. IsArming all old c.loop-cursor.wheel (c.args.ticks - 1) o in
     let a = subst I c.in-Some.is c.loop-cursor.invariant in
     let link : c.arm.new.self.link ≡ old.link = ap (λ w. w.link) c.arm.ensures ∙ ap (λ w. w.link) a.wheel in
-    arming_step all old c.loop-cursor.wheel (c.args.ticks - 1) c.in-Some.slot a (let b = c.requires.buckets in let t = c.requires.ticks in omega (arith, b, t)) c.arm.new.self c.next-cursor.result c.arm.ensures
+    arming_step all old c.loop-cursor.wheel (c.args.ticks - 1) c.in-Some.slot a (let b = c.requires.buckets in omega (arith, b, c.requires.some, c.requires.few)) c.arm.new.self c.next-cursor.result c.arm.ensures
     (λ ls rs e. c.next-cursor.ensures.after c.args.class ls rs (ap (λ (l : LinksView). list_at l c.args.class) link ∙ e))
 
 pub returns : goal.returns
