@@ -1,5 +1,5 @@
 //! Rows, found by their longest prefix.
-ghost use Rattle.std.specs.Prelude.{◌≡◌, ◌==◌, ◌≤◌, ◌<◌, ◌+◌, length, true, ℕ, Option, IfOk, OnOk, option_and_then, slice_get};
+ghost use Rattle.std.specs.Prelude.{◌≡◌, ◌==◌, ◌≤◌, ◌<◌, ◌+◌, [], length, true, ℕ, Option, IfOk, OnOk, option_and_then, slice_get};
 ghost use Rattle.std.specs.Char.{is_ascii_digit};
 ghost use Rattle.std.specs.List.{filter, list_all};
 ghost use Rattle.std.specs.Option.{option_copied, option_eq};
@@ -99,14 +99,68 @@ fn slot(node: Option<NodeNo>) -> usize
     }
 }
 
-/// As many tries as that.
-fn grow(alloc: Global, tries: &mut Vec<Trie<usize>>, count: usize) -> Result<(), AllocError>
-    ensures same { (node : Option ℕ) → places_at tries.new.items node ≡ places_at tries.old.items node }
-    ensures many { OnOk result (count ≤ length tries.new.items) }
-{
-    let more = count.saturating_sub(tries.len());
+/// How many rows a node has, and how many digits their prefixes have together.
+#[derive(Clone, Copy, Debug)]
+struct Counts {
+    rows: usize,
+    digits: usize,
+}
+
+/// The counts of each trie. They say how much memory to ask for, and nothing else hangs on them.
+fn counts_of<R: Prefixed>(alloc: Global, rows: &[R]) -> Result<Vec<Counts>, AllocError> {
+    let mut counts = Vec::new(alloc);
+    for row in rows {
+        let slot = slot(row.node());
+        make_place(&mut counts, slot)?;
+        count(&mut counts, slot, row.prefix().digits().len());
+    }
+    Ok(counts)
+}
+
+/// Makes the place of a trie, where it isn't there.
+fn make_place(counts: &mut Vec<Counts>, slot: usize) -> Result<(), AllocError> {
+    let more = slot.saturating_add(1).saturating_sub(counts.len());
     for _ in 0..more {
-        tries.push(Trie::new(alloc))?;
+        counts.push(Counts { rows: 0, digits: 0 })?;
+    }
+    Ok(())
+}
+
+/// Counts a row with so many digits.
+fn count(counts: &mut [Counts], slot: usize, digits: usize) {
+    if let Some(counts) = counts.get_mut(slot) {
+        counts.rows = counts.rows.saturating_add(1);
+        counts.digits = counts.digits.saturating_add(digits);
+    }
+}
+
+/// A trie with memory for the rows that were counted, where memory is given for them.
+fn empty_trie(alloc: Global, counts: Option<&Counts>) -> Trie<usize>
+    ensures { result ≡ [] }
+{
+    let Some(counts) = counts else {
+        return Trie::new(alloc);
+    };
+    match Trie::with_room(alloc, counts.rows, counts.digits) {
+        Ok(trie) => trie,
+        Err(_) => Trie::new(alloc),
+    }
+}
+
+/// As many tries as that.
+fn grow(
+    alloc: Global,
+    counts: &[Counts],
+    tries: &mut Vec<Trie<usize>>,
+    most: usize,
+) -> Result<(), AllocError>
+    ensures same { (node : Option ℕ) → places_at tries.new.items node ≡ places_at tries.old.items node }
+    ensures many { OnOk result (most ≤ length tries.new.items) }
+{
+    let more = most.saturating_sub(tries.len());
+    for _ in 0..more {
+        let trie = empty_trie(alloc, counts.get(tries.len()));
+        tries.push(trie)?;
     }
     Ok(())
 }
@@ -114,6 +168,7 @@ fn grow(alloc: Global, tries: &mut Vec<Trie<usize>>, count: usize) -> Result<(),
 /// Puts the place of a row at its key, where no row came before.
 fn add(
     alloc: Global,
+    counts: &[Counts],
     tries: &mut Vec<Trie<usize>>,
     key: RowKey,
     place: usize,
@@ -121,7 +176,7 @@ fn add(
     ensures { OnOk result (IsAdded key place tries.old.items tries.new.items) }
 {
     let slot = slot(key.node);
-    grow(alloc, tries, slot + 1)?;
+    grow(alloc, counts, tries, slot + 1)?;
     match tries[slot].insert(key.prefix, place) {
         Ok(()) => Ok(()),
         Err(refused) => match refused.fault {
@@ -135,9 +190,10 @@ fn add(
 fn tries_of<R: Prefixed>(alloc: Global, rows: &[R]) -> Result<Vec<Trie<usize>>, AllocError>
     ensures { IfOk result (λ t. IsIndexed R.node_of R.prefix_of rows.now t.items) }
 {
+    let counts = counts_of(alloc, rows)?;
     let mut tries = Vec::new(alloc);
     for i in 0..rows.len() {
-        add(alloc, &mut tries, RowKey::of(&rows[i]), i)?;
+        add(alloc, &counts, &mut tries, RowKey::of(&rows[i]), i)?;
     }
     Ok(tries)
 }

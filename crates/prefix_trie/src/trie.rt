@@ -1,5 +1,5 @@
 //! Pairs of a prefix and a value.
-ghost use Rattle.std.specs.Prelude.{◌≡◌, ◌≤◌, ◌+◌, [], length, is_some, true, None, OnOk, OnErr, IfErr, option_map};
+ghost use Rattle.std.specs.Prelude.{◌≡◌, ◌≤◌, ◌+◌, [], length, is_some, true, None, IfOk, OnOk, OnErr, IfErr, option_map};
 ghost use Rattle.std.specs.Option.{option_copied};
 ghost use Rattle.card_digits.specs.Longest.{longest};
 ghost use Rattle.prefix_trie.specs.Pairs.{prefix_of, pair_of, inserted, in_order};
@@ -7,7 +7,7 @@ ghost use Rattle.prefix_trie.specs.Index.{IsIndexed};
 
 use crate::branch::{Branch, behind, branch_at, row_at, set_row};
 use card_digits::{Card, Prefix};
-use std::alloc::Global;
+use std::alloc::{AllocError, Global};
 use std::marker::Model;
 use thiserror::Error;
 
@@ -62,6 +62,17 @@ impl<T> Trie<T> {
 
 impl<T: Drop> Trie<T> {
     ghost use Rattle.prefix_trie.specs.declared.trie.Fault.TheVariants as fault;
+
+    /// No pair, but memory for so many pairs, whose prefixes have so many digits together. Each digit costs a branch at most, and
+    /// so does the root.
+    pub fn with_room(alloc: Global, pairs: usize, digits: usize) -> Result<Trie<T>, AllocError>
+        ensures { IfOk result (λ trie. trie ≡ []) }
+    {
+        Ok(Trie {
+            rows: Vec::with_capacity(alloc, pairs)?,
+            branches: Vec::with_capacity(alloc, digits.saturating_add(1))?,
+        })
+    }
 
     /// Adds a pair, but not where its prefix is there; the refusal gives it back.
     pub fn insert(&mut self, prefix: Prefix, value: T) -> Result<(), Refused<T>>
