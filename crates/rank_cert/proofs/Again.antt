@@ -47,7 +47,7 @@ name_passes name h = letters_of name (length name == 0 || nat_lt 8 (length name)
 digit_passes : (d : ℕ) → d < 10 → is_ascii_digit (d + 48) ≡ true
 digit_passes d h = rw (le-leb 48 (d + 48) (omega arith), le-leb (d + 48) 57 (omega arith)) refl
 
-digits_pass : (ds : List ℕ) → AreDigits ds → list_all is_ascii_digit (digits_text ds) ≡ true
+pub digits_pass : (ds : List ℕ) → AreDigits ds → list_all is_ascii_digit (digits_text ds) ≡ true
 digits_pass [] h = refl
 digits_pass (d ∷ ds) h = rw (digit_passes d h.0, digits_pass ds h.1) refl
 
@@ -55,7 +55,7 @@ digits_again : (ds : List ℕ) → digits_of (digits_text ds) ≡ ds
 digits_again [] = refl
 digits_again (d ∷ ds) = let back : d + 48 - 48 ≡ d = omega arith in rw (back, digits_again ds) refl
 
-prefix_again : (ds : List ℕ) → IsPrefix ds → read_digits 1 12 (digits_text ds) ≡ Ok ds
+pub prefix_again : (ds : List ℕ) → IsPrefix ds → read_digits 1 12 (digits_text ds) ≡ Ok ds
 prefix_again ds h =
     let same : length (digits_text ds) ≡ length ds = length-map ds (λ d. d + 48) in
     let enough : nat_lt (length (digits_text ds)) 1 ≡ false = le-ltb (length (digits_text ds)) 1 (omega (arith, same, h.not_short)) in

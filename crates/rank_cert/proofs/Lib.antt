@@ -2,6 +2,7 @@ mod Again
 mod Behind
 mod Cuts
 mod Growing
+pub mod LineFields
 mod Pairs
 pub mod Together
 mod Ascending

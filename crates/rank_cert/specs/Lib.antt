@@ -1,5 +1,6 @@
 pub mod Adding
 pub mod Kept
+pub mod Like
 pub mod Ranks
 pub mod Reading
 pub mod Runs

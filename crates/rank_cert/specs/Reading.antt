@@ -29,12 +29,16 @@ abbrev pub three : List (List ℕ) → Option (List ℕ × List ℕ × List ℕ)
 three (name ∷ prefix ∷ rank ∷ []) = Some (name, prefix, rank)
 three _ = None
 
+-- the prefix that digits write
+abbrev pub prefix_of : List ℕ → Option (List ℕ)
+prefix_of text = result_ok (read_digits 1 12 text)
+
 -- a name, a prefix and a rank
 abbrev pub row_of : List ℕ → Option Rank
 row_of line = do
   parts ← three (fields line)
   node ← name_of parts.0
-  prefix ← result_ok (read_digits 1 12 parts.1)
+  prefix ← prefix_of parts.1
   rank ← number_of parts.2
   Some (record { node = node; prefix = prefix; rank = rank })
 
@@ -85,7 +89,7 @@ Gives (Ok rows) read = read ≡ Ok rows
 Gives (Err e) read = Fails e read
 
 -- the row of a line was added, or why it wasn't
-abbrev pub Adds : List Rank → List Rank → List ℕ → Result (Unit {0}) CertFault → Type 0
-Adds old new line (Ok done) = (r : Rank) × (new_row old (row_of line) ≡ Ok r) × (new ≡ old ++ r ∷ [])
+abbrev pub Adds : List Rank → List Rank → List ℕ → Result (List ℕ) CertFault → Type 0
+Adds old new line (Ok prefix) = (r : Rank) × (new_row old (row_of line) ≡ Ok r) × (new ≡ old ++ r ∷ [])
 Adds old new line (Err Memory) = Unit {0}
 Adds old new line (Err e) = new_row old (row_of line) ≡ Err e

@@ -1,6 +1,7 @@
 //! Ranks of pairs of a node's name and a prefix.
 ghost use Rattle.std.specs.Prelude.{◌≡◌, [], ◌∷◌, ◌++◌, Some, IfOk, IfSome, OnErr};
 ghost use Rattle.rank_cert.specs.Ranks.{rank_of, is_new, IsRow, IsCert};
+ghost use Rattle.rank_cert.specs.Runs.{IsRun};
 
 use crate::kept::Kept;
 use crate::runs::rows_from;
@@ -144,6 +145,38 @@ impl Cert {
             return Some(rank);
         }
         self.kept.rank_near(near, node, prefix)
+    }
+}
+
+impl Cert {
+    /// Where the rows of a prefix begin, where those of each prefix stand together.
+    pub fn begin_of(&self, prefix: &Prefix) -> Option<usize>
+        ensures { IfSome result (IsRun self.now prefix.now) }
+    {
+        self.kept.begin_of(prefix)
+    }
+
+    /// The rank of the row at a place, where that row is of this pair; the place is then moved on. So ranks that are asked for in the
+    /// order of the rows cost no search.
+    #[tactic(auto, using(crate::proofs::Together::rank_here))]
+    pub fn next_rank(&self, place: &mut usize, node: &Name, prefix: &Prefix) -> Option<u16>
+        ensures { IfSome result (λ rank. rank_of self.now node.now prefix.now ≡ Some rank) }
+    {
+        let rank = first_rank(rows_from(self.rows(), *place), node, prefix)?;
+        *place = place.saturating_add(1);
+        Some(rank)
+    }
+}
+
+/// The rank of a pair, where the first row is of it.
+fn first_rank(rows: &[Rank], node: &Name, prefix: &Prefix) -> Option<u16>
+    ensures { IfSome result (λ rank. rank_of rows.now node.now prefix.now ≡ Some rank) }
+{
+    let row = rows.first()?;
+    if row.node == *node && row.prefix == *prefix {
+        Some(row.rank)
+    } else {
+        None
     }
 }
 

@@ -1,7 +1,8 @@
 //! The rows of a certificate: in runs as long as each prefix's rows stand together, and otherwise in a set.
-ghost use Rattle.std.specs.Prelude.{◌≡◌, ◌≤◌, ◌∷◌, ◌++◌, [], true, false, is_none, Ok, IfOk, OnErr, if◌then◌else◌};
+ghost use Rattle.std.specs.Prelude.{◌≡◌, ◌≤◌, ◌∷◌, ◌++◌, [], true, false, is_none, Ok, IfOk, IfSome, OnErr, if◌then◌else◌};
 ghost use Rattle.rank_cert.specs.Ranks.{rank_of, IsCert};
 ghost use Rattle.rank_cert.specs.Kept.{rows_of};
+ghost use Rattle.rank_cert.specs.Runs.{IsRun};
 
 use crate::cert::{NEAR, Rank};
 use crate::runs::{Added, Runs, rank_in_run, rows_from};
@@ -49,7 +50,17 @@ impl Kept {
         }
     }
 
-    /// The same. `near` is moved to where the rows begin that stand together and have the prefix.
+    /// Where the rows of a prefix begin, where those of each prefix stand together.
+    pub fn begin_of(&self, prefix: &Prefix) -> Option<usize>
+        ensures { IfSome result (IsRun (rows_of self.now) prefix.now) }
+    {
+        match self {
+            Kept::Together(runs) => runs.begin_of(prefix),
+            Kept::Apart(_) => None,
+        }
+    }
+
+    /// The same as `rank`. `near` is moved to where the rows begin that stand together and have the prefix.
     pub fn rank_near(&self, near: &mut usize, node: &Name, prefix: &Prefix) -> Option<u16>
         ensures { result ≡ rank_of (rows_of self.now) node.now prefix.now }
     {
@@ -78,12 +89,28 @@ impl Kept {
             Kept::Together(runs) => match runs.add(row)? {
                 Added::Yes => Ok(true),
                 Added::Twice => Ok(false),
-                Added::Apart => {
-                    let (set, added) = moved_over(runs, &row)?;
-                    *self = Kept::Apart(set);
-                    Ok(added)
-                }
+                Added::Apart => self.move_over(&row),
             },
+        }
+    }
+
+    /// The same, with all rows in a set from here on.
+    #[cold]
+    #[inline(never)]
+    fn move_over(&mut self, row: &Rank) -> Result<bool, AllocError>
+        requires { IsCert (rows_of self.old) }
+        ensures added { IfOk result (λ added. added ≡ is_none (rank_of (rows_of self.old) row.now.node row.now.prefix)) }
+        ensures yes { result ≡ Ok true → rows_of self.new ≡ rows_of self.old ++ row.now ∷ [] }
+        ensures no { result ≡ Ok false → rows_of self.new ≡ rows_of self.old }
+        ensures err { OnErr result (rows_of self.new ≡ rows_of self.old) }
+    {
+        match self {
+            Kept::Apart(set) => add_to_set(set, *row),
+            Kept::Together(runs) => {
+                let (set, added) = moved_over(runs, row)?;
+                *self = Kept::Apart(set);
+                Ok(added)
+            }
         }
     }
 }
@@ -100,6 +127,7 @@ fn moved_over(runs: &Runs, row: &Rank) -> Result<(IndexSet<Rank>, bool), AllocEr
 }
 
 /// Adds a row at the end, but not where its pair is there.
+#[inline(never)]
 fn add_to_set(set: &mut IndexSet<Rank>, row: Rank) -> Result<bool, AllocError>
     ensures added { IfOk result (λ added. added ≡ is_none (rank_of set.old.keys row.node row.prefix)) }
     ensures yes { result ≡ Ok true → set.new.keys ≡ set.old.keys ++ row ∷ [] }

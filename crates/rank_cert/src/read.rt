@@ -3,10 +3,10 @@ ghost use Rattle.std.specs.Prelude.{◌≡◌, [], codes};
 ghost use Rattle.card_digits.specs.Lines.{lines};
 ghost use Rattle.rank_cert.specs.Reading.{is_line, new_row, line_behind, rows_in, cert_in, Gives};
 
-use crate::cert::{Cert, Rank};
+use crate::cert::Cert;
 use crate::fault::CertFault;
-use crate::row::row_of;
-use card_digits::first_line;
+use crate::row::{add_all_like, row_of};
+use card_digits::{Prefix, first_line};
 use std::alloc::Global;
 
 fn is_header(line: &[u8]) -> bool
@@ -54,8 +54,8 @@ fn read_rows(alloc: Global, text: &[u8]) -> Result<Cert, CertFault>
         if is_end(line) {
             return ended(cert, behind);
         }
-        read_row(&mut cert, line)?;
-        rest = behind;
+        let prefix = read_row(&mut cert, line)?;
+        rest = add_all_like(&mut cert, &prefix, behind)?;
     }
     Err(CertFault::NoEnd)
 }
@@ -73,14 +73,15 @@ fn ended(cert: Cert, behind: &[u8]) -> Result<Cert, CertFault>
 
 ghost use Rattle.rank_cert.specs.Reading.{ended, Adds};
 
-/// Adds the row of the next line.
-fn read_row(cert: &mut Cert, line: &[u8]) -> Result<(), CertFault>
+/// Adds the row of the next line, and gives its prefix.
+fn read_row(cert: &mut Cert, line: &[u8]) -> Result<Prefix, CertFault>
     ensures { Adds cert.old cert.new line.now result }
 {
     let number = cert.rows().len() + 2;
     let row = row_of(line).ok_or(CertFault::Line(number))?;
+    let prefix = row.prefix;
     if cert.add_row(row)? {
-        Ok(())
+        Ok(prefix)
     } else {
         Err(CertFault::Twice(number))
     }

@@ -200,7 +200,8 @@ fn add_to_run(
     if run.len() >= NEAR {
         return Ok(Added::Apart);
     }
-    rows.push(row)?;
+    rows.reserve(1)?;
+    rows.push_reserved(row);
     if behind {
         *greatest = Some(row.node);
     }
@@ -208,6 +209,7 @@ fn add_to_run(
 }
 
 /// Begins a run with a row, unless its prefix has one. Memory is asked for before anything is written.
+#[inline(never)]
 fn begin_run(
     rows: &mut Vec<Rank>,
     begins: &mut HashMap<Prefix, usize>,

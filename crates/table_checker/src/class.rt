@@ -1,5 +1,5 @@
 //! The rules that go by class.
-ghost use Rattle.std.specs.Prelude.{◌≡◌, ◌≤◌, length, Some, None};
+ghost use Rattle.std.specs.Prelude.{◌≡◌, ◌≤◌, [], length, Some, None};
 ghost use Rattle.std.specs.Option.{option_or};
 
 use crate::refusal::{Kind, Refusal};
@@ -85,12 +85,27 @@ impl At<'_> {
         }
     }
 
+    /// Nothing, where no node has a row for it.
+    fn no_day(&self, ceiling: u64) -> ByDay
+        requires { self.now.tables.now.stand_ins ≡ [] }
+        ensures not_named { result.not_named ≡ None }
+        ensures over_ceiling { result.over_ceiling ≡ over_ceiling self.now.tables.now self.now.cert.now self.now.class ceiling }
+    {
+        ByDay {
+            not_named: None,
+            over_ceiling: self.over_ceiling(ceiling, 0),
+        }
+    }
+
     /// What nodes may approve by themselves, each looked up once.
     pub fn by_day(&self, issuer: &Issuer) -> ByDay
         requires { HasRows self.now }
         ensures not_named { result.not_named ≡ first_below (node_refusal self.now.tables.now self.now.cert.now self.now.class Kind.NotNamed issuer.now) (length self.now.tables.now.nodes) }
         ensures over_ceiling { result.over_ceiling ≡ over_ceiling self.now.tables.now self.now.cert.now self.now.class issuer.now.ceiling }
     {
+        if self.tables.stand_ins().is_empty() {
+            return self.no_day(issuer.ceiling.value());
+        }
         let mut not_named = None;
         let mut total = 0;
         for i in 0..self.tables.nodes().len() {

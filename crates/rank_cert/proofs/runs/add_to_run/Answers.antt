@@ -9,9 +9,9 @@ is_known-requires c = λ is. rw (c.rows_from-run.ensures, c.deref.ensures.value)
 pub returns-then-behind-clause-up_to : goal.returns-then-behind-clause-up_to
 returns-then-behind-clause-up_to c =
     let is : is_behind c.args.greatest.now c.args.row.node ≡ true = sym c.if-behind.ensures in
-    rw c.in_ok-push.ensures.items (push_behind c.args.greatest.now c.args.rows.now.items c.args.begin c.args.row c.requires.within c.requires.up_to is)
+    rw (c.push_reserved.ensures.items, c.in_ok-reserve.ensures.items) (push_behind c.args.greatest.now c.args.rows.now.items c.args.begin c.args.row c.requires.within c.requires.up_to is)
 
 pub returns-else-behind-clause-up_to : goal.returns-else-behind-clause-up_to
 returns-else-behind-clause-up_to c =
     let is : is_behind c.args.greatest.now c.args.row.node ≡ false = sym c.if-behind.ensures in
-    rw c.in_ok-push.ensures.items (push_among c.args.greatest.now c.args.rows.now.items c.args.begin c.args.row c.requires.within c.requires.up_to is)
+    rw (c.push_reserved.ensures.items, c.in_ok-reserve.ensures.items) (push_among c.args.greatest.now c.args.rows.now.items c.args.begin c.args.row c.requires.within c.requires.up_to is)

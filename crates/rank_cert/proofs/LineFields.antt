@@ -1,0 +1,247 @@
+-- The fields of a line, read from the front.
+use Rattle.std.proofs.Common.{◌≡◌, ℕ, ◌<◌, ◌==◌, ◌||◌, ◌++◌, Bool, true, false, not, cond, List, [], ◌∷◌, Option, Some, None, Ok, refl, sym, ap, ◌∙◌, inl, inr, arith, suc, ◌+◌, length, get_or, take, drop, drop-cons, add-one, nat_lt, append_assoc, Err}
+use Rattle.std.proofs.lemmas.List.{take-append-drop}
+use Rattle.std.proofs.Math.Seq.{take-length}
+use Rattle.std.specs.Prelude.{option_map, codes, is_none, is_some}
+use Rattle.std.specs.Cmp.Lexicographic.{same_text}
+use Rattle.std.proofs.lemmas.List.Elements.{All-cons, All-append}
+use Rattle.std.specs.Char.{is_ascii_digit, is_ascii_alphanumeric}
+use Rattle.std.specs.List.{list_all, onto_first}
+use Rattle.std.specs.Result.{result_ok}
+use Rattle.std.proofs.lemmas.Bool.{cases_Bool}
+use Rattle.std.proofs.lemmas.List.Splits.{length-slice_split}
+use Rattle.card_digits.specs.Cut.{IsCut}
+use Rattle.card_digits.specs.Digits.{IsPrefix, digits_text}
+use Rattle.card_digits.specs.Reading.{name_of}
+use Rattle.card_digits.specs.Steps.{◌>>=◌}
+use Rattle.card_digits.specs.Lines.{lines}
+use Rattle.card_digits.proofs.Cuts.{Others}
+use Rattle.card_digits.proofs.LineCuts.{lines-at}
+use Rattle.rank_cert.specs.declared.cert.Rank.{Rank}
+use Rattle.rank_cert.specs.declared.fault.CertFault.TheVariants.{Twice}
+use Rattle.rank_cert.specs.Like.{IsLike}
+use Rattle.rank_cert.specs.Ranks.{rank_of}
+use Rattle.rank_cert.specs.Reading.{fields, three, number_of, prefix_of, row_of, is_line, line_behind, new_row, then_rows, rows_in}
+use Rattle.rank_cert.proofs.Cuts.{fields-at, fields-one}
+use Rattle.rank_cert.proofs.Again.{others_from, digits_pass, prefix_again}
+
+-- ---- the prefix and what stands behind it
+
+-- the prefix that the first of several fields is, and the fields behind it
+abbrev pub prefix_field : List (List ℕ) → Option (List ℕ × List (List ℕ))
+prefix_field (text ∷ next ∷ rest) = prefix_of text >>= λ prefix. Some (prefix, next ∷ rest)
+prefix_field _ = None
+
+some_fields : (text : List ℕ) → 0 < length (fields text)
+some_fields text = omega (arith, length-slice_split (λ b. b == 32) text)
+
+front_of : (text prefix : List ℕ) (rest : List (List ℕ)) → 0 < length rest → prefix_of text ≡ Some prefix → prefix_field (text ∷ rest) ≡ Some (prefix, rest)
+front_of text prefix [] some is = absurd (omega arith)
+front_of text prefix (next ∷ rest) some is = ap (λ (o : Option (List ℕ)). o >>= λ p. Some (p, next ∷ rest)) is
+
+-- a prefix that is cut off
+pub prefix_cut : (text front rest prefix : List ℕ) → IsCut 32 text front rest → prefix_of front ≡ Some prefix → prefix_field (fields text) ≡ Some (prefix, fields rest)
+prefix_cut text front rest prefix cut is = rw (fields-at text front rest cut) (front_of front prefix (fields rest) (some_fields rest) is)
+
+-- a prefix that is spelled again
+pub prefix_spelled : (text prefix rest : List ℕ) → IsPrefix prefix → text ≡ digits_text prefix ++ 32 ∷ rest → prefix_field (fields text) ≡ Some (prefix, fields rest)
+prefix_spelled text prefix rest form whole =
+    prefix_cut text (digits_text prefix) rest prefix
+    (record { none = others_from is_ascii_digit 32 refl (digits_text prefix) (digits_pass prefix form.digits); whole = whole })
+    (ap result_ok (prefix_again prefix form))
+
+pub no_cut : (text : List ℕ) → Others 32 text → prefix_field (fields text) ≡ None
+no_cut text none = rw (fields-one text none) refl
+
+no_front : (text : List ℕ) (rest : List (List ℕ)) → prefix_of text ≡ None → prefix_field (text ∷ rest) ≡ None
+no_front text [] is = refl
+no_front text (next ∷ rest) is = ap (λ (o : Option (List ℕ)). o >>= λ p. Some (p, next ∷ rest)) is
+
+pub no_prefix_cut : (text front rest : List ℕ) → IsCut 32 text front rest → prefix_of front ≡ None → prefix_field (fields text) ≡ None
+no_prefix_cut text front rest cut is = rw (fields-at text front rest cut) (no_front front (fields rest) is)
+
+-- ---- the row
+
+-- the row of some fields
+abbrev row_in : List (List ℕ) → Option Rank
+row_in parts = three parts >>= λ p. name_of p.0 >>= λ node. prefix_of p.1 >>= λ prefix. number_of p.2 >>= λ rank. Some (record { node = node; prefix = prefix; rank = rank })
+
+in_fields : (line name behind : List ℕ) → IsCut 32 line name behind → row_of line ≡ row_in (name ∷ fields behind)
+in_fields line name behind cut = ap row_in (fields-at line name behind cut)
+
+pub no_space : (line : List ℕ) → Others 32 line → row_of line ≡ None
+no_space line none = ap row_in (fields-one line none)
+
+nameless : (name : List ℕ) (rest : List (List ℕ)) → name_of name ≡ None → row_in (name ∷ rest) ≡ None
+nameless name [] is = refl
+nameless name (a ∷ []) is = refl
+nameless name (a ∷ b ∷ []) is = ap (λ (o : Option (List ℕ)). o >>= λ node. prefix_of a >>= λ prefix. number_of b >>= λ rank. Some (record { node = node; prefix = prefix; rank = rank })) is
+nameless name (a ∷ b ∷ c ∷ rest) is = refl
+
+pub no_name : (line name behind : List ℕ) → IsCut 32 line name behind → name_of name ≡ None → row_of line ≡ None
+no_name line name behind cut is = in_fields line name behind cut ∙ nameless name (fields behind) is
+
+-- a prefix, and the fields behind it
+abbrev and_fields : List (List ℕ) → List ℕ → Option (List ℕ × List (List ℕ))
+and_fields rest prefix = Some (prefix, rest)
+
+step_none : (o : Option (List ℕ)) (rest : List (List ℕ)) → (o >>= and_fields rest) ≡ None → o ≡ None
+step_none None rest is = refl
+step_none (Some p) rest is = absurd cc
+
+-- no row
+abbrev no_row : List ℕ → Option Rank
+no_row node = None
+
+none_behind : (o : Option (List ℕ)) → (o >>= no_row) ≡ None
+none_behind None = refl
+none_behind (Some node) = refl
+
+prefixless : (name : List ℕ) (rest : List (List ℕ)) → prefix_field rest ≡ None → row_in (name ∷ rest) ≡ None
+prefixless name [] is = refl
+prefixless name (a ∷ []) is = refl
+prefixless name (a ∷ b ∷ []) is =
+    ap (λ (o : Option (List ℕ)). name_of name >>= λ node. o >>= λ prefix. number_of b >>= λ rank. Some (record { node = node; prefix = prefix; rank = rank })) (step_none (prefix_of a) (b ∷ []) is)
+    ∙ none_behind (name_of name)
+prefixless name (a ∷ b ∷ c ∷ rest) is = refl
+
+pub no_prefix : (line name behind : List ℕ) → IsCut 32 line name behind → prefix_field (fields behind) ≡ None → row_of line ≡ None
+no_prefix line name behind cut is = in_fields line name behind cut ∙ prefixless name (fields behind) is
+
+-- ---- the rank, which is the last field
+
+or_true : (b : Bool) (n : ℕ) → cond (b || true) None (cond (nat_lt 65535 n) None (Some n)) ≡ None
+or_true true n = refl
+or_true false n = refl
+
+-- digits are one field, and nothing else is a rank
+number_spaced : (text a b : List ℕ) (rest : List (List ℕ)) → fields text ≡ a ∷ b ∷ rest → number_of text ≡ None
+number_spaced text a b rest is = elim (cases_Bool (list_all is_ascii_digit text)) [
+  | inl digits ↦ let one = fields-one text (others_from is_ascii_digit 32 refl text digits) in absurd cc
+  | inr other ↦ rw other (or_true (length text == 0 || nat_lt 5 (length text)) _)
+]
+
+one_by : (b : ℕ) (bs x : List ℕ) (t : Bool) (rest : List (List ℕ)) → 0 < length rest → ((y : List ℕ) → rest ≡ y ∷ [] → y ≡ bs) → cond t ([] ∷ rest) (onto_first b rest) ≡ x ∷ [] → x ≡ b ∷ bs
+one_by b bs x true [] some one is = absurd (omega arith)
+one_by b bs x true (f ∷ rest) some one is = absurd cc
+one_by b bs x false [] some one is = absurd (omega arith)
+one_by b bs x false (f ∷ []) some one is = let same : f ≡ bs = one f refl in cc
+one_by b bs x false (f ∷ g ∷ rest) some one is = absurd cc
+
+-- a lone field is the whole text
+one_field : (text x : List ℕ) → fields text ≡ x ∷ [] → x ≡ text
+one_field [] x is = cc
+one_field (b ∷ bs) x is = one_by b bs x (b == 32) (fields bs) (some_fields bs) (one_field bs) is
+
+-- the row of a name and a prefix
+abbrev row_with : List ℕ → List ℕ → ℕ → Rank
+row_with node prefix rank = record { node = node; prefix = prefix; rank = rank }
+
+map_of : (node prefix : List ℕ) (o : Option ℕ) → (o >>= λ rank. Some (row_with node prefix rank)) ≡ option_map (row_with node prefix) o
+map_of node prefix None = refl
+map_of node prefix (Some n) = refl
+
+ranked_by : (name node text prefix rank : List ℕ) (ranks : List (List ℕ)) → 0 < length ranks → ((x : List ℕ) → ranks ≡ x ∷ [] → x ≡ rank)
+    → ((a b : List ℕ) (rest : List (List ℕ)) → ranks ≡ a ∷ b ∷ rest → number_of rank ≡ None) → name_of name ≡ Some node → prefix_of text ≡ Some prefix
+    → row_in (name ∷ text ∷ ranks) ≡ option_map (row_with node prefix) (number_of rank)
+ranked_by name node text prefix rank [] some one more n p = absurd (omega arith)
+ranked_by name node text prefix rank (x ∷ []) some one more n p =
+    ap (λ (o : Option (List ℕ)). o >>= λ node'. prefix_of text >>= λ prefix'. number_of x >>= λ k. Some (row_with node' prefix' k)) n
+    ∙ ap (λ (o : Option (List ℕ)). o >>= λ prefix'. number_of x >>= λ k. Some (row_with node prefix' k)) p
+    ∙ ap (λ (y : List ℕ). number_of y >>= λ k. Some (row_with node prefix k)) (one x refl)
+    ∙ map_of node prefix (number_of rank)
+ranked_by name node text prefix rank (a ∷ b ∷ rest) some one more n p = sym (ap (option_map (row_with node prefix)) (more a b rest refl))
+
+step_some : (o : Option (List ℕ)) (rest ranks : List (List ℕ)) (prefix : List ℕ) → (o >>= and_fields rest) ≡ Some (prefix, ranks) → (o ≡ Some prefix) × (rest ≡ ranks)
+step_some None rest ranks prefix is = absurd cc
+step_some (Some p) rest ranks prefix is =
+    let prefixes : Some p ≡ Some prefix = ap (option_map (λ (q : List ℕ × List (List ℕ)). q.0)) is in
+    let others : Some rest ≡ Some ranks = ap (option_map (λ (q : List ℕ × List (List ℕ)). q.1)) is in
+    (prefixes, cc)
+
+with_fields : (name node prefix rank : List ℕ) (rest : List (List ℕ)) → name_of name ≡ Some node → prefix_field rest ≡ Some (prefix, fields rank) → row_in (name ∷ rest) ≡ option_map (row_with node prefix) (number_of rank)
+with_fields name node prefix rank [] n is = absurd cc
+with_fields name node prefix rank (a ∷ []) n is = absurd cc
+with_fields name node prefix rank (a ∷ b ∷ rest) n is =
+    let parts = step_some (prefix_of a) (b ∷ rest) (fields rank) prefix is in
+    ap (λ (ranks : List (List ℕ)). row_in (name ∷ a ∷ ranks)) parts.1
+    ∙ ranked_by name node a prefix rank (fields rank) (some_fields rank) (one_field rank) (number_spaced rank) n parts.0
+
+pub a_row : (line name node behind prefix rank : List ℕ) → IsCut 32 line name behind → name_of name ≡ Some node → prefix_field (fields behind) ≡ Some (prefix, fields rank)
+    → row_of line ≡ option_map (row_with node prefix) (number_of rank)
+a_row line name node behind prefix rank cut n is = in_fields line name behind cut ∙ with_fields name node prefix rank (fields behind) n is
+
+-- ---- digits, and a space at the place behind them
+
+pub spelled_at : (text digits : List ℕ) → length digits < length text → get_or text (length digits) 0 ≡ 32 → take (length digits) text ≡ digits_text (take (length digits) digits)
+    → text ≡ digits_text digits ++ 32 ∷ drop (length digits + 1) text
+spelled_at text digits within space same =
+    let front : take (length digits) text ≡ digits_text digits = rw take-length at same in
+    let behind : drop (length digits) text ≡ 32 ∷ drop (length digits + 1) text = rw add-one (drop-cons text (length digits) 0 within ∙ ap (λ (b : ℕ). b ∷ drop (suc (length digits)) text) space) in
+    sym (take-append-drop (length digits) text) ∙ (ap (λ (xs : List ℕ). xs ++ drop (length digits) text) front ∙ ap (λ (xs : List ℕ). digits_text digits ++ xs) behind)
+
+-- ---- a line of the prefix of the line before it
+
+letters : (name node : List ℕ) (few all : Bool) → cond (few || not all) None (Some name) ≡ Some node → all ≡ true
+letters name node few true h = refl
+letters name node true false h = cc
+letters name node false false h = cc
+
+-- the line
+abbrev line_like : List ℕ → List ℕ → List ℕ → List ℕ
+line_like prefix name rank = name ++ 32 ∷ (digits_text prefix ++ 32 ∷ rank)
+
+row_like : (prefix text name rank rest node : List ℕ) → IsLike prefix text name rank rest → name_of name ≡ Some node → row_of (line_like prefix name rank) ≡ option_map (row_with node prefix) (number_of rank)
+row_like prefix text name rank rest node h is =
+    a_row (line_like prefix name rank) name node (digits_text prefix ++ 32 ∷ rank) prefix rank (record { none = h.one_name; whole = refl }) is
+    (prefix_spelled (digits_text prefix ++ 32 ∷ rank) prefix rank h.form refl)
+
+feedless : (prefix text name rank rest node : List ℕ) → IsLike prefix text name rank rest → name_of name ≡ Some node → Others 10 (line_like prefix name rank)
+feedless prefix text name rank rest node h is =
+    let P = λ (b : ℕ). (b == 10) ≡ false in
+    let passes = letters name node (length name == 0 || nat_lt 8 (length name)) (list_all is_ascii_alphanumeric name) is in
+    All-append P name (32 ∷ (digits_text prefix ++ 32 ∷ rank))
+    (others_from is_ascii_alphanumeric 10 refl name passes)
+    (All-cons P 32 (digits_text prefix ++ 32 ∷ rank) refl
+    (All-append P (digits_text prefix) (32 ∷ rank)
+    (others_from is_ascii_digit 10 refl (digits_text prefix) (digits_pass prefix h.form.digits))
+    (All-cons P 32 rank refl h.one_line)))
+
+lines_like : (prefix text name rank rest node : List ℕ) → IsLike prefix text name rank rest → name_of name ≡ Some node → lines text ≡ line_like prefix name rank ∷ lines rest
+lines_like prefix text name rank rest node h is =
+    let apart : line_like prefix name rank ++ 10 ∷ rest ≡ name ++ 32 ∷ (digits_text prefix ++ 32 ∷ (rank ++ 10 ∷ rest)) =
+    append_assoc name (32 ∷ (digits_text prefix ++ 32 ∷ rank)) (10 ∷ rest) ∙ ap (λ (xs : List ℕ). name ++ 32 ∷ xs) (append_assoc (digits_text prefix) (32 ∷ rank) (10 ∷ rest)) in
+    ap lines (h.whole ∙ sym apart) ∙ lines-at (line_like prefix name rank) rest (feedless prefix text name rank rest node h is)
+
+-- a line that is a row isn't the end
+not_end : (line : List ℕ) (r : Rank) → row_of line ≡ Some r → (t : Bool) → is_line line (codes "END") ≡ t → t ≡ false
+not_end line r some false is = refl
+not_end line r some true is =
+    let same = same_text line (codes "END") (sym is) in
+    let none : row_of line ≡ None = rw same refl in
+    cc
+
+rows_like : (done : List Rank) (prefix text name rank rest node : List ℕ) (r : Rank) → IsLike prefix text name rank rest → name_of name ≡ Some node → Some r ≡ option_map (row_with node prefix) (number_of rank)
+    → rows_in done (lines text) ≡ then_rows (new_row done (Some r)) (λ s. rows_in (done ++ s ∷ []) (lines rest))
+rows_like done prefix text name rank rest node r h is ranked =
+    let some : row_of (line_like prefix name rank) ≡ Some r = row_like prefix text name rank rest node h is ∙ sym ranked in
+    ap (rows_in done) (lines_like prefix text name rank rest node h is)
+    ∙ rw (not_end (line_like prefix name rank) r some (is_line (line_like prefix name rank) (codes "END")) refl, some) refl
+
+pub one_more : (done new : List Rank) (prefix text name rank rest node : List ℕ) (r : Rank) → IsLike prefix text name rank rest → name_of name ≡ Some node → Some r ≡ option_map (row_with node prefix) (number_of rank)
+    → is_none (rank_of done r.node r.prefix) ≡ true → new ≡ done ++ r ∷ [] → rows_in done (lines text) ≡ rows_in new (lines rest)
+one_more done new prefix text name rank rest node r h is ranked new_pair more =
+    rows_like done prefix text name rank rest node r h is ranked ∙ added (rank_of done r.node r.prefix) new_pair
+  where
+    added : (o : Option ℕ) → is_none o ≡ true → then_rows (cond (is_some o) (Err (Twice (line_behind done))) (Ok r)) (λ s. rows_in (done ++ s ∷ []) (lines rest)) ≡ rows_in new (lines rest)
+    added None is_new = rw more refl
+    added (Some k) is_new = absurd cc
+
+pub twice : (done : List Rank) (prefix text name rank rest node : List ℕ) (r : Rank) → IsLike prefix text name rank rest → name_of name ≡ Some node → Some r ≡ option_map (row_with node prefix) (number_of rank)
+    → is_none (rank_of done r.node r.prefix) ≡ false → rows_in done (lines text) ≡ Err (Twice (line_behind done))
+twice done prefix text name rank rest node r h is ranked old_pair =
+    rows_like done prefix text name rank rest node r h is ranked ∙ refused (rank_of done r.node r.prefix) old_pair
+  where
+    refused : (o : Option ℕ) → is_none o ≡ false → then_rows (cond (is_some o) (Err (Twice (line_behind done))) (Ok r)) (λ s. rows_in (done ++ s ∷ []) (lines rest)) ≡ Err (Twice (line_behind done))
+    refused None is_old = absurd cc
+    refused (Some k) is_old = refl
