@@ -1,27 +1,45 @@
 //! The book of requests that a node uses.
+ghost use Rattle.std.specs.Prelude.{◌≡◌, IfOk};
+
 use crate::messages::{approval, request};
 use crate::report::{report, start};
-use iso_message::{Message, has_own_key, key_of};
-use request_book::{PendingBook, PreparedOutput, Row, Way, is_advice, is_request};
+use iso_message::{Message, encode, has_own_key, key_of};
+use request_book::{KeptMessage, PendingBook, PreparedOutput, Row, Way, is_advice, is_request};
+use shared_bytes::SharedBytes;
 use std::alloc::{AllocError, Global};
 use std::io;
 
-#[tactic(auto, using(crate::proofs::Keys::known_key))]
-fn row_of(message: Message) -> Option<Row> {
-    let key = key_of(&message)?;
-    if !has_own_key(&message) || !is_request(message.kind()) {
-        return None;
-    }
-    Some(Row::new(key, message, None, 0))
+/// A message as the book keeps it.
+fn kept(alloc: Global, message: &Message) -> Result<KeptMessage, AllocError>
+    ensures { IfOk result (λ k. k ≡ message.now) }
+{
+    let bytes = encode(alloc, message)?;
+    let shared = SharedBytes::from_vec(alloc, bytes)?;
+    Ok(KeptMessage::new(message, shared))
 }
 
 #[tactic(auto, using(crate::proofs::Keys::known_key))]
-fn answer_of(message: Message) -> Option<PreparedOutput> {
-    let key = key_of(&message)?;
-    if is_advice(message.kind().group()) {
-        return None;
+fn row_of(alloc: Global, message: &Message) -> Result<Option<Row>, AllocError> {
+    let Some(key) = key_of(message) else {
+        return Ok(None);
+    };
+    if !has_own_key(message) || !is_request(message.kind()) {
+        return Ok(None);
     }
-    Some(PreparedOutput::of_message(Way::Answer, key, message))
+    let kept = kept(alloc, message)?;
+    Ok(Some(Row::new(key, kept, None, 0)))
+}
+
+#[tactic(auto, using(crate::proofs::Keys::known_key))]
+fn answer_of(alloc: Global, message: &Message) -> Result<Option<PreparedOutput>, AllocError> {
+    let Some(key) = key_of(message) else {
+        return Ok(None);
+    };
+    if is_advice(message.kind().group()) {
+        return Ok(None);
+    }
+    let kept = kept(alloc, message)?;
+    Ok(Some(PreparedOutput::of_message(Way::Answer, key, kept)))
 }
 
 /// So many requests from a trace number on.
@@ -29,7 +47,7 @@ fn rows(alloc: Global, first: u32, count: u32) -> Result<Vec<Row>, AllocError> {
     let mut rows = Vec::new(alloc);
     for i in 0..count {
         if let Some(message) = request(alloc, first.wrapping_add(i))? {
-            if let Some(row) = row_of(message) {
+            if let Some(row) = row_of(alloc, &message)? {
                 rows.push(row)?;
             }
         }
@@ -42,7 +60,7 @@ fn answers(alloc: Global, count: u32) -> Result<Vec<PreparedOutput>, AllocError>
     let mut answers = Vec::new(alloc);
     for trace in 0..count {
         if let Some(message) = approval(alloc, trace)? {
-            if let Some(answer) = answer_of(message) {
+            if let Some(answer) = answer_of(alloc, &message)? {
                 answers.push(answer)?;
             }
         }

@@ -2,14 +2,15 @@
 ghost use Rattle.std.specs.Prelude.{◌≡◌, IfOk};
 ghost use Rattle.link_rings.specs.Rings.{packet};
 
-use std::alloc::{AllocError, Global};
+use shared_bytes::SharedBytes;
+use std::alloc::AllocError;
 use std::marker::Model;
 
 /// The bytes that a node put on a link, with their serial. Contracts see a serial and a list.
 #[derive(Drop)]
 pub struct Packet {
     serial: u64,
-    bytes: Vec<u8>,
+    bytes: SharedBytes,
 }
 
 impl Model for Packet {
@@ -17,22 +18,25 @@ impl Model for Packet {
 
     ghost Value = { PacketView };
 
-    ghost view = { λ p. packet p.serial p.bytes.items };
+    ghost view = { λ p. packet p.serial p.bytes };
 }
 
 impl Packet {
-    pub fn new(serial: u64, bytes: Vec<u8>) -> Packet
-        ensures { result ≡ packet serial bytes.items }
+    pub fn new(serial: u64, bytes: SharedBytes) -> Packet
+        ensures { result ≡ packet serial bytes }
     {
         Packet { serial, bytes }
     }
 
-    /// The packet with a copy of these bytes.
-    pub fn from_slice(alloc: Global, serial: u64, bytes: &[u8]) -> Result<Packet, AllocError>
-        ensures { IfOk result (λ p. p ≡ packet serial bytes.now) }
+    /// The packet once more, with the same bytes.
+    pub fn share(&self) -> Result<Packet, AllocError>
+        ensures { IfOk result (λ p. p ≡ self.now) }
     {
-        let bytes = Vec::from_slice(alloc, bytes)?;
-        Ok(Packet { serial, bytes })
+        let bytes = self.bytes.share()?;
+        Ok(Packet {
+            serial: self.serial,
+            bytes,
+        })
     }
 
     pub fn serial(&self) -> u64
@@ -41,15 +45,9 @@ impl Packet {
         self.serial
     }
 
-    pub fn bytes(&self) -> &[u8]
-        ensures { result.now ≡ self.now.bytes }
-    {
-        self.bytes.as_slice()
-    }
-
-    /// The bytes themselves.
-    pub fn into_bytes(self) -> Vec<u8>
-        ensures { result.items ≡ self.bytes }
+    /// The bytes, which others may hold too.
+    pub fn into_bytes(self) -> SharedBytes
+        ensures { result ≡ self.bytes }
     {
         let Packet { serial: _, bytes } = self;
         bytes

@@ -5,6 +5,7 @@ ghost use Rattle.net_replay.specs.Packets.{bytes_at, place_of, put_at, put_all};
 
 use card_digits::LinkNo;
 use request_book::Way;
+use shared_bytes::SharedBytes;
 use std::alloc::{AllocError, Global};
 use std::marker::Model;
 use switch_node::{Entry, Output};
@@ -49,13 +50,13 @@ impl Model for Packets {
 }
 
 /// The bytes at a place of a trace, if there is one.
-pub(crate) fn bytes_at(trace: &[Entry], place: Option<PacketPlace>) -> Option<&[u8]>
+pub(crate) fn bytes_at(trace: &[Entry], place: Option<PacketPlace>) -> Option<&SharedBytes>
     ensures { option_copied result ≡ option_and_then (bytes_at trace.now) place }
 {
     let place = place?;
     let entry = trace.get(place.entry)?;
     let output = entry.outputs().as_slice().get(place.output)?;
-    Some(output.bytes())
+    Some(output.shared_bytes())
 }
 
 impl Packets {

@@ -17,6 +17,7 @@ use card_digits::{LinkNo, NodeNo};
 use net_rows::Tables;
 use network_law::StepFault;
 use replay_script::{Command, ScriptLine};
+use shared_bytes::SharedBytes;
 use std::alloc::{AllocError, Global};
 use switch_node::{Case, Input, Node};
 use table_checker::Accepted;
@@ -69,7 +70,7 @@ impl<'a> Running<'a> {
     }
 
     /// The packet with this serial that the other end put on the link.
-    fn packet(&self, node: NodeNo, link: LinkNo, serial: u64) -> Option<&[u8]>
+    fn packet(&self, node: NodeNo, link: LinkNo, serial: u64) -> Option<&SharedBytes>
         requires standing { (steps : List Step) × IsStanding self.now steps }
         requires own { is_link_of self.now.tables.now node link ≡ true }
         ensures { (steps : List Step) → IsStanding self.now steps → MatchOption result (LacksPacket self.now.tables.now steps node (Take link serial)) (λ b. WasSent self.now.tables.now steps node link serial b.now) }
@@ -93,7 +94,7 @@ impl<'a> Running<'a> {
                 let Some(bytes) = self.packet(line.node, link, serial) else {
                     return Err(ReplayFault::NoSuchPacket(number));
                 };
-                Case::Take(link, serial, copied(self.alloc, bytes)?)
+                Case::Take(link, serial, bytes.share()?)
             }
             Command::LinkUp(link) => Case::LinkUp(link),
             Command::LinkDown(link) => Case::LinkDown(link),

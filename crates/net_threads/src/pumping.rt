@@ -17,13 +17,13 @@ impl<'a> Station<'a> {
         let _ = self.apply(Input::new(Case::Take(link, serial, packet.into_bytes())));
     }
 
-    /// Applies it once or twice. The first of two needs a copy, and is refused where there is no memory for that.
+    /// Applies it once or twice. The first of two is lost where the packet can't be shared.
     fn take_times(&mut self, link: LinkNo, packet: Packet, twice: bool)
         ensures { TakesTimes twice link packet self.old self.new }
     {
         if twice {
-            if let Ok(copy) = Packet::from_slice(self.alloc(), packet.serial(), packet.bytes()) {
-                self.take_once(link, copy);
+            if let Ok(again) = packet.share() {
+                self.take_once(link, again);
             }
         }
         self.take_once(link, packet);

@@ -96,7 +96,7 @@ impl<'a> Station<'a> {
         if let Err(fault) = self.node.advance(input) {
             return Err(StationFault::Step(fault));
         }
-        send_all(self.alloc, &mut self.outs, self.node.newest_outputs());
+        send_all(&mut self.outs, self.node.newest_outputs());
         Ok(())
     }
 

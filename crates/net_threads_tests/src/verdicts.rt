@@ -3,6 +3,7 @@ use crate::network::{Act, copied, seen_on, step};
 use card_digits::{LinkNo, NodeNo};
 use net_threads::{Ended, LineEnd, Network, SessionEnd, Verdict};
 use sample_networks::Sample;
+use shared_bytes::SharedBytes;
 use std::alloc::{AllocError, Global};
 use std::mem;
 use std::sync::Wait;
@@ -27,7 +28,7 @@ const FORWARDED: &[u8] =
     b"010072220001000080001641111111111111110000000000000010000314091530000001031406400001840";
 
 fn take<R: Wait>(rt: &R, alloc: Global, network: &Network<'_, '_>) -> Result<bool, AllocError> {
-    let bytes = copied(alloc, FORWARDED)?;
+    let bytes = SharedBytes::from_slice(alloc, FORWARDED)?;
     Ok(step(rt, network, 1, Case::Take(LinkNo::new(0), 7, bytes)) == Some(Ok(())))
 }
 

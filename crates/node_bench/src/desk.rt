@@ -3,6 +3,7 @@ use crate::words::Words;
 use card_digits::{LinkNo, NodeNo};
 use network_law::StepFault;
 use request_book::Way;
+use shared_bytes::SharedBytes;
 use std::alloc::Global;
 use std::io;
 use switch_node::{Case, Input, Node};
@@ -86,7 +87,8 @@ impl<'t> Desk<'t> {
             return Ok(None);
         }
         let bytes = words.written(self.alloc, trace)?;
-        let input = Input::new(Case::Take(link, trace as u64, bytes));
+        let shared = SharedBytes::from_vec(self.alloc, bytes)?;
+        let input = Input::new(Case::Take(link, trace as u64, shared));
         let fault = self.node.advance(input).err();
         self.count(fault);
         Ok(fault)

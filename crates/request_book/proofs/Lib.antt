@@ -5,3 +5,4 @@ pub mod Unique
 pub mod Forwarding
 pub mod Places
 pub mod Least
+pub mod Spelled

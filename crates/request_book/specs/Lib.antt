@@ -1,3 +1,4 @@
 pub mod Values
 pub mod Ways
 pub mod Kept
+pub mod Spelled

@@ -3,14 +3,16 @@
 #![tactic(auto)]
 
 mod forwards;
+mod kept_message;
 mod marks;
 mod output;
 mod pending;
 mod row;
 mod spans;
 
+pub use kept_message::KeptMessage;
 pub use marks::Mark;
-pub use output::{PreparedOutput, Way, has_code, is_advice, is_request};
+pub use output::{PreparedOutput, Way, is_advice, is_request};
 pub use pending::PendingBook;
 pub use row::Row;
 pub use spans::Span;

@@ -1,4 +1,4 @@
-//! An output, its message not yet encoded.
+//! An output that is made ready.
 ghost use Rattle.std.specs.Prelude.{◌≡◌, bytes_eq, true, false, Some};
 ghost use Rattle.iso_message.specs.Codes.{code_of};
 ghost use Rattle.iso_message.specs.Groups.{is_request, is_answer, group};
@@ -7,8 +7,9 @@ ghost use Rattle.network_law.specs.Traces.{Put, Answer, Ask, Post, is_advice_gro
 ghost use Rattle.request_book.specs.Values.{output_key};
 ghost use Rattle.request_book.specs.Values.{message_of};
 
+use crate::kept_message::KeptMessage;
 use card_digits::{Key, LinkNo};
-use iso_message::{AdviceId, Group, Kind, Message, same_identity, same_key};
+use iso_message::{AdviceId, Group, Kind, same_identity, same_key};
 use std::marker::Model;
 
 /// Where an output goes.
@@ -30,7 +31,7 @@ pub struct PreparedOutput {
     pub(crate) way: Way,
     pub(crate) key: Key,
     pub(crate) advice: Option<AdviceId>,
-    pub(crate) message: Message,
+    pub(crate) message: KeptMessage,
 }
 
 impl Model for PreparedOutput {
@@ -51,7 +52,7 @@ impl PreparedOutput {
 
     /// An output of a message that is no advice.
     #[tactic(auto, using(crate::proofs::Codes::no_advice))]
-    pub fn of_message(way: Way, key: Key, message: Message) -> PreparedOutput
+    pub fn of_message(way: Way, key: Key, message: KeptMessage) -> PreparedOutput
         requires key { key ≡ key_of message }
         requires plain { is_advice_group (group message.kind) ≡ false }
         ensures { result ≡ output_of way message }
@@ -66,7 +67,7 @@ impl PreparedOutput {
 
     /// An output of an advice.
     #[tactic(auto, using(crate::proofs::Codes::advice_is, crate::proofs::Codes::id_key))]
-    pub fn of_advice(way: Way, id: AdviceId, message: Message) -> PreparedOutput
+    pub fn of_advice(way: Way, id: AdviceId, message: KeptMessage) -> PreparedOutput
         requires id { id ≡ identity_of message }
         requires advice { is_advice_group (group message.kind) ≡ true }
         ensures { result ≡ output_of way message }
@@ -108,7 +109,7 @@ impl PreparedOutput {
         self.key
     }
 
-    pub fn message(&self) -> &Message
+    pub fn message(&self) -> &KeptMessage
         ensures { result.now ≡ message_of self.now }
     {
         &self.message
@@ -171,16 +172,5 @@ pub fn is_answer(kind: Kind) -> bool
     match kind {
         Kind::K0110 => true,
         _ => false,
-    }
-}
-
-/// Whether a message's code is this one.
-#[tactic(auto, using(crate::proofs::Codes::found_code, crate::proofs::Codes::no_code))]
-pub fn has_code(message: &Message, code: &[u8]) -> bool
-    ensures { result ≡ bytes_eq (code_of message.now) code.now }
-{
-    match message.get(39) {
-        Some(bytes) => bytes == code,
-        None => code.is_empty(),
     }
 }

@@ -7,21 +7,21 @@ ghost use Rattle.node_machine.specs.Lists.{row_after};
 ghost use Rattle.request_book.specs.Values.{source_of, output_key, IsKeyOf, IsAnswerOf};
 ghost use Rattle.std.specs.Prelude.{false};
 
-use crate::output::{PreparedOutput, Way, has_code, is_answer, is_request};
+use crate::kept_message::KeptMessage;
+use crate::output::{PreparedOutput, Way, is_answer, is_request};
 use card_digits::{Key, LinkNo};
-use iso_message::Message;
 use std::marker::Model;
 
 /// A request with its key. A source is the link that it came by, or none of the gate.
 #[derive(Drop)]
 pub struct Row {
     key: Key,
-    message: Message,
+    message: KeptMessage,
     source: Option<LinkNo>,
     count: u64,
     link: Option<LinkNo>,
     asked: bool,
-    answer: Option<Message>,
+    answer: Option<KeptMessage>,
 }
 
 impl Model for Row {
@@ -39,7 +39,7 @@ impl Row {
     ghost use Rattle.node_machine.specs.Lists.{row_key};
 
     /// A request that was just opened.
-    pub fn new(key: Key, message: Message, source: Option<LinkNo>, count: u64) -> Row
+    pub fn new(key: Key, message: KeptMessage, source: Option<LinkNo>, count: u64) -> Row
         requires { IsKeyOf key message }
         ensures { result ≡ record { message = message; source = source_of source; count = count; link = None; asked = false; answer = None } }
     {
@@ -61,7 +61,7 @@ impl Row {
         self.key
     }
 
-    pub fn message(&self) -> &Message
+    pub fn message(&self) -> &KeptMessage
         ensures { result.now ≡ self.now.message }
     {
         &self.message
@@ -92,7 +92,7 @@ impl Row {
     }
 
     /// What the request was answered with, an answer of the same key.
-    pub fn answer(&self) -> Option<&Message>
+    pub fn answer(&self) -> Option<&KeptMessage>
         ensures answer { option_copied result ≡ self.now.answer }
         ensures own { IsAnswerOf (row_key self.now) self.now.answer }
     {
@@ -124,16 +124,13 @@ impl Row {
                     }
                 } else if self.answer.is_none()
                     && is_answer(message.kind())
-                    && !has_code(&message, b"94")
+                    && !message.has_code(b"94")
                 {
                     self.answer = Some(message);
                 }
             }
             Way::Answer => {
-                if self.answer.is_none()
-                    && is_answer(message.kind())
-                    && !has_code(&message, b"94")
-                {
+                if self.answer.is_none() && is_answer(message.kind()) && !message.has_code(b"94") {
                     self.answer = Some(message);
                 }
             }

@@ -34,6 +34,10 @@ pub on_ok : {A E : Type 0} {P Q : Type 0} (r : Result A E) → (P → Q) → OnO
 on_ok (Ok a) f p = f p
 on_ok (Err e) f p = tt
 
+-- what is done with a message that is kept is done with the message
+pub of_kept : (f : Fields → Progress → Progress) (kept m : Fields) (d e : Drafted) → kept ≡ m → d ≡ e → f kept (progress d) ≡ f m (progress e)
+of_kept f kept m d e p q = ap (λ x. f x (progress d)) p ∙ ap (λ x. f m (progress x)) q
+
 pub stored_is : (t : Network) (n : ℕ) (own : Bool) (m : Fields) (count : ℕ) (put home : Bool) (d d' : Drafted) (a : NewAdvice) → a ≡ record { message = m; count = count; own = own; home = home; put = put } → home ≡ is_at_home t n m → d' ≡ with_effect (effects.Kept a) d → progress d' ≡ steps.store t n own m count put (progress d)
 stored_is t n own m count put home d d' a is at e =
     ap progress e

@@ -1,5 +1,6 @@
 //! The books before an entry, and what the entry did so far.
 ghost use Rattle.std.specs.Prelude.{◌≡◌, ◌≤◌, ◌<◌, [], ◌∷◌, OnOk, OnErr, IfOk, length, vec_len, vec_capacity};
+ghost use Rattle.iso_message.specs.Spelling.{spelling};
 ghost use Rattle.network_law.specs.Entries.{spelled};
 ghost use Rattle.network_law.specs.Traces.{PutPacket};
 ghost use Rattle.node_machine.specs.Steps.{emit};
@@ -14,10 +15,11 @@ use crate::output::Output;
 use book_index::Sums;
 use card_digits::LinkNo;
 use entry_changes::Changes;
-use iso_message::encode_into;
+use iso_message::{Message, encode_into};
 use network_law::{GrantPacket, packet_bytes};
 use node_books::{Books, Effect, OwnApproval};
-use request_book::{PreparedOutput, Way};
+use request_book::{KeptMessage, PreparedOutput, Way};
+use shared_bytes::SharedBytes;
 use std::alloc::{AllocError, Global};
 use std::marker::Model;
 use std::mem::replace;
@@ -32,7 +34,9 @@ pub struct Draft {
     pub(crate) late_uses: Sums,
     pub(crate) outs: Vec<Output>,
     /// Room in which messages are spelled, used again for each.
-    pub(crate) spelling: Vec<u8>,
+    spelling: Vec<u8>,
+    /// The bytes that were taken or spelled last. What comes is often put out or kept with the same bytes.
+    at_hand: Option<SharedBytes>,
 }
 
 impl Model for Draft {
@@ -60,18 +64,27 @@ fn make_room(outputs: &mut Vec<Output>) -> Result<(), AllocError>
     }
 }
 
-/// An output in memory of its own, with no room to spare. Its message is spelled in a buffer whose memory serves again.
-#[tactic(auto, using(crate::proofs::Drafts::way_spelled))]
+/// The bytes that spell a message: those at hand, where they are the same, and else a copy. The message is spelled in a buffer whose
+/// memory serves again.
 fn spelled(
     alloc: Global,
-    spelling: &mut Vec<u8>,
-    output: &PreparedOutput,
-) -> Result<Output, AllocError>
+    room: &mut Vec<u8>,
+    at_hand: Option<&SharedBytes>,
+    message: &Message,
+) -> Result<SharedBytes, AllocError>
+    ensures { IfOk result (λ bytes. bytes ≡ spelling message.now) }
+{
+    room.clear();
+    encode_into(room, message)?;
+    SharedBytes::same_or_copy(alloc, at_hand, room)
+}
+
+/// An output with the bytes of its message.
+#[tactic(auto, using(crate::proofs::Drafts::way_spelled))]
+fn put_out(output: &PreparedOutput) -> Result<Output, AllocError>
     ensures { IfOk result (λ o. o ≡ spelled output.now) }
 {
-    spelling.clear();
-    encode_into(spelling, output.message())?;
-    let bytes = Vec::from_slice(alloc, spelling)?;
+    let bytes = output.message().bytes().share()?;
     Ok(Output::new(output.way(), bytes))
 }
 
@@ -85,7 +98,8 @@ fn spelled_packet(
     ensures { IfOk result (λ o. o ≡ spelled (PutPacket link serial packet.now)) }
 {
     let bytes = packet_bytes(alloc, packet)?;
-    Ok(Output::new(Way::Put(link, serial), bytes))
+    let shared = SharedBytes::from_vec(alloc, bytes)?;
+    Ok(Output::new(Way::Put(link, serial), shared))
 }
 
 impl Draft {
@@ -100,6 +114,7 @@ impl Draft {
             late_uses: Sums::new(alloc),
             outs: Vec::new(alloc),
             spelling: Vec::new(alloc),
+            at_hand: None,
         }
     }
 
@@ -115,6 +130,30 @@ impl Draft {
         self.alloc
     }
 
+    /// These bytes came: a message that is spelled so shares them.
+    pub fn hold(&mut self, bytes: &SharedBytes) -> Result<(), AllocError>
+        ensures { self.new ≡ self.old }
+    {
+        let held = bytes.share()?;
+        self.at_hand = Some(held);
+        Ok(())
+    }
+
+    /// A message as the books and outputs keep it.
+    pub fn kept(&mut self, message: &Message) -> Result<KeptMessage, AllocError>
+        ensures same { self.new ≡ self.old }
+        ensures kept { IfOk result (λ k. k ≡ message.now) }
+    {
+        let bytes = spelled(
+            self.alloc,
+            &mut self.spelling,
+            self.at_hand.as_ref(),
+            message,
+        )?;
+        self.hold(&bytes)?;
+        Ok(KeptMessage::new(message, bytes))
+    }
+
     /// An output goes out.
     #[tactic(auto, using(crate::proofs::Drafts::spelled_more, crate::proofs::Drafts::emitted, crate::proofs::LateUses::uses_same))]
     pub fn emit(&mut self, output: PreparedOutput) -> Result<(), AllocError>
@@ -123,7 +162,7 @@ impl Draft {
         ensures emitted { OnOk result (progress self.new ≡ emit output (progress self.old)) }
         ensures err { OnErr result (self.new ≡ self.old) }
     {
-        let out = spelled(self.alloc, &mut self.spelling, &output)?;
+        let out = put_out(&output)?;
         make_room(&mut self.outs)?;
         self.effects.push(Effect::Sent(output))?;
         self.outs.push_reserved(out);
@@ -199,14 +238,14 @@ impl Draft {
         self.effects.push(effect)
     }
 
-    /// Adds copies of the entry's outputs to an empty list.
+    /// Adds the entry's outputs to an empty list, with the same bytes.
     pub fn lend(&self, lent: &mut Vec<Output>) -> Result<(), AllocError>
         requires none { lent.old.items ≡ [] }
         ensures { OnOk result (lent.new.items ≡ spelled_in self.now.effects) }
     {
         for output in self.outs.as_slice() {
-            let copy = output.copy()?;
-            lent.push(copy)?;
+            let again = output.share()?;
+            lent.push(again)?;
         }
         Ok(())
     }

@@ -2,6 +2,7 @@
 ghost use Rattle.std.specs.Prelude.{◌≡◌, IfOk};
 
 use request_book::Way;
+use shared_bytes::SharedBytes;
 use std::alloc::AllocError;
 use std::marker::Model;
 
@@ -9,7 +10,7 @@ use std::marker::Model;
 #[derive(Drop)]
 pub struct Output {
     way: Way,
-    bytes: Vec<u8>,
+    bytes: SharedBytes,
 }
 
 impl Model for Output {
@@ -18,14 +19,14 @@ impl Model for Output {
 
     ghost Value = { Output };
 
-    ghost view = { λ o. put_out o.way o.bytes.items };
+    ghost view = { λ o. put_out o.way o.bytes };
 }
 
 impl Output {
     ghost use Rattle.step_draft.specs.Outputs.{put_out, bytes_of};
 
-    pub fn new(way: Way, bytes: Vec<u8>) -> Output
-        ensures { result ≡ put_out way bytes.items }
+    pub fn new(way: Way, bytes: SharedBytes) -> Output
+        ensures { result ≡ put_out way bytes }
     {
         Output { way, bytes }
     }
@@ -37,11 +38,11 @@ impl Output {
         self.way
     }
 
-    /// The same in memory of its own, with no room to spare.
-    pub(crate) fn copy(&self) -> Result<Output, AllocError>
+    /// The same for another that keeps it, with no copy of its bytes.
+    pub(crate) fn share(&self) -> Result<Output, AllocError>
         ensures { IfOk result (λ o. o ≡ self.now) }
     {
-        let bytes = Vec::from_slice(*self.bytes.allocator(), &self.bytes)?;
+        let bytes = self.bytes.share()?;
         Ok(Output {
             way: self.way,
             bytes,
@@ -53,5 +54,12 @@ impl Output {
         ensures { result.now ≡ bytes_of self.now }
     {
         self.bytes.as_slice()
+    }
+
+    /// The same for those that keep them too.
+    pub fn shared_bytes(&self) -> &SharedBytes
+        ensures { result.now ≡ bytes_of self.now }
+    {
+        &self.bytes
     }
 }

@@ -16,13 +16,13 @@ use card_digits::{Amount, Key, LinkNo, NodeNo};
 use iso_message::{AdviceId, Code, Message};
 use net_rows::Tables;
 use node_books::{Effect, NewAdvice};
-use request_book::{PreparedOutput, Way};
+use request_book::{KeptMessage, PreparedOutput, Way};
 use std::alloc::AllocError;
 use step_rules::{is_at_home, sent_kind};
 
 impl Draft {
-    /// A message that is no advice goes out on a link.
-    pub fn put_on(&mut self, link: LinkNo, key: Key, m: Message) -> Result<(), AllocError>
+    /// A message that is no advice, and is kept already, goes out on a link.
+    fn put_kept(&mut self, link: LinkNo, key: Key, m: KeptMessage) -> Result<(), AllocError>
         requires key { key ≡ key_of m }
         requires plain { is_advice_group (group m.kind) ≡ false }
         ensures base { self.new.base ≡ self.old.base }
@@ -32,8 +32,24 @@ impl Draft {
         self.emit(PreparedOutput::of_message(Way::Put(link, serial), key, m))
     }
 
-    /// An advice goes out on a link.
-    fn put_advice(&mut self, link: LinkNo, id: AdviceId, m: Message) -> Result<(), AllocError>
+    /// A message that is no advice goes out on a link.
+    pub fn put_on(&mut self, link: LinkNo, key: Key, m: &Message) -> Result<(), AllocError>
+        requires key { key ≡ key_of m.now }
+        requires plain { is_advice_group (group m.now.kind) ≡ false }
+        ensures base { self.new.base ≡ self.old.base }
+        ensures ok { OnOk result ((t : Network) (n : ℕ) → progress self.new ≡ put_on t n link m.now (progress self.old)) }
+    {
+        let kept = self.kept(m)?;
+        self.put_kept(link, key, kept)
+    }
+
+    /// An advice that is kept already goes out on a link.
+    fn put_kept_advice(
+        &mut self,
+        link: LinkNo,
+        id: AdviceId,
+        m: KeptMessage,
+    ) -> Result<(), AllocError>
         requires id { id ≡ identity_of m }
         requires advice { is_advice_group (group m.kind) ≡ true }
         ensures base { self.new.base ≡ self.old.base }
@@ -43,17 +59,44 @@ impl Draft {
         self.emit(PreparedOutput::of_advice(Way::Put(link, serial), id, m))
     }
 
-    /// A message goes out to where a request came from.
-    pub fn reply(&mut self, source: Option<LinkNo>, key: Key, m: Message) -> Result<(), AllocError>
+    /// An advice goes out on a link.
+    fn put_advice(&mut self, link: LinkNo, id: AdviceId, m: &Message) -> Result<(), AllocError>
+        requires id { id ≡ identity_of m.now }
+        requires advice { is_advice_group (group m.now.kind) ≡ true }
+        ensures base { self.new.base ≡ self.old.base }
+        ensures ok { OnOk result ((t : Network) (n : ℕ) → progress self.new ≡ put_on t n link m.now (progress self.old)) }
+    {
+        let kept = self.kept(m)?;
+        self.put_kept_advice(link, id, kept)
+    }
+
+    /// A message that is kept already goes out to where a request came from.
+    pub fn reply_kept(
+        &mut self,
+        source: Option<LinkNo>,
+        key: Key,
+        m: KeptMessage,
+    ) -> Result<(), AllocError>
         requires key { key ≡ key_of m }
         requires plain { is_advice_group (group m.kind) ≡ false }
         ensures base { self.new.base ≡ self.old.base }
         ensures ok { OnOk result ((t : Network) (n : ℕ) → progress self.new ≡ reply t n (source_of source) m (progress self.old)) }
     {
         match source {
-            Some(link) => self.put_on(link, key, m),
+            Some(link) => self.put_kept(link, key, m),
             None => self.emit(PreparedOutput::of_message(Way::Answer, key, m)),
         }
+    }
+
+    /// A message goes out to where a request came from.
+    pub fn reply(&mut self, source: Option<LinkNo>, key: Key, m: &Message) -> Result<(), AllocError>
+        requires key { key ≡ key_of m.now }
+        requires plain { is_advice_group (group m.now.kind) ≡ false }
+        ensures base { self.new.base ≡ self.old.base }
+        ensures ok { OnOk result ((t : Network) (n : ℕ) → progress self.new ≡ reply t n (source_of source) m.now (progress self.old)) }
+    {
+        let kept = self.kept(m)?;
+        self.reply_kept(source, key, kept)
     }
 
     /// The response to a message with a code goes out to where that came from.
@@ -70,7 +113,7 @@ impl Draft {
         ensures ok { OnOk result ((t : Network) (n : ℕ) → progress self.new ≡ reply t n (source_of source) (response m.now code) (progress self.old)) }
     {
         let response = m.response(code)?;
-        self.reply(source, key, response)
+        self.reply(source, key, &response)
     }
 
     /// An advice goes out, where a link is up.
@@ -106,7 +149,7 @@ impl Draft {
         let kind = sent_kind(message.kind().is_04xx(), self.was_put(id));
         let mut sent = message;
         sent.set_kind(kind);
-        self.put_advice(link, id, sent)
+        self.put_advice(link, id, &sent)
     }
 
     /// An advice that wasn't known before the entry is posted at the home of its card, and elsewhere sent.
@@ -117,20 +160,20 @@ impl Draft {
         if self.books.is_known(advice.id) {
             return Ok(());
         }
-        let copy = advice.copy()?;
         if is_at_home(tables, node, &advice.message) {
-            return self.post(copy);
+            return self.post(advice);
         }
+        let copy = advice.copy()?;
         self.send(tables, node, copy)
     }
 
     /// An advice goes to the host's books.
-    fn post(&mut self, advice: Advice) -> Result<(), AllocError>
+    fn post(&mut self, advice: &Advice) -> Result<(), AllocError>
         ensures base { self.new.base ≡ self.old.base }
-        ensures ok { OnOk result (progress self.new ≡ emit (Post advice.message) (progress self.old)) }
+        ensures ok { OnOk result (progress self.new ≡ emit (Post advice.now.message) (progress self.old)) }
     {
-        let Advice { id, message } = advice;
-        self.emit(PreparedOutput::of_advice(Way::Post, id, message))
+        let kept = self.kept(&advice.message)?;
+        self.emit(PreparedOutput::of_advice(Way::Post, advice.id, kept))
     }
 
     /// Whether `keep` puts the advice on a link.

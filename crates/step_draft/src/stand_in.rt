@@ -87,7 +87,7 @@ impl Draft {
         };
         let own = row.key();
         let source = row.source();
-        let request = row.message().copy()?;
+        let request = row.message().decode()?;
         self.fail_request(tables, node, own, &request, source)
     }
 

@@ -1,6 +1,7 @@
 -- One place more than a load.
-use Rattle.std.proofs.Common.{◌≡◌, ℕ, ◌+◌, ◌<◌, ◌≤◌, Bool, true, false, nat_lt, nat_le, refl, inl, inr, arith}
+use Rattle.std.proofs.Common.{◌≡◌, ℕ, ◌+◌, ◌<◌, ◌≤◌, Bool, true, false, nat_lt, nat_le, refl, inl, inr, arith, ◌∙◌, Result, IfOk}
 use Rattle.std.specs.Prelude.{◌&&◌}
+use Rattle.std.proofs.lemmas.Result.{IfOk-weaker}
 use Rattle.std.proofs.lemmas.Bool.{cases_lt, lt-ltb, le-ltb, le-leb, lt-leb}
 
 pub one_more : (a x : ℕ) → nat_le a x ≡ nat_lt a (x + 1)
@@ -22,3 +23,7 @@ and_false false = refl
 pub and_true : (b : Bool) → b ≡ (b && true)
 and_true true = refl
 and_true false = refl
+
+-- what is one thing is an equal thing
+pub if_ok_is : {X E : Type 0} (r : Result X E) (x y : X) → x ≡ y → IfOk r (λ z. z ≡ x) → IfOk r (λ z. z ≡ y)
+if_ok_is r x y e = IfOk-weaker r _ _ (λ z p. p ∙ e)

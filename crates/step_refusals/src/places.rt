@@ -1,5 +1,5 @@
 //! Places for advices.
-ghost use Rattle.std.specs.Prelude.{◌≡◌, ◌&&◌, true, None};
+ghost use Rattle.std.specs.Prelude.{◌≡◌, ◌&&◌, true, None, IfOk};
 ghost use Rattle.iso_message.specs.Groups.{group, is_reversal};
 ghost use Rattle.iso_message.specs.Made.{without_forwarder};
 ghost use Rattle.network_law.specs.Refusals.{entered_kind, required_entered, required_taken, missing};
@@ -14,6 +14,7 @@ use card_digits::{Key, LinkNo, NodeNo};
 use iso_message::{AdviceId, Message, advice_id, key_of};
 use net_rows::Tables;
 use node_books::Books;
+use std::alloc::AllocError;
 use step_rules::{
     has_good_card, has_issuer, is_advice_group, is_answer, is_approval, is_at_home, is_reversal,
 };
@@ -48,20 +49,32 @@ fn has_no_place(books: &Books, tables: &Tables, node: NodeNo, message: &Message,
 }
 
 /// Whether the message takes back a request of other content.
-fn reverses_other(books: &Books, message: &Message, key: Key) -> bool
-    ensures { result ≡ (is_reversal message.now.kind && other_content (request_at books.now.lists key) message.now) }
+fn reverses_other(books: &Books, message: &Message, key: Key) -> Result<bool, AllocError>
+    ensures { IfOk result (λ other. other ≡ (is_reversal message.now.kind && other_content (request_at books.now.lists key) message.now)) }
 {
-    is_reversal(message.kind()) && other_content(books, key, message)
+    if !is_reversal(message.kind()) {
+        return Ok(false);
+    }
+    other_content(books, key, message)
 }
 
 /// Whether the message is an advice that is not declined.
-fn is_accepted(books: &Books, tables: &Tables, message: &Message, key: Key) -> bool
-    ensures { result ≡ is_accepted tables.now books.now.lists message.now key }
+fn is_accepted(
+    books: &Books,
+    tables: &Tables,
+    message: &Message,
+    key: Key,
+) -> Result<bool, AllocError>
+    ensures { IfOk result (λ accepted. accepted ≡ is_accepted tables.now books.now.lists message.now key) }
 {
-    is_advice_group(message.kind().group())
-        && has_good_card(message)
-        && has_issuer(tables, message)
-        && !reverses_other(books, message, key)
+    if !is_advice_group(message.kind().group())
+        || !has_good_card(message)
+        || !has_issuer(tables, message)
+    {
+        return Ok(false);
+    }
+    let other = reverses_other(books, message, key)?;
+    Ok(!other)
 }
 
 /// Whether an advice that the node would accept and know by this identity finds no place.
@@ -71,12 +84,14 @@ fn finds_no_place_as(
     node: NodeNo,
     message: &Message,
     id: AdviceId,
-) -> bool
-    ensures { result ≡ finds_no_place_as tables.now node books.now.lists message.now id }
+) -> Result<bool, AllocError>
+    ensures { IfOk result (λ full. full ≡ finds_no_place_as tables.now node books.now.lists message.now id) }
 {
+    // Nearly always there are places, and then no request is read.
+    if books.is_known(id) || !has_no_place(books, tables, node, message, id.key) {
+        return Ok(false);
+    }
     is_accepted(books, tables, message, id.key)
-        && !books.is_known(id)
-        && has_no_place(books, tables, node, message, id.key)
 }
 
 /// Whether an advice that an acquirer enters finds no place. It loses its forwarder there.
@@ -85,17 +100,17 @@ pub(crate) fn entered_finds_no_place(
     tables: &Tables,
     node: NodeNo,
     message: &Message,
-) -> bool
+) -> Result<bool, AllocError>
     requires kind { entered_kind message.now.kind ≡ true }
     requires whole { missing message.now (required_entered (group message.now.kind)) ≡ None }
-    ensures { result ≡ finds_no_place tables.now node (view tables.now node books.now.lists) (dated books.now.lists.date (without_forwarder message.now)) }
+    ensures { IfOk result (λ full. full ≡ finds_no_place tables.now node (view tables.now node books.now.lists) (dated books.now.lists.date (without_forwarder message.now))) }
 {
     match advice_id(message) {
         Some(id) => {
             let forwarder = [b'0'; 11];
             finds_no_place_as(books, tables, node, message, AdviceId { forwarder, ..id })
         }
-        None => false,
+        None => Ok(false),
     }
 }
 
@@ -105,13 +120,13 @@ pub(crate) fn taken_finds_no_place(
     tables: &Tables,
     node: NodeNo,
     message: &Message,
-) -> bool
+) -> Result<bool, AllocError>
     requires { missing message.now (required_taken (group message.now.kind) message.now.kind) ≡ None }
-    ensures { result ≡ finds_no_place tables.now node (view tables.now node books.now.lists) message.now }
+    ensures { IfOk result (λ full. full ≡ finds_no_place tables.now node (view tables.now node books.now.lists) message.now) }
 {
     match advice_id(message) {
         Some(id) => finds_no_place_as(books, tables, node, message, id),
-        None => false,
+        None => Ok(false),
     }
 }
 
@@ -129,31 +144,53 @@ fn went_by(books: &Books, link: LinkNo, key: Key) -> bool
 }
 
 /// Whether the node is the home of the card of the key's request.
-fn is_home_of_key(books: &Books, tables: &Tables, node: NodeNo, key: Key) -> bool
-    ensures { result ≡ home_of_key tables.now node (request_at books.now.lists key) }
+fn is_home_of_key(
+    books: &Books,
+    tables: &Tables,
+    node: NodeNo,
+    key: Key,
+) -> Result<bool, AllocError>
+    ensures { IfOk result (λ home. home ≡ home_of_key tables.now node (request_at books.now.lists key)) }
 {
     match books.of_key(key) {
-        Some(row) => is_at_home(tables, node, row.message()),
-        None => false,
+        Some(row) => {
+            let request = row.message().decode()?;
+            Ok(is_at_home(tables, node, &request))
+        }
+        None => Ok(false),
     }
 }
 
 /// Whether an approval of this key by this link comes late, of a card whose home is elsewhere.
-fn is_late(books: &Books, tables: &Tables, node: NodeNo, link: LinkNo, key: Key) -> bool
-    ensures { result ≡ is_late tables.now node books.now.lists link key }
+fn is_late(
+    books: &Books,
+    tables: &Tables,
+    node: NodeNo,
+    link: LinkNo,
+    key: Key,
+) -> Result<bool, AllocError>
+    ensures { IfOk result (λ late. late ≡ is_late tables.now node books.now.lists link key) }
 {
-    went_by(books, link, key)
-        && comes_late(books, tables, node, key)
-        && !is_home_of_key(books, tables, node, key)
+    if !went_by(books, link, key) || !comes_late(books, tables, node, key) {
+        return Ok(false);
+    }
+    let home = is_home_of_key(books, tables, node, key)?;
+    Ok(!home)
 }
 
 /// Whether the reversal of such an approval would be stored in one place too many.
-fn late_has_no_place(books: &Books, tables: &Tables, node: NodeNo, link: LinkNo, key: Key) -> bool
-    ensures { result ≡ late_has_no_place tables.now node books.now.lists link key }
+fn late_has_no_place(
+    books: &Books,
+    tables: &Tables,
+    node: NodeNo,
+    link: LinkNo,
+    key: Key,
+) -> Result<bool, AllocError>
+    ensures { IfOk result (λ full. full ≡ late_has_no_place tables.now node books.now.lists link key) }
 {
     // Nearly always there are places, and then no book is searched.
     if books.load() < PLACES {
-        return false;
+        return Ok(false);
     }
     is_late(books, tables, node, link, key)
 }
@@ -165,15 +202,15 @@ pub(crate) fn late_finds_no_place(
     node: NodeNo,
     link: LinkNo,
     message: &Message,
-) -> bool
+) -> Result<bool, AllocError>
     requires { missing message.now (required_taken (group message.now.kind) message.now.kind) ≡ None }
-    ensures { result ≡ late_finds_no_place tables.now node (view tables.now node books.now.lists) link message.now }
+    ensures { IfOk result (λ full. full ≡ late_finds_no_place tables.now node (view tables.now node books.now.lists) link message.now) }
 {
     if !is_answer(message.kind()) || !is_approval(message) {
-        return false;
+        return Ok(false);
     }
     match key_of(message) {
         Some(key) => late_has_no_place(books, tables, node, link, key),
-        None => false,
+        None => Ok(false),
     }
 }

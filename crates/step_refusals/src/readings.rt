@@ -1,5 +1,5 @@
 //! What the books say of a key, and where messages come from.
-ghost use Rattle.std.specs.Prelude.{◌≡◌};
+ghost use Rattle.std.specs.Prelude.{◌≡◌, IfOk};
 ghost use Rattle.network_law.specs.Decision.{same_source};
 ghost use Rattle.network_law.specs.Traces.{code_is_not_00};
 ghost use Rattle.request_book.specs.Values.{source_of};
@@ -12,7 +12,8 @@ use iso_message::{AdviceId, AdviceKind, Message, same_content};
 use net_rows::Tables;
 use node_books::Books;
 use request_book::Row;
-use step_rules::{is_approval, padded_node_id};
+use std::alloc::AllocError;
+use step_rules::padded_node_id;
 
 /// Whether two messages came by the same way: both by the gate, or by one link.
 pub fn same_source(first: Option<LinkNo>, second: Option<LinkNo>) -> bool
@@ -32,12 +33,15 @@ pub fn is_pending(books: &Books, key: Key) -> bool
 }
 
 /// Whether the key has a request of other content.
-pub fn other_content(books: &Books, key: Key, message: &Message) -> bool
-    ensures { result ≡ other_content (request_at books.now.lists key) message.now }
+pub fn other_content(books: &Books, key: Key, message: &Message) -> Result<bool, AllocError>
+    ensures { IfOk result (λ other. other ≡ other_content (request_at books.now.lists key) message.now) }
 {
     match books.of_key(key) {
-        Some(row) => !same_content(row.message(), message),
-        None => false,
+        Some(row) => {
+            let request = row.message().decode()?;
+            Ok(!same_content(&request, message))
+        }
+        None => Ok(false),
     }
 }
 
@@ -64,7 +68,7 @@ fn is_declined(row: &Row) -> bool
     ensures { result ≡ code_is_not_00 row.now.answer }
 {
     match row.answer() {
-        Some(answer) => !is_approval(answer),
+        Some(answer) => !answer.has_code(b"00"),
         None => false,
     }
 }

@@ -1,5 +1,5 @@
 //! The first fault of an input.
-ghost use Rattle.std.specs.Prelude.{◌≡◌, ℕ};
+ghost use Rattle.std.specs.Prelude.{◌≡◌, ℕ, IfOk};
 ghost use Rattle.net_rows.specs.Network.{Network};
 ghost use Rattle.network_law.specs.Traces.{Enter, Take, HostAnswer, TakePacket, Lend};
 ghost use Rattle.node_machine.specs.Lists.{view, LeftAsMarked};
@@ -13,40 +13,41 @@ use iso_message::Message;
 use net_rows::Tables;
 use network_law::{GrantPacket, StepFault};
 use node_books::Books;
+use std::alloc::AllocError;
 use step_rules::{
     acquirer_of, entered_kind, is_attached, is_reversal, may_not_borrow, missing_entered,
     missing_taken, strange_actual, taken_kind,
 };
 
-/// The fault of a message that an acquirer enters.
+/// The fault of a message that an acquirer enters. Memory is asked for where the message is held against the request of its key.
 #[tactic(auto, unfolding(node_machine::specs::Machine::refuse))]
 pub fn refuse_entered(
     books: &Books,
     tables: &Tables,
     node: NodeNo,
     message: &Message,
-) -> Option<StepFault>
-    ensures { result ≡ refuse tables.now node (view tables.now node books.now.lists) (Enter message.now) }
+) -> Result<Option<StepFault>, AllocError>
+    ensures { IfOk result (λ fault. fault ≡ refuse tables.now node (view tables.now node books.now.lists) (Enter message.now)) }
 {
     if !entered_kind(message.kind()) {
-        return Some(StepFault::TypeNotForGate);
+        return Ok(Some(StepFault::TypeNotForGate));
     }
     if let Some(number) = missing_entered(message) {
-        return Some(StepFault::Missing(number));
+        return Ok(Some(StepFault::Missing(number)));
     }
     if !is_attached(tables, node, &acquirer_of(message)) {
-        return Some(StepFault::ForeignAcquirer);
+        return Ok(Some(StepFault::ForeignAcquirer));
     }
     if is_reversal(message.kind()) && strange_actual(message) {
-        return Some(StepFault::Replacement);
+        return Ok(Some(StepFault::Replacement));
     }
-    if entered_finds_no_place(books, tables, node, message) {
-        return Some(StepFault::NoPlace);
+    if entered_finds_no_place(books, tables, node, message)? {
+        return Ok(Some(StepFault::NoPlace));
     }
-    None
+    Ok(None)
 }
 
-/// The fault of a message that comes by a link, with any serial.
+/// The fault of a message that comes by a link, with any serial. Memory is asked for where the request of its key is read.
 #[tactic(auto, unfolding(node_machine::specs::Machine::refuse))]
 pub fn refuse_taken(
     books: &Books,
@@ -54,25 +55,25 @@ pub fn refuse_taken(
     node: NodeNo,
     link: LinkNo,
     message: &Message,
-) -> Option<StepFault>
-    ensures { (serial : ℕ) → result ≡ refuse tables.now node (view tables.now node books.now.lists) (Take link serial message.now) }
+) -> Result<Option<StepFault>, AllocError>
+    ensures { IfOk result (λ fault. (serial : ℕ) → fault ≡ refuse tables.now node (view tables.now node books.now.lists) (Take link serial message.now)) }
 {
     if !taken_kind(message.kind()) {
-        return Some(StepFault::TypeNotForGate);
+        return Ok(Some(StepFault::TypeNotForGate));
     }
     if let Some(number) = missing_taken(message) {
-        return Some(StepFault::Missing(number));
+        return Ok(Some(StepFault::Missing(number)));
     }
     if is_reversal(message.kind()) && strange_actual(message) {
-        return Some(StepFault::Replacement);
+        return Ok(Some(StepFault::Replacement));
     }
-    if taken_finds_no_place(books, tables, node, message) {
-        return Some(StepFault::NoPlace);
+    if taken_finds_no_place(books, tables, node, message)? {
+        return Ok(Some(StepFault::NoPlace));
     }
-    if late_finds_no_place(books, tables, node, link, message) {
-        return Some(StepFault::NoPlace);
+    if late_finds_no_place(books, tables, node, link, message)? {
+        return Ok(Some(StepFault::NoPlace));
     }
-    None
+    Ok(None)
 }
 
 /// The fault of a host's answer to an ask, with any code: there is none that the node made of this number.

@@ -5,7 +5,7 @@ use Rattle.switch_node.specs.declared.input.Case.TheVariants as cases
 
 abbrev pub input_of : Case → Input
 input_of (cases.Enter v) = Enter v.items
-input_of (cases.Take l s v) = Take l s v.items
+input_of (cases.Take l s bytes) = Take l s bytes
 input_of (cases.LinkUp l) = LinkUp l
 input_of (cases.LinkDown l) = LinkDown l
 input_of cases.Tick = Tick

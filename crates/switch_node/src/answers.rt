@@ -57,14 +57,15 @@ pub(crate) fn on_code(
     let own = row.key();
     if row.is_open() {
         let source = row.source();
-        let response = row.message().response(as_code(other, code))?;
-        return draft.reply(source, own, response);
+        let request = row.message().decode()?;
+        let response = request.response(as_code(other, code))?;
+        return draft.reply(source, own, &response);
     }
     let late = code.as_slice() == b"00".as_slice() && comes_late(draft.books(), tables, node, key);
     if !late {
         return Ok(());
     }
-    let request = row.message().copy()?;
+    let request = row.message().decode()?;
     take_back(draft, tables, node, own, &request)
 }
 

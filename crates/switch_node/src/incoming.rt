@@ -111,7 +111,7 @@ fn open(draft: &mut Draft, m: &Message, source: Option<LinkNo>) -> Result<(), Al
         return Ok(());
     }
     let key = request_key(m);
-    let request = m.copy()?;
+    let request = draft.kept(m)?;
     let row = Row::new(key, request, source, draft.books().count());
     draft.change(Effect::Opened(row))
 }

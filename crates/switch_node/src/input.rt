@@ -3,6 +3,7 @@ ghost use Rattle.std.specs.Prelude.{◌≡◌};
 
 use card_digits::{Amount, Card, DateLabel, LinkNo, NodeNo};
 use iso_message::Code;
+use shared_bytes::SharedBytes;
 use std::marker::Model;
 
 /// What comes to a node.
@@ -10,8 +11,8 @@ use std::marker::Model;
 pub enum Case {
     /// Bytes that an acquirer enters.
     Enter(Vec<u8>),
-    /// Bytes that come by a link, with their serial.
-    Take(LinkNo, u64, Vec<u8>),
+    /// Bytes that come by a link, with their serial; the node that put them may hold them too.
+    Take(LinkNo, u64, SharedBytes),
     LinkUp(LinkNo),
     LinkDown(LinkNo),
     Tick,

@@ -20,6 +20,7 @@ use iso_message::{Code, DecodeFault, decode};
 use net_rows::Tables;
 use network_law::{Grant, GrantPacket, StepFault, read_packet};
 use node_books::{Effect, KeptGrant};
+use shared_bytes::SharedBytes;
 use std::alloc::AllocError;
 use step_draft::{Cause, Draft};
 use step_refusals::{refuse_entered, refuse_host_answer, refuse_lend, refuse_packet, refuse_taken};
@@ -116,7 +117,8 @@ fn enter_bytes(
         Ok(m) => m,
         Err(fault) => return Err(unread(fault)),
     };
-    if let Some(fault) = refuse_entered(draft.books(), tables, node, &m) {
+    let refused = refuse_entered(draft.books(), tables, node, &m)?;
+    if let Some(fault) = refused {
         return Err(fault);
     }
     Ok(enter(draft, tables, node, m)?)
@@ -178,7 +180,7 @@ fn take_bytes(
     node: NodeNo,
     link: LinkNo,
     serial: u64,
-    bytes: &[u8],
+    bytes: &SharedBytes,
 ) -> Result<(), StepFault>
     requires empty { draft.old.effects ≡ [] }
     requires left { LeftAsMarked draft.old.base.marks draft.old.base.takes }
@@ -186,9 +188,13 @@ fn take_bytes(
     ensures ok { OnOk result (Does tables.now node (entries.Take link serial bytes.now) draft.old draft.new) }
     ensures fault { IfErr result (λ f. (f ≡ Memory) ⊎ (fault_in tables.now node draft.old.base (read_input (entries.Take link serial bytes.now)) ≡ Some f)) }
 {
-    match read_packet(bytes) {
-        Some(packet) => { take_read_packet(draft, tables, node, link, serial, bytes, &packet) }
-        None => take_text(draft, tables, node, link, serial, bytes),
+    let text = bytes.as_slice();
+    match read_packet(text) {
+        Some(packet) => take_read_packet(draft, tables, node, link, serial, text, &packet),
+        None => {
+            draft.hold(bytes)?;
+            take_text(draft, tables, node, link, serial, text)
+        }
     }
 }
 
@@ -213,7 +219,8 @@ fn take_text(
         Ok(m) => m,
         Err(fault) => return Err(unread(fault)),
     };
-    if let Some(fault) = refuse_taken(draft.books(), tables, node, link, &m) {
+    let refused = refuse_taken(draft.books(), tables, node, link, &m)?;
+    if let Some(fault) = refused {
         return Err(fault);
     }
     Ok(take_message(draft, tables, node, link, m)?)

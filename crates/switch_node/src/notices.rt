@@ -70,8 +70,9 @@ fn answer_pending(
     }
     let own = row.key();
     let source = row.source();
-    let response = row.message().response(Code::new(*b"68"))?;
-    draft.reply(source, own, response)
+    let request = row.message().decode()?;
+    let response = request.response(Code::new(*b"68"))?;
+    draft.reply(source, own, &response)
 }
 
 /// A reversal.
@@ -95,7 +96,8 @@ pub(crate) fn on_reversal(
     if !has_issuer(tables, m) {
         return draft.respond(source, id.key, m, Code::new(*b"92"));
     }
-    if other_content(draft.books(), id.key, m) {
+    let other = other_content(draft.books(), id.key, m)?;
+    if other {
         return draft.respond(source, id.key, m, Code::new(*b"94"));
     }
     if draft.books().is_known(id) {

@@ -26,7 +26,7 @@ use card_digits::{Key, LinkNo, NodeNo};
 use iso_message::{Code, Kind, Message, same_content};
 use net_rows::Tables;
 use node_books::Books;
-use request_book::{PreparedOutput, Row, Way};
+use request_book::{KeptMessage, PreparedOutput, Row, Way};
 use std::alloc::AllocError;
 use step_draft::Draft;
 use step_refusals::{PLACES, same_source};
@@ -68,21 +68,24 @@ fn first_up(books: &Books, links: &[LinkNo]) -> Option<LinkNo>
 }
 
 /// Whether a request came by this way, with the content of this message.
-fn is_same(row: &Row, source: &Option<LinkNo>, m: &Message) -> bool
-    ensures { result ≡ (same_source row.now.source (source_of source.now) && content_eq (content row.now.message) (content m.now)) }
+fn is_same(row: &Row, source: &Option<LinkNo>, m: &Message) -> Result<bool, AllocError>
+    ensures { IfOk result (λ same. same ≡ (same_source row.now.source (source_of source.now) && content_eq (content row.now.message) (content m.now))) }
 {
-    let same = same_source(row.source(), *source);
-    same && same_content(row.message(), m)
+    if !same_source(row.source(), *source) {
+        return Ok(false);
+    }
+    let request = row.message().decode()?;
+    Ok(same_content(&request, m))
 }
 
 /// What a request was answered with.
-fn copy_of_answer(row: &Row) -> Result<Option<Message>, AllocError>
+fn answer_again(row: &Row) -> Result<Option<KeptMessage>, AllocError>
     ensures answer { IfOk result (λ a. a ≡ row.now.answer) }
     ensures own { IfOk result (λ a. IsAnswerOf (row_key row.now) a) }
 {
     match row.answer() {
         Some(answer) => {
-            let again = answer.copy()?;
+            let again = answer.share()?;
             Ok(Some(again))
         }
         None => Ok(None),
@@ -97,7 +100,8 @@ fn ask(draft: &mut Draft, key: Key, m: Message) -> Result<(), AllocError>
 {
     let ask = draft.books().ask_count() as u64 + 1;
     let forward = forwarded(key, m);
-    draft.emit(PreparedOutput::of_message(Way::Ask(ask), key, forward))
+    let kept = draft.kept(&forward)?;
+    draft.emit(PreparedOutput::of_message(Way::Ask(ask), key, kept))
 }
 
 /// The first link of a card's route that was up before the entry.
@@ -133,7 +137,7 @@ fn forward(
     match way_of(draft, tables, node, &m) {
         Some(link) => {
             let forward = forwarded(key, m);
-            draft.put_on(link, key, forward)
+            draft.put_on(link, key, &forward)
         }
         None => draft.stand_in(tables, node, key, &m, source),
     }
@@ -208,9 +212,9 @@ fn on_repeat(
     let Some(row) = draft.books().of_key(key) else {
         return Ok(());
     };
-    let same = is_same(row, &source, m);
+    let same = is_same(row, &source, m)?;
     let own = row.key();
-    let answer = copy_of_answer(row)?;
+    let answer = answer_again(row)?;
     repeat(draft, same, own, m, source, answer)
 }
 
@@ -222,7 +226,7 @@ fn repeat(
     key: Key,
     m: &Message,
     source: Option<LinkNo>,
-    answer: Option<Message>,
+    answer: Option<KeptMessage>,
 ) -> Result<(), AllocError>
     requires key { key ≡ key_of m.now }
     requires answer { IsAnswerOf key answer }
@@ -234,7 +238,7 @@ fn repeat(
         return draft.respond(source, key, m, Code::new(*b"94"));
     }
     match answer {
-        Some(again) => draft.reply(source, key, again),
+        Some(again) => draft.reply_kept(source, key, again),
         None => Ok(()),
     }
 }

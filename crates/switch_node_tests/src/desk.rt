@@ -8,6 +8,7 @@ use network_law::StepFault;
 use rank_cert::{Cert, read_cert};
 use request_book::Way;
 use sample_networks::Sample;
+use shared_bytes::SharedBytes;
 use std::alloc::Global;
 use std::test::Fail;
 use switch_node::{Case, Input, Node, Outputs};
@@ -95,7 +96,7 @@ impl<'t> Stepped<'t> {
     }
 
     fn take(&mut self, link: LinkNo, serial: u64, text: &str) -> Result<(), Fail> {
-        let bytes = text.as_bytes().to_vec(self.alloc)?;
+        let bytes = SharedBytes::from_slice(self.alloc, text.as_bytes())?;
         if !self.node.has_link(link) {
             return Err("another node's link".into());
         }

@@ -6,6 +6,7 @@ use Rattle.iso_message.proofs.KeyLemmas.{when_some, when_none}
 use Rattle.network_law.specs.Traces.{is_advice_group}
 use Rattle.step_refusals.specs.Places.{finds_no_place_as}
 use Rattle.step_refusals.proofs.Entered.{entered_is, none_entered}
+use Rattle.step_refusals.proofs.Loads.{if_ok_is}
 use Rattle.step_refusals.proofs.Present.{entered_known}
 use Rattle.step_refusals.proofs.places.entered_finds_no_place.Goals as goal
 
@@ -15,9 +16,8 @@ returns-in-Some c =
     let t = c.args.tables.now in
     let x = c.args.books.now.lists in
     let known = when_some _ _ c.in-Some.id (sym c.in-Some.ensures) in
-    c.finds_no_place_as.ensures
-    ∙ ap (λ (id : AdviceId). finds_no_place_as t c.args.node x m (record { kind = id.kind; key = id.key; forwarder = replicate 11 48 })) (sym known.1)
-    ∙ sym (entered_is m t c.args.node x x.date)
+    let same = ap (λ (id : AdviceId). finds_no_place_as t c.args.node x m (record { kind = id.kind; key = id.key; forwarder = replicate 11 48 })) (sym known.1) ∙ sym (entered_is m t c.args.node x x.date) in
+    if_ok_is c.finds_no_place_as.result _ _ same c.finds_no_place_as.ensures
 
 pub returns-in-None : goal.returns-in-None
 returns-in-None c =

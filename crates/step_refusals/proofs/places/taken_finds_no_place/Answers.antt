@@ -5,6 +5,7 @@ use Rattle.iso_message.proofs.KeyLemmas.{when_some, when_none}
 use Rattle.network_law.specs.Traces.{is_advice_group}
 use Rattle.step_refusals.specs.Places.{finds_no_place_as}
 use Rattle.step_refusals.proofs.Entered.{taken_is, none_taken}
+use Rattle.step_refusals.proofs.Loads.{if_ok_is}
 use Rattle.step_refusals.proofs.Present.{taken_known}
 use Rattle.step_refusals.proofs.places.taken_finds_no_place.Goals as goal
 
@@ -14,7 +15,7 @@ returns-in-Some c =
     let t = c.args.tables.now in
     let x = c.args.books.now.lists in
     let known = when_some _ _ c.in-Some.id (sym c.in-Some.ensures) in
-    c.finds_no_place_as.ensures ∙ ap (finds_no_place_as t c.args.node x m) (sym known.1) ∙ sym (taken_is m t c.args.node x)
+    if_ok_is c.finds_no_place_as.result _ _ (ap (finds_no_place_as t c.args.node x m) (sym known.1) ∙ sym (taken_is m t c.args.node x)) c.finds_no_place_as.ensures
 
 pub returns-in-None : goal.returns-in-None
 returns-in-None c =

@@ -16,4 +16,4 @@ returns-clause-ok c =
     let n = c.args.node in
     let x = c.args.draft.now.base in
     let found = c.in-Some.ensures ∙ ap (λ (y : Lists). of_key c.args.key y.rows) c.books.ensures in
-    both_ok c.repeat.result (λ e f. repeat_steps t n x c.args.m.now (source_of c.args.source) c.args.key c.in-Some.row.now c.is_same-same.result c.in_ok-answer.answer (progress c.args.draft.now) (progress c.repeat.new.draft) c.requires.key.key_is found c.is_same-same.ensures c.in_ok-answer.ensures.answer (e t n) (f t n)) c.repeat.ensures.same c.repeat.ensures.other
+    both_ok c.repeat.result (λ e f. repeat_steps t n x c.args.m.now (source_of c.args.source) c.args.key c.in-Some.row.now c.in_ok-same.same c.in_ok-answer.answer (progress c.args.draft.now) (progress c.repeat.new.draft) c.requires.key.key_is found c.in_ok-same.ensures c.in_ok-answer.ensures.answer (e t n) (f t n)) c.repeat.ensures.same c.repeat.ensures.other

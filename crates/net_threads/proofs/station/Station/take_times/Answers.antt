@@ -14,8 +14,8 @@ returns c =
     let new = c.take_once-2.new.self in
     elim c.if-twice.branch [
       | then-twice+in-Ok w ↦
-          let copy : w.in-Ok.copy ≡ p = grind (arith, common_steps) in
-          let first : TakesOnce link p old c.if-twice.self = subst (λ z. TakesOnce link z old c.if-twice.self) copy (subst (λ z. TakesOnce link w.in-Ok.copy old z) (sym w.self-is) w.take_once.ensures) in
+          let same : w.in-Ok.again ≡ p = grind (arith, common_steps) in
+          let first : TakesOnce link p old c.if-twice.self = subst (λ z. TakesOnce link z old c.if-twice.self) same (subst (λ z. TakesOnce link w.in-Ok.again old z) (sym w.self-is) w.take_once.ensures) in
           subst (λ b. TakesTimes b link p old new) (sym w.if-twice.true) (c.if-twice.self, first, c.take_once-2.ensures)
       | then-twice+in_default w ↦
           let second : TakesOnce link p old new = subst (λ z. TakesOnce link p z new) w.self-is c.take_once-2.ensures in

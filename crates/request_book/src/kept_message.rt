@@ -1,0 +1,91 @@
+//! Messages as the books keep them.
+ghost use Rattle.std.specs.Prelude.{◌≡◌, bytes_eq, IfOk};
+ghost use Rattle.iso_message.specs.Codes.{code_of};
+ghost use Rattle.iso_message.specs.Spelling.{spelling};
+
+use iso_message::{Code, Kind, Message, code_of, decode};
+use shared_bytes::SharedBytes;
+use std::alloc::AllocError;
+use std::marker::Model;
+
+/// A message as the bytes that spell it, with its type and its response code. A packet, an output and the books of two nodes may hold the
+/// same bytes. Contracts see the message.
+#[derive(Drop)]
+pub struct KeptMessage {
+    bytes: SharedBytes,
+    kind: Kind,
+    code: Option<Code>,
+}
+
+impl Model for KeptMessage {
+    ghost use Rattle.iso_message.specs.Fields.{Fields};
+    ghost use Rattle.request_book.specs.Spelled.{message_in, IsSpelled};
+
+    ghost Value = { Fields };
+
+    ghost view = { λ k. message_in k.bytes };
+
+    ghost invariant = { λ k. IsSpelled k.bytes k.kind k.code };
+}
+
+impl KeptMessage {
+    /// A message, and the bytes that spell it.
+    #[tactic(auto, using(crate::proofs::Spelled::kept_is, crate::proofs::Spelled::is_spelled))]
+    pub fn new(message: &Message, bytes: SharedBytes) -> KeptMessage
+        requires { bytes ≡ spelling message.now }
+        ensures { result ≡ message.now }
+    {
+        KeptMessage {
+            bytes,
+            kind: message.kind(),
+            code: code_of(message),
+        }
+    }
+
+    /// The same for another that keeps it, with no copy of its bytes.
+    pub fn share(&self) -> Result<KeptMessage, AllocError>
+        ensures { IfOk result (λ k. k ≡ self.now) }
+    {
+        let bytes = self.bytes.share()?;
+        Ok(KeptMessage {
+            bytes,
+            kind: self.kind,
+            code: self.code,
+        })
+    }
+
+    /// The bytes that spell it.
+    pub fn bytes(&self) -> &SharedBytes
+        ensures { result.now ≡ spelling self.now }
+    {
+        &self.bytes
+    }
+
+    /// The message, which is read again of its bytes.
+    pub fn decode(&self) -> Result<Message, AllocError>
+        ensures { IfOk result (λ m. m ≡ self.now) }
+    {
+        match decode(self.bytes.alloc(), self.bytes.as_slice()) {
+            Ok(message) => Ok(message),
+            // The bytes spell a message, so nothing but memory can be wanting.
+            Err(_) => Err(AllocError),
+        }
+    }
+
+    pub fn kind(&self) -> Kind
+        ensures { result ≡ self.now.kind }
+    {
+        self.kind
+    }
+
+    /// Whether its response code is this one; without one, whether this is empty.
+    #[tactic(auto, using(crate::proofs::Codes::found_code, crate::proofs::Codes::no_code))]
+    pub fn has_code(&self, code: &[u8]) -> bool
+        ensures { result ≡ bytes_eq (code_of self.now) code.now }
+    {
+        match self.code {
+            Some(own) => own.as_slice() == code,
+            None => code.is_empty(),
+        }
+    }
+}
