@@ -11,6 +11,7 @@ import os
 import subprocess
 import sys
 import tempfile
+import time
 
 TOP = os.path.dirname(os.path.dirname(os.path.abspath(__file__)))
 MIB = 1 << 20
@@ -63,24 +64,31 @@ def script(kind, size):
     return "\n".join(lines) + "\n", len(lines)
 
 
+def most_memory(process):
+    """The most memory that a running process has had, in bytes, and 0 once it has ended."""
+    try:
+        with open("/proc/%d/status" % process.pid, encoding="ascii") as file:
+            peaks = [line.split()[1] for line in file if line.startswith("VmHWM")]
+    except OSError:
+        peaks = []
+    return int(peaks[0]) * 1024 if peaks else 0
+
+
 def measured(program, text):
+    """Seconds, the most memory and the status of a run. The kernel counts the memory of whoever starts a process as the process's too, until
+    it runs its own program, so what it says at the end would be that of this script for short inputs."""
     with tempfile.NamedTemporaryFile("w", encoding="ascii") as file:
         file.write(text)
         file.flush()
-        with open(file.name, "rb") as given, open(os.devnull, "wb") as none:
-            words = ["/usr/bin/env", "python3", "-c", RUN, program]
-            ran = subprocess.run(words, stdin=given, stdout=none, stderr=subprocess.PIPE, check=True)
-    seconds, kilobytes, status = ran.stderr.split()
-    return float(seconds), int(kilobytes) * 1024, int(status)
-
-
-RUN = """
-import resource, subprocess, sys, time
-began = time.monotonic()
-status = subprocess.run([sys.argv[1], 'replay']).returncode
-seconds = time.monotonic() - began
-sys.stderr.write('%f %d %d' % (seconds, resource.getrusage(resource.RUSAGE_CHILDREN).ru_maxrss, status))
-"""
+        with open(file.name, "rb") as given:
+            began = time.monotonic()
+            process = subprocess.Popen([program, "replay"], stdin=given, stdout=subprocess.DEVNULL)
+            memory = 0
+            while process.poll() is None:
+                memory = max(memory, most_memory(process))
+                time.sleep(0.001)
+            seconds = time.monotonic() - began
+    return seconds, memory, process.returncode
 
 
 def main():
