@@ -1,6 +1,7 @@
 //! Nodes, hosts and sessions as threads.
 ghost use Rattle.std.specs.Prelude.{IfOk};
 ghost use Rattle.std.specs.List.{AllZip};
+ghost use Rattle.network_law.specs.Runs.{IsTyped};
 ghost use Rattle.net_operate.specs.Sessions.{SessionFits};
 
 use crate::fitting::fitted;
@@ -8,11 +9,11 @@ use crate::threads::{Shared, run_host, run_pump, run_session};
 use iso_message::{Code, Message};
 use net_threads::{Ended, LineEnd, Network, Station};
 use run_plan::{Loan, Plan};
-use std::alloc::Global;
+use std::alloc::{AllocError, Global};
 use std::sync::{Mutex, Wait};
 use std::thread;
 use std::thread::Threads;
-use switch_node::{Case, Input};
+use switch_node::{Case, Input, Lending};
 use thiserror::Error;
 
 /// Who answers what the node of an issuer asks.
@@ -30,14 +31,34 @@ pub enum OperateFault {
     Memory,
 }
 
-/// Makes the steps of the plan's loans; a refused one is dropped.
-fn lend_all<R: Wait>(rt: &R, stations: &Vec<Mutex<Station<'_>>>, loans: &[Loan]) {
+/// What the lender of a loan is given.
+fn input_of(alloc: Global, loan: &Loan) -> Result<Input, AllocError>
+    ensures { IfOk result IsTyped }
+{
+    let order = Lending {
+        borrower: loan.borrower,
+        card: loan.card,
+        date: loan.date,
+        amount: loan.amount,
+    };
+    let case = Case::lend(alloc, order)?;
+    Ok(Input::new(case))
+}
+
+/// Makes the steps of the plan's loans; one that its node refuses is dropped.
+fn lend_all<R: Wait>(
+    rt: &R,
+    alloc: Global,
+    stations: &Vec<Mutex<Station<'_>>>,
+    loans: &[Loan],
+) -> Result<(), AllocError> {
     for loan in loans {
         if let Some(station) = stations.get(loan.lender.place()) {
-            let case = Case::Lend(loan.borrower, loan.card, loan.date, loan.amount);
-            let _ = station.lock(rt).apply(Input::new(case));
+            let input = input_of(alloc, loan)?;
+            let _ = station.lock(rt).apply(input);
         }
     }
+    Ok(())
 }
 
 /// Runs the threads, which have all ended at the return.
@@ -123,7 +144,9 @@ pub fn operate<H: Host + Sync, R: Threads + Wait + Sync>(
     ensures { IfOk result (λ e. AllZip SessionFits plan.now.sessions.items e.sessions.items) }
 {
     let stations = network.stations();
-    lend_all(rt, stations, plan.loans.as_slice());
+    if lend_all(rt, alloc, stations, plan.loans.as_slice()).is_err() {
+        return Err(OperateFault::Memory);
+    }
     let ends = run_all(rt, alloc, stations, plan, hosts)?;
     match fitted(alloc, plan.sessions.as_slice(), ends) {
         Ok(sessions) => Ok(Ended { sessions }),

@@ -1,4 +1,6 @@
 //! What each thread does.
+ghost use Rattle.network_law.specs.Runs.{IsTyped};
+ghost use Rattle.switch_node.specs.Inputs.{input_of};
 
 use crate::fitting::is_answer_to;
 use crate::running::Host;
@@ -122,7 +124,9 @@ fn apply_at<R: Wait>(
     station: &Mutex<Station<'_>>,
     case: Case,
     shared: &Shared,
-) -> Result<(), StationFault> {
+) -> Result<(), StationFault>
+    requires typed { IsTyped (input_of case) }
+{
     let mut station = station.lock(rt);
     let done = station.apply(Input::new(case));
     shared.tell(n, &station);

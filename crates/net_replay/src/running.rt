@@ -19,7 +19,7 @@ use network_law::StepFault;
 use replay_script::{Command, ScriptLine};
 use shared_bytes::SharedBytes;
 use std::alloc::{AllocError, Global};
-use switch_node::{Case, Input, Node};
+use switch_node::{Case, Input, Lending, Node};
 use table_checker::Accepted;
 
 /// The nodes, what each has put on its links, and where the entries of the lines stand.
@@ -106,7 +106,15 @@ impl<'a> Running<'a> {
                 card,
                 date,
                 amount,
-            } => Case::Lend(borrower, card, date, amount),
+            } => {
+                let order = Lending {
+                    borrower,
+                    card,
+                    date,
+                    amount,
+                };
+                Case::lend(self.alloc, order)?
+            }
         };
         Ok(Input::new(case))
     }

@@ -1,4 +1,7 @@
 //! The networks of the tests, and steps at their nodes. Nothing is promised of these functions, so that a test is proved fast.
+ghost use Rattle.network_law.specs.Runs.{IsTyped};
+ghost use Rattle.switch_node.specs.Inputs.{input_of};
+
 use card_digits::NodeNo;
 use net_rows::Tables;
 use net_tables::read_tables;
@@ -95,7 +98,9 @@ pub(crate) fn step<R: Wait>(
     network: &Network<'_, '_>,
     n: usize,
     case: Case,
-) -> Option<Result<(), StationFault>> {
+) -> Option<Result<(), StationFault>>
+    requires typed { IsTyped (input_of case) }
+{
     if n >= 64 || n >= network.stations().len() {
         return None;
     }

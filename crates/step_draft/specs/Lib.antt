@@ -2,3 +2,4 @@ pub mod Outputs
 pub mod SoFar
 pub mod Used
 pub mod Failures
+pub mod Held

@@ -12,6 +12,7 @@ ghost use Rattle.step_draft.specs.Outputs.{spelled_in};
 ghost use Rattle.step_draft.specs.SoFar.{approved_in};
 
 use crate::output::Output;
+use crate::outputs::Outputs;
 use book_index::Sums;
 use card_digits::LinkNo;
 use entry_changes::Changes;
@@ -22,7 +23,6 @@ use request_book::{KeptMessage, PreparedOutput, Way};
 use shared_bytes::SharedBytes;
 use std::alloc::{AllocError, Global};
 use std::marker::Model;
-use std::mem::replace;
 
 /// The books as they were before the entry, which nothing changes until the entry is whole; and its changes, with its outputs.
 #[derive(Drop)]
@@ -50,18 +50,6 @@ impl Model for Draft {
     ghost view = { λ d. record { base = d.books.lists; effects = d.effects } };
 
     ghost invariant = { λ d. (d.outs.items ≡ spelled_in d.effects) × AreLateUses d.books.lists.marks d.effects d.late_uses.amounts.entries };
-}
-
-/// Room for one output more. Most entries have one, and the trace keeps no room to spare.
-fn make_room(outputs: &mut Vec<Output>) -> Result<(), AllocError>
-    ensures same { outputs.new.items ≡ outputs.old.items }
-    ensures room { OnOk result (vec_len outputs.new < vec_capacity outputs.new) }
-{
-    if outputs.is_empty() {
-        outputs.reserve_exact(1)
-    } else {
-        outputs.reserve(1)
-    }
 }
 
 /// The bytes that spell a message: those at hand, where they are the same, and else a copy. The message is spelled in a buffer whose
@@ -163,7 +151,7 @@ impl Draft {
         ensures err { OnErr result (self.new ≡ self.old) }
     {
         let out = put_out(&output)?;
-        make_room(&mut self.outs)?;
+        self.outs.reserve(1)?;
         self.effects.push(Effect::Sent(output))?;
         self.outs.push_reserved(out);
         Ok(())
@@ -181,7 +169,7 @@ impl Draft {
         ensures emitted { OnOk result (progress self.new ≡ emit (PutPacket link serial packet) (progress self.old)) }
     {
         let out = spelled_packet(self.alloc, link, serial, &packet)?;
-        make_room(&mut self.outs)?;
+        self.outs.reserve(1)?;
         self.effects.push(Effect::PacketSent(link, serial, packet))?;
         self.outs.push_reserved(out);
         Ok(())
@@ -238,31 +226,25 @@ impl Draft {
         self.effects.push(effect)
     }
 
-    /// Adds the entry's outputs to an empty list, with the same bytes.
-    pub fn lend(&self, lent: &mut Vec<Output>) -> Result<(), AllocError>
-        requires none { lent.old.items ≡ [] }
-        ensures { OnOk result (lent.new.items ≡ spelled_in self.now.effects) }
+    /// Lends the entry's outputs, with the same bytes.
+    pub fn lend(&self, lent: &mut Outputs) -> Result<(), AllocError>
+        ensures { OnOk result (lent.new ≡ spelled_in self.now.effects) }
     {
-        for output in self.outs.as_slice() {
-            let again = output.share()?;
-            lent.push(again)?;
-        }
+        *lent = Outputs::shared(self.alloc, self.outs.as_slice())?;
         Ok(())
     }
 
     /// All that was done is done to the books, and its outputs are handed out; or it is as before.
-    pub fn commit(&mut self) -> Result<Vec<Output>, AllocError>
+    pub fn commit(&mut self) -> Result<Outputs, AllocError>
         requires few { AreFew (progress self.old).lists }
-        ensures outs { IfOk result (λ outs. outs.items ≡ spelled_in self.old.effects) }
+        ensures outs { IfOk result (λ outs. outs ≡ spelled_in self.old.effects) }
         ensures done { OnOk result (self.new ≡ record { base = (progress self.old).lists; effects = [] }) }
         ensures err { OnErr result (self.new ≡ self.old) }
     {
         self.books.reserve(self.effects.len())?;
         self.effects.apply_to(&mut self.books);
         self.late_uses = Sums::new(self.alloc);
-        let mut outs = replace(&mut self.outs, Vec::new(self.alloc));
-        outs.shrink_to_fit();
-        Ok(outs)
+        Ok(Outputs::take(self.alloc, &mut self.outs))
     }
 
     /// Nothing was done.

@@ -22,7 +22,7 @@ use step_rules::{is_at_home, sent_kind};
 
 impl Draft {
     /// A message that is no advice, and is kept already, goes out on a link.
-    fn put_kept(&mut self, link: LinkNo, key: Key, m: KeptMessage) -> Result<(), AllocError>
+    pub fn put_kept(&mut self, link: LinkNo, key: Key, m: KeptMessage) -> Result<(), AllocError>
         requires key { key ≡ key_of m }
         requires plain { is_advice_group (group m.kind) ≡ false }
         ensures base { self.new.base ≡ self.old.base }
@@ -30,17 +30,6 @@ impl Draft {
     {
         let serial = self.next_serial(link);
         self.emit(PreparedOutput::of_message(Way::Put(link, serial), key, m))
-    }
-
-    /// A message that is no advice goes out on a link.
-    pub fn put_on(&mut self, link: LinkNo, key: Key, m: &Message) -> Result<(), AllocError>
-        requires key { key ≡ key_of m.now }
-        requires plain { is_advice_group (group m.now.kind) ≡ false }
-        ensures base { self.new.base ≡ self.old.base }
-        ensures ok { OnOk result ((t : Network) (n : ℕ) → progress self.new ≡ put_on t n link m.now (progress self.old)) }
-    {
-        let kept = self.kept(m)?;
-        self.put_kept(link, key, kept)
     }
 
     /// An advice that is kept already goes out on a link.

@@ -113,7 +113,7 @@ fn are_done(
 }
 
 fn are_made_at(alloc: Global, writer: &mut impl Write, node: &mut Node<'_>) -> bool {
-    let mut outputs = Outputs::new(alloc);
+    let mut outputs = Outputs::new();
     are_done(alloc, writer, node, &mut outputs)
 }
 

@@ -1,5 +1,5 @@
 -- Keys and identities of messages that come, and of what a node forwards and keeps.
-use Rattle.std.proofs.Common.{◌≡◌, Bool, true, false, refl, sym, ◌∙◌, Option, Some, None}
+use Rattle.std.proofs.Common.{◌≡◌, Bool, true, false, refl, sym, ◌∙◌, Option, Some, None, ap}
 use Rattle.card_digits.specs.declared.key.Key.{Key}
 use Rattle.iso_message.specs.Fields.{Fields, get, as_kind}
 use Rattle.iso_message.specs.declared.kind.Kind.{Kind}
@@ -34,6 +34,9 @@ request_plain K0430 e = cc
 
 pub forward_key : (m : Fields) (k : Key) → IsKeyOf k m → k ≡ key_of (as_kind K0100 m)
 forward_key m k own = own.key_is ∙ sym (as_kind_key K0100 m (sym (request_plain m.kind own.request)))
+
+pub forward_same : (m k : Fields) → k ≡ m → k.kind ≡ K0100 → k ≡ as_kind K0100 m
+forward_same m k e f = e ∙ ap (λ z. as_kind z m) (sym (ap (λ (z : Fields). z.kind) e) ∙ f)
 
 when_some : {X : Type 0} (b : Bool) (x y : X) → when b x ≡ Some y → (b ≡ true) × (y ≡ x)
 when_some true x y e = (refl, cc)

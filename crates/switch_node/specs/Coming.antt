@@ -1,5 +1,5 @@
 -- What a message does as it comes.
-use Rattle.std.specs.Prelude.{[], Some, Bool, true, ◌&&◌}
+use Rattle.std.specs.Prelude.{◌≡◌, ⊤, [], Option, Some, None, Bool, true, ◌&&◌}
 use Rattle.iso_message.specs.declared.kind.Group.{Group}
 use Rattle.iso_message.specs.declared.kind.Group.TheVariants as groups
 use Rattle.iso_message.specs.Fields.{Fields, has}
@@ -14,6 +14,11 @@ opened_start x h = record {
   lists = record { rows = open_row x.count (Some h) x.rows; marks = x.marks; takes = x.takes; store = x.store; known = x.known; loans = x.loans; borrowed = x.borrowed; links = x.links; asks = x.asks; date = x.date; count = x.count };
   outs = [];
 }
+
+-- what is kept of a message, where something is, is that message
+abbrev pub IsKept : Option Fields → Fields → Type 0
+IsKept None m = ⊤
+IsKept (Some k) m = k ≡ m
 
 -- whether a message of a group has what it is handled by: a request or an answer its key, an answer its code, and an advice or what acknowledges one its identity
 abbrev pub is_complete : Group → Fields → Bool

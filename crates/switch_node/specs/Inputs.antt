@@ -11,4 +11,4 @@ input_of (cases.LinkDown l) = LinkDown l
 input_of cases.Tick = Tick
 input_of (cases.HostAnswer a code) = HostAnswer a code
 input_of (cases.NewDate date) = NewDate date
-input_of (cases.Lend m card date amount) = Lend m card date amount
+input_of (cases.Lend b) = Lend b.value.borrower b.value.card b.value.date b.value.amount

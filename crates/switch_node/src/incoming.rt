@@ -15,7 +15,7 @@ ghost use Rattle.node_machine.specs.Steps.{on_advice, on_answer, on_group, on_re
 ghost use Rattle.node_books.specs.Effects.{progress};
 ghost use Rattle.request_book.specs.Values.{IsKeyOf, source_of};
 ghost use Rattle.step_draft.specs.Used.{IsQuiet};
-ghost use Rattle.switch_node.specs.Coming.{opened_start, is_complete};
+ghost use Rattle.switch_node.specs.Coming.{opened_start, is_complete, IsKept};
 
 use crate::answers::on_code;
 use crate::notices::{on_advice, on_reversal};
@@ -24,7 +24,7 @@ use card_digits::{DateLabel, Key, LinkNo, NodeNo};
 use iso_message::{AdviceId, Code, DecodeFault, Group, Message, advice_id, code_of, key_of};
 use net_rows::Tables;
 use node_books::Effect;
-use request_book::{Row, is_request};
+use request_book::{KeptMessage, Row, is_request};
 use std::alloc::AllocError;
 use step_draft::Draft;
 use step_rules::is_approval;
@@ -99,21 +99,28 @@ fn handled(draft: &Draft, m: Message) -> Result<Message, AllocError>
     }
 }
 
-/// A request opens its key, where that has none yet; another message does nothing as it comes.
+/// A request opens its key, where that has none yet; another message does nothing as it comes. Answers with what is kept of a request.
 #[tactic(auto, using(crate::proofs::Coming::opens, crate::proofs::Coming::opens_none))]
-fn open(draft: &mut Draft, m: &Message, source: Option<LinkNo>) -> Result<(), AllocError>
+fn open(
+    draft: &mut Draft,
+    m: &Message,
+    source: Option<LinkNo>,
+) -> Result<Option<KeptMessage>, AllocError>
     requires empty { draft.old.effects ≡ [] }
     requires complete { is_complete (group m.now.kind) m.now ≡ true }
     ensures base { draft.new.base ≡ draft.old.base }
     ensures ok { OnOk result (progress draft.new ≡ opened_start draft.old.base (record { message = m.now; source = source_of source })) }
+    ensures kept { IfOk result (λ k. IsKept k m.now) }
 {
     if !is_request(m.kind()) {
-        return Ok(());
+        return Ok(None);
     }
     let key = request_key(m);
     let request = draft.kept(m)?;
+    let again = request.share()?;
     let row = Row::new(key, request, source, draft.books().count());
-    draft.change(Effect::Opened(row))
+    draft.change(Effect::Opened(row))?;
+    Ok(Some(again))
 }
 
 /// Whether the key's request was put on this link before the entry.
@@ -160,17 +167,19 @@ fn on_keyed_request(
     tables: &Tables,
     node: NodeNo,
     m: Message,
+    kept: Option<KeptMessage>,
     source: Option<LinkNo>,
 ) -> Result<(), AllocError>
     requires request { is_request m.kind ≡ true }
     requires key { has_key m ≡ true }
+    requires kept { IsKept kept m }
     requires quiet { IsQuiet draft.old.base (progress draft.old).lists }
     requires left { LeftAsMarked draft.old.base.marks draft.old.base.takes }
     ensures base { draft.new.base ≡ draft.old.base }
     ensures ok { OnOk result (progress draft.new ≡ on_request tables.now node (view tables.now node draft.old.base) m (source_of source) ((view tables.now node draft.old.base).opening (key_of m)) (progress draft.old)) }
 {
     let key = request_key(&m);
-    on_request(draft, tables, node, key, m, source)
+    on_request(draft, tables, node, key, m, kept, source)
 }
 
 fn on_identified(
@@ -195,23 +204,25 @@ fn on_identified(
     }
 }
 
-/// A message, as it is handled.
+/// A message, as it is handled, with what is kept of a request.
 #[tactic(auto, using(crate::proofs::Messages::request_group))]
 fn on_message(
     draft: &mut Draft,
     tables: &Tables,
     node: NodeNo,
     m: Message,
+    kept: Option<KeptMessage>,
     source: Option<LinkNo>,
 ) -> Result<(), AllocError>
     requires complete { is_complete (group m.kind) m ≡ true }
+    requires kept { IsKept kept m }
     requires quiet { IsQuiet draft.old.base (progress draft.old).lists }
     requires left { LeftAsMarked draft.old.base.marks draft.old.base.takes }
     ensures base { draft.new.base ≡ draft.old.base }
     ensures ok { OnOk result (progress draft.new ≡ on_group tables.now node (view tables.now node draft.old.base) m (source_of source) (group m.kind) (progress draft.old)) }
 {
     match m.kind().group() {
-        Group::AuthorizationRequest => on_keyed_request(draft, tables, node, m, source),
+        Group::AuthorizationRequest => on_keyed_request(draft, tables, node, m, kept, source),
         Group::AuthorizationResponse => match source {
             Some(link) => on_answer(draft, tables, node, &m, link),
             None => Ok(()),
@@ -237,8 +248,8 @@ pub(crate) fn enter(
     ensures ok { OnOk result (progress draft.new ≡ step tables.now node draft.old.base (Enter m)) }
 {
     let handled = handled(draft, m)?;
-    open(draft, &handled, None)?;
-    on_message(draft, tables, node, handled, None)
+    let kept = open(draft, &handled, None)?;
+    on_message(draft, tables, node, handled, kept, None)
 }
 
 /// What a message acknowledges leaves the store.
@@ -270,6 +281,6 @@ pub(crate) fn take_message(
     if is_acknowledgement(&m) {
         return acknowledge(draft, &m);
     }
-    open(draft, &m, Some(link))?;
-    on_message(draft, tables, node, m, Some(link))
+    let kept = open(draft, &m, Some(link))?;
+    on_message(draft, tables, node, m, kept, Some(link))
 }

@@ -316,8 +316,14 @@ pub(crate) fn step(
             take_bytes(draft, tables, node, *link, *serial, bytes)
         }
         Case::HostAnswer(ask, code) => host_answer(draft, tables, node, *ask, *code),
-        Case::Lend(borrower, card, date, amount) => {
-            lend_input(draft, tables, node, *borrower, card, date, *amount)
-        }
+        Case::Lend(order) => lend_input(
+            draft,
+            tables,
+            node,
+            order.borrower,
+            &order.card,
+            &order.date,
+            order.amount,
+        ),
     }
 }

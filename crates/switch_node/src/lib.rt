@@ -2,15 +2,15 @@
 #![tactic(auto)]
 
 mod answers;
+mod entry;
 mod incoming;
 mod input;
 mod inputs;
 mod node;
 mod notices;
-mod output;
 mod requests;
 
-pub use input::{Case, Input};
+pub use entry::Entry;
+pub use input::{Case, Input, Lending};
 pub use node::Node;
-pub use output::{Entry, Outputs};
-pub use step_draft::Output;
+pub use step_draft::{Output, Outputs};

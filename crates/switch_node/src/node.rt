@@ -9,16 +9,16 @@ ghost use Rattle.std.specs.Prelude.{reverse, if◌then◌else◌};
 ghost use Rattle.step_draft.specs.Outputs.{spelled_in};
 ghost use Rattle.switch_node.specs.Node.{newest_outputs};
 
+use crate::entry::Entry;
 use crate::input::Input;
 use crate::inputs::step;
-use crate::output::{Entry, Outputs};
 use card_digits::{LinkNo, NodeNo};
 use net_rows::Tables;
 use network_law::{StepFault, every_legal_trace_is_within_limits};
 use node_books::Books;
 use std::alloc::{AllocError, Global};
 use std::marker::Model;
-use step_draft::{Draft, Output};
+use step_draft::{Draft, Output, Outputs};
 use table_checker::Accepted;
 
 /// The most entries that a trace has.
@@ -30,7 +30,7 @@ fn lend(draft: &Draft, lends: bool, out: &mut Outputs) -> Result<(), AllocError>
     ensures { OnOk result (out.new ≡ if lends then spelled_in draft.now.effects else []) }
 {
     if lends {
-        draft.lend(&mut out.items)?;
+        draft.lend(out)?;
     }
     Ok(())
 }
@@ -131,7 +131,7 @@ impl<'a> Node<'a> {
         ensures err { OnErr result (self.new ≡ self.old) }
         ensures fault { IfErr result (λ f. (f ≡ Memory) ⊎ (step_refusal self.old.t self.old.n self.old.trace input ≡ Some f)) }
     {
-        let mut none = Outputs::new(self.draft.alloc());
+        let mut none = Outputs::new();
         self.make_entry(input, false, &mut none)
     }
 
@@ -160,13 +160,12 @@ impl<'a> Node<'a> {
             out.clear();
             return Err(StepFault::Memory);
         };
-        let Ok(outs) = self.draft.commit() else {
+        let Ok(outputs) = self.draft.commit() else {
             self.draft.rollback();
             out.clear();
             return Err(StepFault::Memory);
         };
-        self.trace
-            .push_reserved(Entry::new(input, Outputs::from_vec(outs)));
+        self.trace.push_reserved(Entry::new(input, outputs));
         Ok(())
     }
 }

@@ -20,6 +20,7 @@ ghost use Rattle.std.specs.Prelude.{false};
 ghost use Rattle.node_books.specs.Effects.{progress};
 ghost use Rattle.request_book.specs.Values.{IsAnswerOf, IsKeyOf, source_of};
 ghost use Rattle.step_draft.specs.Used.{IsQuiet};
+ghost use Rattle.switch_node.specs.Coming.{IsKept};
 ghost use Rattle.node_machine.specs.Lists.{link_at};
 
 use card_digits::{Key, LinkNo, NodeNo};
@@ -32,16 +33,28 @@ use step_draft::Draft;
 use step_refusals::{PLACES, same_source};
 use step_rules::{has_good_card, is_home, issuer_of, route_links};
 
-/// A request as it is put on a link, or asked of the host.
-#[tactic(auto, using(crate::proofs::Messages::forward_key))]
-fn forwarded(key: Key, m: Message) -> Message
-    requires { IsKeyOf key m }
-    ensures message { result ≡ as_kind K0100 m }
-    ensures key { key ≡ key_of result }
+/// A request as it is put on a link, or asked of the host: with the type 0100, which what is kept of it may have already.
+#[tactic(auto, using(crate::proofs::Messages::forward_key, crate::proofs::Messages::forward_same))]
+fn forwarded(
+    draft: &mut Draft,
+    key: Key,
+    m: Message,
+    kept: Option<KeptMessage>,
+) -> Result<KeptMessage, AllocError>
+    requires key { IsKeyOf key m }
+    requires kept { IsKept kept m }
+    ensures same { draft.new ≡ draft.old }
+    ensures message { IfOk result (λ f. f ≡ as_kind K0100 m) }
+    ensures key { IfOk result (λ f. key ≡ key_of f) }
 {
-    let mut forward = m;
-    forward.set_kind(Kind::K0100);
-    forward
+    match kept {
+        Some(same) if same.kind() == Kind::K0100 => Ok(same),
+        _ => {
+            let mut forward = m;
+            forward.set_kind(Kind::K0100);
+            draft.kept(&forward)
+        }
+    }
 }
 
 /// Whether a link was up before the entry.
@@ -93,15 +106,15 @@ fn answer_again(row: &Row) -> Result<Option<KeptMessage>, AllocError>
 }
 
 /// A request goes to the host.
-fn ask(draft: &mut Draft, key: Key, m: Message) -> Result<(), AllocError>
-    requires { IsKeyOf key m }
+fn ask(draft: &mut Draft, key: Key, m: Message, kept: Option<KeptMessage>) -> Result<(), AllocError>
+    requires key { IsKeyOf key m }
+    requires kept { IsKept kept m }
     ensures base { draft.new.base ≡ draft.old.base }
     ensures ok { OnOk result ((t : Network) (n : ℕ) → progress draft.new ≡ emit (Ask (suc (view t n draft.old.base).ask_count) (as_kind K0100 m)) (progress draft.old)) }
 {
     let ask = draft.books().ask_count() as u64 + 1;
-    let forward = forwarded(key, m);
-    let kept = draft.kept(&forward)?;
-    draft.emit(PreparedOutput::of_message(Way::Ask(ask), key, kept))
+    let forward = forwarded(draft, key, m, kept)?;
+    draft.emit(PreparedOutput::of_message(Way::Ask(ask), key, forward))
 }
 
 /// The first link of a card's route that was up before the entry.
@@ -126,9 +139,11 @@ fn forward(
     node: NodeNo,
     key: Key,
     m: Message,
+    kept: Option<KeptMessage>,
     source: Option<LinkNo>,
 ) -> Result<(), AllocError>
     requires key { IsKeyOf key m }
+    requires kept { IsKept kept m }
     requires quiet { IsQuiet draft.old.base (progress draft.old).lists }
     requires left { LeftAsMarked draft.old.base.marks draft.old.base.takes }
     ensures base { draft.new.base ≡ draft.old.base }
@@ -136,8 +151,8 @@ fn forward(
 {
     match way_of(draft, tables, node, &m) {
         Some(link) => {
-            let forward = forwarded(key, m);
-            draft.put_on(link, key, &forward)
+            let forward = forwarded(draft, key, m, kept)?;
+            draft.put_kept(link, key, forward)
         }
         None => draft.stand_in(tables, node, key, &m, source),
     }
@@ -150,9 +165,11 @@ fn take_request(
     node: NodeNo,
     key: Key,
     m: Message,
+    kept: Option<KeptMessage>,
     source: Option<LinkNo>,
 ) -> Result<(), AllocError>
     requires key { IsKeyOf key m }
+    requires kept { IsKept kept m }
     requires quiet { IsQuiet draft.old.base (progress draft.old).lists }
     requires left { LeftAsMarked draft.old.base.marks draft.old.base.takes }
     ensures base { draft.new.base ≡ draft.old.base }
@@ -166,9 +183,9 @@ fn take_request(
         return draft.respond(source, key, &m, Code::new(*b"96"));
     }
     if home {
-        return ask(draft, key, m);
+        return ask(draft, key, m, kept);
     }
-    forward(draft, tables, node, key, m, source)
+    forward(draft, tables, node, key, m, kept, source)
 }
 
 /// A request of a key that has none yet.
@@ -178,9 +195,11 @@ fn on_new_request(
     node: NodeNo,
     key: Key,
     m: Message,
+    kept: Option<KeptMessage>,
     source: Option<LinkNo>,
 ) -> Result<(), AllocError>
     requires key { IsKeyOf key m }
+    requires kept { IsKept kept m }
     requires quiet { IsQuiet draft.old.base (progress draft.old).lists }
     requires left { LeftAsMarked draft.old.base.marks draft.old.base.takes }
     ensures base { draft.new.base ≡ draft.old.base }
@@ -192,7 +211,7 @@ fn on_new_request(
     if !has_good_card(&m) {
         return draft.respond(source, key, &m, Code::new(*b"14"));
     }
-    take_request(draft, tables, node, key, m, source)
+    take_request(draft, tables, node, key, m, kept, source)
 }
 
 /// A request of a key that has one: the same is answered again, where it was answered, and another is a duplicate.
@@ -250,9 +269,11 @@ pub(crate) fn on_request(
     node: NodeNo,
     key: Key,
     m: Message,
+    kept: Option<KeptMessage>,
     source: Option<LinkNo>,
 ) -> Result<(), AllocError>
     requires key { IsKeyOf key m }
+    requires kept { IsKept kept m }
     requires quiet { IsQuiet draft.old.base (progress draft.old).lists }
     requires left { LeftAsMarked draft.old.base.marks draft.old.base.takes }
     ensures base { draft.new.base ≡ draft.old.base }
@@ -261,6 +282,6 @@ pub(crate) fn on_request(
     if draft.books().has_key(key) {
         on_repeat(draft, tables, node, key, &m, source)
     } else {
-        on_new_request(draft, tables, node, key, m, source)
+        on_new_request(draft, tables, node, key, m, kept, source)
     }
 }

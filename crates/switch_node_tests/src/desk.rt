@@ -11,7 +11,7 @@ use sample_networks::Sample;
 use shared_bytes::SharedBytes;
 use std::alloc::Global;
 use std::test::Fail;
-use switch_node::{Case, Input, Node, Outputs};
+use switch_node::{Case, Input, Lending, Node, Outputs};
 use table_checker::check;
 
 fn tables_of(alloc: Global, text: &[u8]) -> Result<Tables, Fail> {
@@ -68,7 +68,7 @@ impl<'t> Stepped<'t> {
         Ok(Stepped {
             alloc,
             node,
-            outputs: Outputs::new(alloc),
+            outputs: Outputs::new(),
             fault: None,
             named: 0,
         })
@@ -156,11 +156,18 @@ impl<'t> Stepped<'t> {
         self.fault = self.node.step(input, &mut self.outputs).err();
     }
 
-    fn lend(&mut self, node: NodeNo, loan: &Loan) {
+    fn lend(&mut self, borrower: NodeNo, loan: &Loan) -> Result<(), Fail> {
         // A card and a date have digits, and an amount has a bound.
         let (_card, _date, _amount) = (loan.card.digits(), loan.date.digits(), loan.amount.value());
-        let input = Input::new(Case::Lend(node, loan.card, loan.date, loan.amount));
-        self.fault = self.node.step(input, &mut self.outputs).err();
+        let order = Lending {
+            borrower,
+            card: loan.card,
+            date: loan.date,
+            amount: loan.amount,
+        };
+        let case = Case::lend(self.alloc, order)?;
+        self.fault = self.node.step(Input::new(case), &mut self.outputs).err();
+        Ok(())
     }
 
     fn give(&mut self, given: &Given, message: &str) -> Result<(), Fail> {
@@ -178,10 +185,7 @@ impl<'t> Stepped<'t> {
                 self.date(*date);
                 Ok(())
             }
-            Given::Lend(node, loan) => {
-                self.lend(*node, loan);
-                Ok(())
-            }
+            Given::Lend(node, loan) => self.lend(*node, loan),
         }
     }
 }

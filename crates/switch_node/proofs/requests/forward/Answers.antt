@@ -1,16 +1,17 @@
-use Rattle.std.proofs.Common.{◌∙◌}
+use Rattle.std.proofs.Common.{refl, ◌∙◌}
 use Rattle.node_machine.specs.Lists.{view}
 use Rattle.node_books.specs.Effects.{progress}
 use Rattle.request_book.specs.Values.{source_of}
-use Rattle.step_draft.proofs.Parts.{on_ok}
+use Rattle.node_machine.specs.Steps as steps
+use Rattle.step_draft.proofs.Parts.{on_ok, of_kept}
 use Rattle.switch_node.proofs.Requested.{forward_some, forward_none}
 use Rattle.switch_node.proofs.requests.forward.Goals as goal
 
-pub returns-in-Some-clause-ok : goal.returns-in-Some-clause-ok
-returns-in-Some-clause-ok c =
+pub returns-in_ok-forward-in-Some-clause-ok : goal.returns-in_ok-forward-in-Some-clause-ok
+returns-in_ok-forward-in-Some-clause-ok c =
     let t = c.args.tables.now in
     let n = c.args.node in
-    on_ok c.put_on.result (λ e. e t n ∙ forward_some t n (view t n c.args.draft.now.base) c.args.m (source_of c.args.source) c.in-Some.link c.forwarded-forward.result (progress c.args.draft.now) _ c.in-Some.ensures c.forwarded-forward.ensures.message) c.put_on.ensures.ok
+    on_ok c.put_kept.result (λ e. e t n ∙ (of_kept (steps.put_on t n c.in-Some.link) _ _ _ _ c.in_ok-forward-in-Some.ensures.message c.in_ok-forward-in-Some.ensures.same ∙ forward_some t n (view t n c.args.draft.now.base) c.args.m (source_of c.args.source) c.in-Some.link _ (progress c.args.draft.now) _ c.in-Some.ensures refl)) c.put_kept.ensures.ok
 
 pub returns-in-None-clause-ok : goal.returns-in-None-clause-ok
 returns-in-None-clause-ok c =

@@ -3,7 +3,7 @@ use Rattle.network_law.specs.Entries as inputs
 use Rattle.replay_script.specs.Lines.{event_of}
 use Rattle.net_replay.proofs.Reading.{IsOwn, line_placed}
 use Rattle.net_replay.proofs.running.Running.input.Goals as goal
-use Rattle.net_replay.proofs.running.Running.input.Goals.{in-Enter+in_ok-copied-in-Enter, in-Take+in-Some+in_ok-share-in-Take, in-LinkUp, in-LinkDown, in-Tick, in-HostAnswer, in-NewDate, in-Lend}
+use Rattle.net_replay.proofs.running.Running.input.Goals.{in-Enter+in_ok-copied-in-Enter, in-Take+in-Some+in_ok-share-in-Take, in-LinkUp, in-LinkDown, in-Tick, in-HostAnswer, in-NewDate, in-Lend+in_ok-case-in-Lend}
 
 pub packet-requires-clause-own : goal.packet-requires-clause-own
 packet-requires-clause-own c = subst (λ z. IsOwn c.args.self.now.tables.now c.args.line.now.node (event_of z)) c.in-Take.is (line_placed c.args.self.now.tables.now c.requires.said.0 _ c.requires.said.1).1
@@ -20,5 +20,5 @@ returns-clause-input c steps standing = elim c.match-line.branch [
   | in-Tick w ↦ rw (c.new.ensures, w.case-is, w.in-Tick.is) refl
   | in-HostAnswer w ↦ rw (c.new.ensures, w.case-is, w.in-HostAnswer.is) refl
   | in-NewDate w ↦ rw (c.new.ensures, w.case-is, w.in-NewDate.is) refl
-  | in-Lend w ↦ rw (c.new.ensures, w.case-is, w.in-Lend.is) refl
+  | in-Lend+in_ok-case-in-Lend w ↦ rw (c.new.ensures, w.case-is, w.in-Lend.is) w.in_ok-case-in-Lend.ensures.order
 ]

@@ -18,7 +18,7 @@ commit-requires c =
     let does : Does t n c.args.input c.self.inside.draft c.step.new.draft = c.in_default.ensures.ok in
     record { few = few_next t n trace c.self.inside.draft.base (Does.read does) (progress c.step.new.draft) c.self.invariant.given (not_full c.self.inside.trace.items (omega (arith, ap length c.as_slice.ensures.value))) (Does.done does) }
 
-made : (c : goal.After-push_reserved) → Stepped c.self.inside.tables.now c.self.inside.node (reverse c.self.inside.trace.items) (record { input = c.args.input; outputs = c.in-Ok-commit.outs.items }) (progress c.step.new.draft).lists
+made : (c : goal.After-push_reserved) → Stepped c.self.inside.tables.now c.self.inside.node (reverse c.self.inside.trace.items) (record { input = c.args.input; outputs = c.in-Ok-commit.outputs }) (progress c.step.new.draft).lists
 made c =
     let t = c.self.inside.tables.now in
     let n = c.self.inside.node in
@@ -26,17 +26,17 @@ made c =
     let does : Does t n c.args.input c.self.inside.draft c.step.new.draft = c.in_default.ensures.ok in
     let room : nat_le 1000000 (length trace) ≡ false = not_full c.self.inside.trace.items (omega (arith, ap length c.as_slice.ensures.value)) in
     let own = rw (← c.self.view_is) at c.requires.own in
-    stepped t n trace c.self.inside.draft.base (record { input = c.args.input; outputs = c.in-Ok-commit.outs.items }) (Does.read does) (progress c.step.new.draft) c.self.invariant.given own c.requires.typed (Does.reads does) room (Does.accepted does) (Does.done does) (c.in-Ok-commit.ensures.outs ∙ ap (map spelled) (sym (reverse-reverse (sent_in c.step.new.draft.effects))))
+    stepped t n trace c.self.inside.draft.base (record { input = c.args.input; outputs = c.in-Ok-commit.outputs }) (Does.read does) (progress c.step.new.draft) c.self.invariant.given own c.requires.typed (Does.reads does) room (Does.accepted does) (Does.done does) (c.in-Ok-commit.ensures.outs ∙ ap (map spelled) (sym (reverse-reverse (sent_in c.step.new.draft.effects))))
 
 pub invariant_of-self-2 : goal.invariant_of-self-2
-invariant_of-self-2 c = rw (c.push_reserved.ensures.items, c.reserve.ensures.items, c.new.ensures, c.from_vec.ensures, reverse-append c.self.inside.trace.items (record { input = c.args.input; outputs = c.in-Ok-commit.outs.items } ∷ []), c.in-Ok-commit.ensures.done) (record { given = Stepped.given (made c); empty = refl })
+invariant_of-self-2 c = rw (c.push_reserved.ensures.items, c.reserve.ensures.items, c.new.ensures, reverse-append c.self.inside.trace.items (record { input = c.args.input; outputs = c.in-Ok-commit.outputs } ∷ []), c.in-Ok-commit.ensures.done) (record { given = Stepped.given (made c); empty = refl })
 
 pub returns-clause-accepted : goal.returns-clause-accepted
 returns-clause-accepted c = rw (← c.self.view_is) (Stepped.accepted (made c))
 
 pub returns-clause-entry : goal.returns-clause-entry
 returns-clause-entry c =
-    rw (← c.self.view_is) (rw (c.push_reserved.ensures.items, c.reserve.ensures.items, c.new.ensures, c.from_vec.ensures, reverse-append c.self.inside.trace.items (record { input = c.args.input; outputs = c.in-Ok-commit.outs.items } ∷ []))
+    rw (← c.self.view_is) (rw (c.push_reserved.ensures.items, c.reserve.ensures.items, c.new.ensures, reverse-append c.self.inside.trace.items (record { input = c.args.input; outputs = c.in-Ok-commit.outputs } ∷ []))
     (ap (λ z. record { input = c.args.input; outputs = z } ∷ reverse c.self.inside.trace.items) (Stepped.outputs (made c))))
 
 pub returns-clause-lent : goal.returns-clause-lent

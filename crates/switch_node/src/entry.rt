@@ -1,0 +1,43 @@
+//! Entries.
+ghost use Rattle.std.specs.Prelude.{◌≡◌};
+
+use crate::input::Input;
+use std::marker::Model;
+use step_draft::Outputs;
+
+/// An input and what the node put out for it.
+#[derive(Drop)]
+pub struct Entry {
+    input: Input,
+    outputs: Outputs,
+}
+
+impl Model for Entry {
+    ghost use Rattle.network_law.specs.Entries.{Entry};
+
+    ghost Value = { Entry };
+
+    ghost view = { λ e. record { input = e.input; outputs = e.outputs } };
+}
+
+impl Entry {
+    pub fn new(input: Input, outputs: Outputs) -> Entry
+        ensures { result ≡ record { input = input; outputs = outputs } }
+    {
+        Entry { input, outputs }
+    }
+
+    /// What came to the node.
+    pub fn input(&self) -> &Input
+        ensures { result.now ≡ self.now.input }
+    {
+        &self.input
+    }
+
+    /// What was put out for it, in order.
+    pub fn outputs(&self) -> &Outputs
+        ensures { result.now ≡ self.now.outputs }
+    {
+        &self.outputs
+    }
+}
