@@ -51,18 +51,19 @@ pub(crate) fn says(
     }
 }
 
-/// Whether a fault is printed for the first network with one piece of its tables changed.
+/// Whether this fault of tables is printed for the first network with one piece of its tables changed.
 pub(crate) fn says_of_changed(
     alloc: Global,
     old: &str,
     new: &str,
-    want: &str,
+    fault: &str,
 ) -> Result<bool, AllocError> {
     let Some((front, back)) = base::TABLES.split_once(old) else {
         return Ok(false);
     };
     let ranks = base::RANKS;
     let input = format!(in alloc; "{front}{new}{back}%%\n{ranks}")?;
+    let want = format!(in alloc; "fault tables {fault}\n")?;
     says(alloc, Job::Check, input.as_bytes(), want.as_bytes(), 2)
 }
 

@@ -9,70 +9,64 @@ const STAND_IN: &str = "[[stand_in]]\nnode = \"A\"\nprefix = \"4\"\nday = 100\ns
 
 #[test]
 fn faults_of_network(rt: HostRuntime) -> Result<(), Fail> {
-    let cases: [(&str, &str, &str); 12] = [
+    let cases: [(&str, &str, &str); 7] = [
         (
             "currency = \"840\"\n",
             "",
-            "fault tables 2 missing field: network 1 currency\n",
+            "2 missing field: network 1 currency",
         ),
-        (
-            "\"840\"",
-            "\"84\"",
-            "fault tables 3 bad value: network 1 currency\n",
-        ),
-        (
-            "\"840\"",
-            "840",
-            "fault tables 3 bad value: network 1 currency\n",
-        ),
-        (
-            "date = \"0314\"\n",
-            "",
-            "fault tables 2 missing field: network 1 date\n",
-        ),
-        (
-            "\"0314\"",
-            "\"031x\"",
-            "fault tables 3 bad value: network 1 date\n",
-        ),
-        (
-            "host_ticks = 100\n",
-            "",
-            "fault tables 2 missing field: network 1 host_ticks\n",
-        ),
-        (
-            "host_ticks = 100",
-            "host_ticks = 0",
-            "fault tables 3 bad value: network 1 host_ticks\n",
-        ),
-        (
-            "host_ticks = 100",
-            "host_ticks = 4001",
-            "fault tables 3 bad value: network 1 host_ticks\n",
-        ),
-        (
-            "advice_ticks = 50\n",
-            "",
-            "fault tables 2 missing field: network 1 advice_ticks\n",
-        ),
-        (
-            "advice_ticks = 50",
-            "advice_ticks = 4001",
-            "fault tables 3 bad value: network 1 advice_ticks\n",
-        ),
+        ("\"840\"", "\"84\"", "3 bad value: network 1 currency"),
+        ("\"840\"", "840", "3 bad value: network 1 currency"),
+        ("date = \"0314\"\n", "", "2 missing field: network 1 date"),
+        ("\"0314\"", "\"031x\"", "3 bad value: network 1 date"),
         (
             "advice_ticks = 50",
             "advice_ticks = 50\nextra = 1",
-            "fault tables 3 bad value: network 1 other\n",
+            "3 bad value: network 1 other",
         ),
         (
             "[network]\n",
             "[[network]]\n",
-            "fault tables 3 bad value: network 0 other\n",
+            "3 bad value: network 0 other",
         ),
     ];
-    for (i, (old, new, want)) in cases.iter().enumerate() {
-        assert!(rt; says_of_changed(rt.alloc(), old, new, want)?, "case {i}");
+    for (i, (old, new, fault)) in cases.iter().enumerate() {
+        assert!(rt; says_of_changed(rt.alloc(), old, new, fault)?, "case {i}");
+    }
+    Ok(())
+}
+
+#[test]
+fn faults_of_ticks(rt: HostRuntime) -> Result<(), Fail> {
+    let cases: [(&str, &str, &str); 5] = [
+        (
+            "host_ticks = 100\n",
+            "",
+            "2 missing field: network 1 host_ticks",
+        ),
+        (
+            "host_ticks = 100",
+            "host_ticks = 0",
+            "3 bad value: network 1 host_ticks",
+        ),
+        (
+            "host_ticks = 100",
+            "host_ticks = 4001",
+            "3 bad value: network 1 host_ticks",
+        ),
+        (
+            "advice_ticks = 50\n",
+            "",
+            "2 missing field: network 1 advice_ticks",
+        ),
+        (
+            "advice_ticks = 50",
+            "advice_ticks = 4001",
+            "3 bad value: network 1 advice_ticks",
+        ),
+    ];
+    for (i, (old, new, fault)) in cases.iter().enumerate() {
+        assert!(rt; says_of_changed(rt.alloc(), old, new, fault)?, "case {i}");
     }
     Ok(())
 }
@@ -80,54 +74,30 @@ fn faults_of_network(rt: HostRuntime) -> Result<(), Fail> {
 #[test]
 fn faults_of_node(rt: HostRuntime) -> Result<(), Fail> {
     let cases: [(&str, &str, &str); 9] = [
-        (
-            "name = \"A\"\n",
-            "",
-            "fault tables 2 missing field: node 1 name\n",
-        ),
-        (
-            "name = \"A\"",
-            "name = \"A-B\"",
-            "fault tables 3 bad value: node 1 name\n",
-        ),
+        ("name = \"A\"\n", "", "2 missing field: node 1 name"),
+        ("name = \"A\"", "name = \"A-B\"", "3 bad value: node 1 name"),
         (
             "name = \"A\"",
             "name = \"ABCDEFGHI\"",
-            "fault tables 3 bad value: node 1 name\n",
+            "3 bad value: node 1 name",
         ),
-        (
-            "name = \"H\"",
-            "name = \"A\"",
-            "fault tables 5 twice: node 2 name\n",
-        ),
-        (
-            "id = \"1001\"\n",
-            "",
-            "fault tables 2 missing field: node 1 id\n",
-        ),
-        (
-            "id = \"1001\"",
-            "id = \"00\"",
-            "fault tables 3 bad value: node 1 id\n",
-        ),
+        ("name = \"H\"", "name = \"A\"", "5 twice: node 2 name"),
+        ("id = \"1001\"\n", "", "2 missing field: node 1 id"),
+        ("id = \"1001\"", "id = \"00\"", "3 bad value: node 1 id"),
         (
             "id = \"1001\"",
             "id = \"123456789012\"",
-            "fault tables 3 bad value: node 1 id\n",
+            "3 bad value: node 1 id",
         ),
-        (
-            "id = \"1001\"",
-            "id = 1001",
-            "fault tables 3 bad value: node 1 id\n",
-        ),
+        ("id = \"1001\"", "id = 1001", "3 bad value: node 1 id"),
         (
             "id = \"1001\"",
             "id = \"1001\"\nx = 1",
-            "fault tables 3 bad value: node 1 other\n",
+            "3 bad value: node 1 other",
         ),
     ];
-    for (i, (old, new, want)) in cases.iter().enumerate() {
-        assert!(rt; says_of_changed(rt.alloc(), old, new, want)?, "case {i}");
+    for (i, (old, new, fault)) in cases.iter().enumerate() {
+        assert!(rt; says_of_changed(rt.alloc(), old, new, fault)?, "case {i}");
     }
     Ok(())
 }
@@ -135,59 +105,35 @@ fn faults_of_node(rt: HostRuntime) -> Result<(), Fail> {
 #[test]
 fn faults_of_link(rt: HostRuntime) -> Result<(), Fail> {
     let cases: [(&str, &str, &str); 10] = [
-        (
-            "name = \"AH\"\n",
-            "",
-            "fault tables 2 missing field: link 1 name\n",
-        ),
-        (
-            "name = \"AH\"",
-            "name = \"\"",
-            "fault tables 3 bad value: link 1 name\n",
-        ),
+        ("name = \"AH\"\n", "", "2 missing field: link 1 name"),
+        ("name = \"AH\"", "name = \"\"", "3 bad value: link 1 name"),
         (
             "[[acquirer]]",
             "[[link]]\nname = \"AH\"\nends = [\"H\", \"A\"]\nticks = 1\n[[acquirer]]",
-            "fault tables 5 twice: link 2 name\n",
+            "5 twice: link 2 name",
         ),
         (
             "ends = [\"A\", \"H\"]\n",
             "",
-            "fault tables 2 missing field: link 1 ends\n",
+            "2 missing field: link 1 ends",
         ),
-        (
-            "[\"A\", \"H\"]",
-            "[\"A\"]",
-            "fault tables 3 bad value: link 1 ends\n",
-        ),
+        ("[\"A\", \"H\"]", "[\"A\"]", "3 bad value: link 1 ends"),
         (
             "[\"A\", \"H\"]",
             "[\"Z\", \"Z\"]",
-            "fault tables 3 bad value: link 1 ends\n",
+            "3 bad value: link 1 ends",
         ),
         (
             "[\"A\", \"H\"]",
             "[\"A\", \"Z\"]",
-            "fault tables 4 unknown name: link 1 ends\n",
+            "4 unknown name: link 1 ends",
         ),
-        (
-            "ticks = 3\n",
-            "",
-            "fault tables 2 missing field: link 1 ticks\n",
-        ),
-        (
-            "ticks = 3",
-            "ticks = 65536",
-            "fault tables 3 bad value: link 1 ticks\n",
-        ),
-        (
-            "ticks = 3",
-            "ticks = 3\nx = 1",
-            "fault tables 3 bad value: link 1 other\n",
-        ),
+        ("ticks = 3\n", "", "2 missing field: link 1 ticks"),
+        ("ticks = 3", "ticks = 65536", "3 bad value: link 1 ticks"),
+        ("ticks = 3", "ticks = 3\nx = 1", "3 bad value: link 1 other"),
     ];
-    for (i, (old, new, want)) in cases.iter().enumerate() {
-        assert!(rt; says_of_changed(rt.alloc(), old, new, want)?, "case {i}");
+    for (i, (old, new, fault)) in cases.iter().enumerate() {
+        assert!(rt; says_of_changed(rt.alloc(), old, new, fault)?, "case {i}");
     }
     Ok(())
 }
@@ -195,39 +141,31 @@ fn faults_of_link(rt: HostRuntime) -> Result<(), Fail> {
 #[test]
 fn faults_of_acquirer(rt: HostRuntime) -> Result<(), Fail> {
     let cases: [(&str, &str, &str); 6] = [
-        (
-            "id = \"400001\"\n",
-            "",
-            "fault tables 2 missing field: acquirer 1 id\n",
-        ),
-        (
-            "\"400001\"",
-            "\"4x\"",
-            "fault tables 3 bad value: acquirer 1 id\n",
-        ),
+        ("id = \"400001\"\n", "", "2 missing field: acquirer 1 id"),
+        ("\"400001\"", "\"4x\"", "3 bad value: acquirer 1 id"),
         (
             "id = \"400001\"\nnode = \"A\"",
             "id = \"400001\"",
-            "fault tables 2 missing field: acquirer 1 node\n",
+            "2 missing field: acquirer 1 node",
         ),
         (
             "id = \"400001\"\nnode = \"A\"",
             "id = \"400001\"\nnode = \"a b\"",
-            "fault tables 3 bad value: acquirer 1 node\n",
+            "3 bad value: acquirer 1 node",
         ),
         (
             "id = \"400001\"\nnode = \"A\"",
             "id = \"400001\"\nnode = \"Z\"",
-            "fault tables 4 unknown name: acquirer 1 node\n",
+            "4 unknown name: acquirer 1 node",
         ),
         (
             "\"400001\"",
             "\"400001\"\nx = 1",
-            "fault tables 3 bad value: acquirer 1 other\n",
+            "3 bad value: acquirer 1 other",
         ),
     ];
-    for (i, (old, new, want)) in cases.iter().enumerate() {
-        assert!(rt; says_of_changed(rt.alloc(), old, new, want)?, "case {i}");
+    for (i, (old, new, fault)) in cases.iter().enumerate() {
+        assert!(rt; says_of_changed(rt.alloc(), old, new, fault)?, "case {i}");
     }
     Ok(())
 }
@@ -235,222 +173,231 @@ fn faults_of_acquirer(rt: HostRuntime) -> Result<(), Fail> {
 #[test]
 fn faults_of_issuer(rt: HostRuntime) -> Result<(), Fail> {
     let cases: [(&str, &str, &str); 9] = [
-        (
-            "name = \"I\"\n",
-            "",
-            "fault tables 2 missing field: issuer 1 name\n",
-        ),
-        (
-            "name = \"I\"",
-            "name = 1",
-            "fault tables 3 bad value: issuer 1 name\n",
-        ),
+        ("name = \"I\"\n", "", "2 missing field: issuer 1 name"),
+        ("name = \"I\"", "name = 1", "3 bad value: issuer 1 name"),
         (
             "[[route]]",
             "[[issuer]]\nname = \"I\"\nprefix = \"5\"\nhome = \"H\"\nnamed = []\nceiling = 0\n[[route]]",
-            "fault tables 5 twice: issuer 2 name\n",
+            "5 twice: issuer 2 name",
         ),
         (
             "name = \"I\"\nprefix = \"4\"",
             "name = \"I\"",
-            "fault tables 2 missing field: issuer 1 prefix\n",
+            "2 missing field: issuer 1 prefix",
         ),
         (
             "name = \"I\"\nprefix = \"4\"",
             "name = \"I\"\nprefix = \"1234567890123\"",
-            "fault tables 3 bad value: issuer 1 prefix\n",
+            "3 bad value: issuer 1 prefix",
         ),
         (
             "[[route]]",
             "[[issuer]]\nname = \"J\"\nprefix = \"4\"\nhome = \"H\"\nnamed = []\nceiling = 0\n[[route]]",
-            "fault tables 5 twice: issuer 2 prefix\n",
+            "5 twice: issuer 2 prefix",
         ),
-        (
-            "home = \"H\"\n",
-            "",
-            "fault tables 2 missing field: issuer 1 home\n",
-        ),
-        (
-            "home = \"H\"",
-            "home = \"-\"",
-            "fault tables 3 bad value: issuer 1 home\n",
-        ),
+        ("home = \"H\"\n", "", "2 missing field: issuer 1 home"),
+        ("home = \"H\"", "home = \"-\"", "3 bad value: issuer 1 home"),
         (
             "home = \"H\"",
             "home = \"Z\"",
-            "fault tables 4 unknown name: issuer 1 home\n",
+            "4 unknown name: issuer 1 home",
         ),
     ];
-    for (i, (old, new, want)) in cases.iter().enumerate() {
-        assert!(rt; says_of_changed(rt.alloc(), old, new, want)?, "case {i}");
+    for (i, (old, new, fault)) in cases.iter().enumerate() {
+        assert!(rt; says_of_changed(rt.alloc(), old, new, fault)?, "case {i}");
     }
     Ok(())
 }
 
 #[test]
 fn faults_of_named(rt: HostRuntime) -> Result<(), Fail> {
-    let cases: [(&str, &str, &str); 9] = [
-        (
-            "named = [\"A\"]\n",
-            "",
-            "fault tables 2 missing field: issuer 1 named\n",
-        ),
+    let cases: [(&str, &str, &str); 5] = [
+        ("named = [\"A\"]\n", "", "2 missing field: issuer 1 named"),
         (
             "named = [\"A\"]",
             "named = \"A\"",
-            "fault tables 3 bad value: issuer 1 named\n",
+            "3 bad value: issuer 1 named",
         ),
         (
             "named = [\"A\"]",
             "named = [\"Z\", \"-\"]",
-            "fault tables 3 bad value: issuer 1 named\n",
+            "3 bad value: issuer 1 named",
         ),
         (
             "named = [\"A\"]",
             "named = [\"Z\"]",
-            "fault tables 4 unknown name: issuer 1 named\n",
+            "4 unknown name: issuer 1 named",
         ),
         (
             "named = [\"A\"]",
             "named = [\"A\", \"A\"]",
-            "fault tables 5 twice: issuer 1 named\n",
+            "5 twice: issuer 1 named",
         ),
-        (
-            "ceiling = 100\n",
-            "",
-            "fault tables 2 missing field: issuer 1 ceiling\n",
-        ),
+    ];
+    for (i, (old, new, fault)) in cases.iter().enumerate() {
+        assert!(rt; says_of_changed(rt.alloc(), old, new, fault)?, "case {i}");
+    }
+    Ok(())
+}
+
+#[test]
+fn faults_of_ceiling(rt: HostRuntime) -> Result<(), Fail> {
+    let cases: [(&str, &str, &str); 4] = [
+        ("ceiling = 100\n", "", "2 missing field: issuer 1 ceiling"),
         (
             "ceiling = 100",
             "ceiling = -1",
-            "fault tables 3 bad value: issuer 1 ceiling\n",
+            "3 bad value: issuer 1 ceiling",
         ),
         (
             "ceiling = 100",
             "ceiling = 1000000000000",
-            "fault tables 3 bad value: issuer 1 ceiling\n",
+            "3 bad value: issuer 1 ceiling",
         ),
         (
             "ceiling = 100",
             "ceiling = 100\nx = 1",
-            "fault tables 3 bad value: issuer 1 other\n",
+            "3 bad value: issuer 1 other",
         ),
     ];
-    for (i, (old, new, want)) in cases.iter().enumerate() {
-        assert!(rt; says_of_changed(rt.alloc(), old, new, want)?, "case {i}");
+    for (i, (old, new, fault)) in cases.iter().enumerate() {
+        assert!(rt; says_of_changed(rt.alloc(), old, new, fault)?, "case {i}");
     }
     Ok(())
 }
 
 #[test]
 fn faults_of_route(rt: HostRuntime) -> Result<(), Fail> {
-    let cases: [(&str, &str); 12] = [
+    let cases: [(&str, &str); 6] = [
         (
             "[[route]]\nprefix = \"4\"\nlinks = [\"AH\"]\n",
-            "fault tables 2 missing field: route 1 node\n",
+            "2 missing field: route 1 node",
         ),
         (
             "[[route]]\nnode = 1\nprefix = \"4\"\nlinks = [\"AH\"]\n",
-            "fault tables 3 bad value: route 1 node\n",
+            "3 bad value: route 1 node",
         ),
         (
             "[[route]]\nnode = \"Z\"\nprefix = \"4\"\nlinks = [\"AH\"]\n",
-            "fault tables 4 unknown name: route 1 node\n",
+            "4 unknown name: route 1 node",
         ),
         (
             "[[route]]\nnode = \"A\"\nlinks = [\"AH\"]\n",
-            "fault tables 2 missing field: route 1 prefix\n",
+            "2 missing field: route 1 prefix",
         ),
         (
             "[[route]]\nnode = \"A\"\nprefix = \"\"\nlinks = [\"AH\"]\n",
-            "fault tables 3 bad value: route 1 prefix\n",
+            "3 bad value: route 1 prefix",
         ),
         (
             "[[route]]\nnode = \"A\"\nprefix = \"4\"\nlinks = [\"AH\"]\n[[route]]\nnode = \"A\"\nprefix = \"4\"\nlinks = [\"AH\"]\n",
-            "fault tables 5 twice: route 2 prefix\n",
+            "5 twice: route 2 prefix",
         ),
+    ];
+    for (i, (new, fault)) in cases.iter().enumerate() {
+        assert!(rt; says_of_changed(rt.alloc(), ROUTE, new, fault)?, "case {i}");
+    }
+    Ok(())
+}
+
+#[test]
+fn faults_of_route_links(rt: HostRuntime) -> Result<(), Fail> {
+    let cases: [(&str, &str); 6] = [
         (
             "[[route]]\nnode = \"A\"\nprefix = \"4\"\n",
-            "fault tables 2 missing field: route 1 links\n",
+            "2 missing field: route 1 links",
         ),
         (
             "[[route]]\nnode = \"A\"\nprefix = \"4\"\nlinks = []\n",
-            "fault tables 3 bad value: route 1 links\n",
+            "3 bad value: route 1 links",
         ),
         (
             "[[route]]\nnode = \"A\"\nprefix = \"4\"\nlinks = [\"a\", \"b\", \"c\", \"d\", \"e\", \"f\", \"g\", \"h\", \"i\"]\n",
-            "fault tables 3 bad value: route 1 links\n",
+            "3 bad value: route 1 links",
         ),
         (
             "[[route]]\nnode = \"A\"\nprefix = \"4\"\nlinks = [\"ZZ\"]\n",
-            "fault tables 4 unknown name: route 1 links\n",
+            "4 unknown name: route 1 links",
         ),
         (
             "[[route]]\nnode = \"A\"\nprefix = \"4\"\nlinks = [\"AH\", \"AH\"]\n",
-            "fault tables 5 twice: route 1 links\n",
+            "5 twice: route 1 links",
         ),
         (
             "[[route]]\nnode = \"A\"\nprefix = \"4\"\nlinks = [\"AH\"]\nx = 1\n",
-            "fault tables 3 bad value: route 1 other\n",
+            "3 bad value: route 1 other",
         ),
     ];
-    for (i, (new, want)) in cases.iter().enumerate() {
-        assert!(rt; says_of_changed(rt.alloc(), ROUTE, new, want)?, "case {i}");
+    for (i, (new, fault)) in cases.iter().enumerate() {
+        assert!(rt; says_of_changed(rt.alloc(), ROUTE, new, fault)?, "case {i}");
     }
     Ok(())
 }
 
 #[test]
 fn faults_of_stand_in(rt: HostRuntime) -> Result<(), Fail> {
-    let cases: [(&str, &str); 11] = [
+    let cases: [(&str, &str); 6] = [
         (
             "[[stand_in]]\nprefix = \"4\"\nday = 1\nsingle = 1\n",
-            "fault tables 2 missing field: stand_in 1 node\n",
+            "2 missing field: stand_in 1 node",
         ),
         (
             "[[stand_in]]\nnode = []\nprefix = \"4\"\nday = 1\nsingle = 1\n",
-            "fault tables 3 bad value: stand_in 1 node\n",
+            "3 bad value: stand_in 1 node",
         ),
         (
             "[[stand_in]]\nnode = \"Z\"\nprefix = \"4\"\nday = 1\nsingle = 1\n",
-            "fault tables 4 unknown name: stand_in 1 node\n",
+            "4 unknown name: stand_in 1 node",
         ),
         (
             "[[stand_in]]\nnode = \"A\"\nday = 1\nsingle = 1\n",
-            "fault tables 2 missing field: stand_in 1 prefix\n",
+            "2 missing field: stand_in 1 prefix",
         ),
         (
             "[[stand_in]]\nnode = \"A\"\nprefix = \"4a\"\nday = 1\nsingle = 1\n",
-            "fault tables 3 bad value: stand_in 1 prefix\n",
+            "3 bad value: stand_in 1 prefix",
         ),
         (
             "[[stand_in]]\nnode = \"A\"\nprefix = \"4\"\nday = 100\nsingle = 50\n[[stand_in]]\nnode = \"A\"\nprefix = \"4\"\nday = 100\nsingle = 50\n",
-            "fault tables 5 twice: stand_in 2 prefix\n",
+            "5 twice: stand_in 2 prefix",
         ),
+    ];
+    for (i, (new, fault)) in cases.iter().enumerate() {
+        assert!(rt;
+            says_of_changed(rt.alloc(), STAND_IN, new, fault)?,
+            "case {i}"
+        );
+    }
+    Ok(())
+}
+
+#[test]
+fn faults_of_amounts(rt: HostRuntime) -> Result<(), Fail> {
+    let cases: [(&str, &str); 5] = [
         (
             "[[stand_in]]\nnode = \"A\"\nprefix = \"4\"\nsingle = 1\n",
-            "fault tables 2 missing field: stand_in 1 day\n",
+            "2 missing field: stand_in 1 day",
         ),
         (
             "[[stand_in]]\nnode = \"A\"\nprefix = \"4\"\nday = \"1\"\nsingle = 1\n",
-            "fault tables 3 bad value: stand_in 1 day\n",
+            "3 bad value: stand_in 1 day",
         ),
         (
             "[[stand_in]]\nnode = \"A\"\nprefix = \"4\"\nday = 1\n",
-            "fault tables 2 missing field: stand_in 1 single\n",
+            "2 missing field: stand_in 1 single",
         ),
         (
             "[[stand_in]]\nnode = \"A\"\nprefix = \"4\"\nday = 1\nsingle = 1.5\n",
-            "fault tables 3 bad value: stand_in 1 single\n",
+            "3 bad value: stand_in 1 single",
         ),
         (
             "[[stand_in]]\nnode = \"A\"\nprefix = \"4\"\nday = 1\nsingle = 1\nx = 1\n",
-            "fault tables 3 bad value: stand_in 1 other\n",
+            "3 bad value: stand_in 1 other",
         ),
     ];
-    for (i, (new, want)) in cases.iter().enumerate() {
+    for (i, (new, fault)) in cases.iter().enumerate() {
         assert!(rt;
-            says_of_changed(rt.alloc(), STAND_IN, new, want)?,
+            says_of_changed(rt.alloc(), STAND_IN, new, fault)?,
             "case {i}"
         );
     }
@@ -459,61 +406,63 @@ fn faults_of_stand_in(rt: HostRuntime) -> Result<(), Fail> {
 
 #[test]
 fn faults_of_shapes(rt: HostRuntime) -> Result<(), Fail> {
-    let cases: [(&str, &str, &str); 11] = [
+    let cases: [(&str, &str, &str); 6] = [
         (
             "[[acquirer]]\nid = \"400001\"\nnode = \"A\"\n",
             "[acquirer]\nid = \"400001\"\nnode = \"A\"\n",
-            "fault tables 3 bad value: acquirer 0 other\n",
+            "3 bad value: acquirer 0 other",
         ),
         (
             "[[link]]\nname",
             "[link]\nname",
-            "fault tables 3 bad value: link 0 other\n",
+            "3 bad value: link 0 other",
         ),
-        (
-            "[[issuer]]",
-            "[issuer]",
-            "fault tables 3 bad value: issuer 0 other\n",
-        ),
-        (
-            "[[route]]",
-            "[route]",
-            "fault tables 3 bad value: route 0 other\n",
-        ),
+        ("[[issuer]]", "[issuer]", "3 bad value: issuer 0 other"),
+        ("[[route]]", "[route]", "3 bad value: route 0 other"),
         (
             "[[stand_in]]",
             "[stand_in]",
-            "fault tables 3 bad value: stand_in 0 other\n",
+            "3 bad value: stand_in 0 other",
         ),
         (
             "[network]",
             "extra = 1\n[network]",
-            "fault tables 3 bad value: root 1 other\n",
+            "3 bad value: root 1 other",
         ),
-        ("[network]\n", "[network\n", "fault tables 1 not toml\n"),
+    ];
+    for (i, (old, new, fault)) in cases.iter().enumerate() {
+        assert!(rt; says_of_changed(rt.alloc(), old, new, fault)?, "case {i}");
+    }
+    Ok(())
+}
+
+#[test]
+fn first_faults(rt: HostRuntime) -> Result<(), Fail> {
+    let cases: [(&str, &str, &str); 5] = [
+        ("[network]\n", "[network\n", "1 not toml"),
         (
             "name = \"A\"\nid = \"1001\"",
             "id = \"x\"",
-            "fault tables 2 missing field: node 1 name\n",
+            "2 missing field: node 1 name",
         ),
         (
             "ends = [\"A\", \"H\"]\nticks = 3",
             "ends = [\"A\", \"A\"]\nticks = 0\ny = 1",
-            "fault tables 3 bad value: link 1 ends\n",
+            "3 bad value: link 1 ends",
         ),
         (
             "date = \"0314\"\nhost_ticks = 100",
             "host_ticks = 0",
-            "fault tables 2 missing field: network 1 date\n",
+            "2 missing field: network 1 date",
         ),
         (
             "[network]",
             "extra = 1\nroute = [1]\n[network]",
-            "fault tables 1 not toml\n",
+            "1 not toml",
         ),
     ];
-    for (i, (old, new, want)) in cases.iter().enumerate() {
-        assert!(rt; says_of_changed(rt.alloc(), old, new, want)?, "case {i}");
+    for (i, (old, new, fault)) in cases.iter().enumerate() {
+        assert!(rt; says_of_changed(rt.alloc(), old, new, fault)?, "case {i}");
     }
     Ok(())
 }

@@ -32,7 +32,7 @@ fn gives<T: Threads + Wait + Sync>(rt: &T, alloc: Global, plan: &Plan) -> Result
 }
 
 #[test]
-fn plans_and_their_faults(rt: HostRuntime) -> Result<(), Fail> {
+fn faults_of_plans(rt: HostRuntime) -> Result<(), Fail> {
     let plans = [
         Plan {
             name: "acquirer",
@@ -55,6 +55,17 @@ fn plans_and_their_faults(rt: HostRuntime) -> Result<(), Fail> {
             want: "fault plan 1 line 1\n",
             status: 2,
         },
+    ];
+    for plan in plans.iter() {
+        let name = plan.name;
+        assert!(rt; gives(&rt, rt.alloc(), plan)?, "{name}");
+    }
+    Ok(())
+}
+
+#[test]
+fn requests_that_nobody_answers(rt: HostRuntime) -> Result<(), Fail> {
+    let plans = [
         Plan {
             name: "send_x",
             network: &IN_A_LINE,
