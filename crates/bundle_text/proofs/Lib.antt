@@ -1,3 +1,4 @@
-pub mod Joining
+pub mod Lacking
+pub mod Trimming
+pub mod Parting
 pub mod Pairs
-pub mod OnePart

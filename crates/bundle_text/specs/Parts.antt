@@ -1,9 +1,9 @@
 -- The parts of an input.
-use Rattle.std.specs.Prelude.{◌≡◌, ℕ, ◌==◌, Bool, true, false, List, [], ◌∷◌, ◌++◌, ◌-◌, length, take, map, codes, MatchBool, slice_get, if◌then◌else◌}
+use Rattle.std.specs.Prelude.{◌≡◌, ℕ, ◌==◌, ◌<◌, Bool, false, List, [], ◌∷◌, ◌++◌, ◌-◌, ◌⊎◌, All, length, take, map, codes, slice_get, if◌then◌else◌}
 use Rattle.std.specs.Option.{option_map_or}
 use Rattle.std.specs.List.{slice_split, join_with_byte}
 use Rattle.std.specs.Cmp.Lexicographic.{pointwise}
-use Rattle.bundle_text.specs.declared.input_parts.Gathered.{Gathered}
+use Rattle.card_digits.specs.Cut.{IsCut}
 
 -- without a carriage return at its end
 abbrev pub without_return : List ℕ → List ℕ
@@ -15,29 +15,46 @@ trimmed [] = []
 trimmed (line ∷ []) = line ∷ []
 trimmed (line ∷ next ∷ lines) = without_return line ∷ trimmed (next ∷ lines)
 
+-- what stands before, between and behind the line feeds of a text
+abbrev pub between_feeds : List ℕ → List (List ℕ)
+between_feeds text = slice_split (λ b. b == 10) text
+
 -- the lines of an input, without their line feeds
 abbrev pub lines_of : List ℕ → List (List ℕ)
-lines_of input = trimmed (slice_split (λ b. b == 10) input)
+lines_of input = trimmed (between_feeds input)
 
 -- a line that separates parts
 abbrev pub separates : List ℕ → Bool
 separates line = pointwise ◌==◌ line (codes "%%")
 
 -- the lines between lines that separate, with line feeds between them
+abbrev pub parts_of_lines : List (List ℕ) → List (List ℕ)
+parts_of_lines lines = map (join_with_byte 10) (slice_split separates lines)
+
 abbrev pub parts_of : List ℕ → List (List ℕ)
-parts_of input = map (join_with_byte 10) (slice_split separates (lines_of input))
+parts_of input = parts_of_lines (lines_of input)
 
-abbrev pub has_any : List (List ℕ) → Bool
-has_any [] = false
-has_any (line ∷ lines) = true
+-- the parts of a text of which no line loses a carriage return
+abbrev pub parts_of_text : List ℕ → List (List ℕ)
+parts_of_text text = parts_of_lines (between_feeds text)
 
--- what was gathered are whole parts and the lines of a next one
-pub record IsGathered (g : Gathered) (parts : List (List ℕ)) (lines : List (List ℕ)) : Type 0 where
-  pub whole : map (λ p. p.items) g.parts.items ≡ parts
-  pub next : g.text.items ≡ join_with_byte 10 lines
-  pub begun : g.has_line ≡ has_any lines
+-- behind it a line begins
+abbrev pub EndsLine : List ℕ → Type 0
+EndsLine text = (text ≡ []) ⊎ ((front : List ℕ) × (text ≡ front ++ 10 ∷ []))
 
--- a line was added to what was gathered
-abbrev pub Adds : Gathered → Gathered → List ℕ → Type 0
-Adds old new line = (parts : List (List ℕ)) (lines : List (List ℕ)) → IsGathered old parts lines
-    → MatchBool (separates line) (IsGathered new (parts ++ join_with_byte 10 lines ∷ []) []) (IsGathered new parts (lines ++ line ∷ []))
+-- the rest of a text begins with its first line that has a per cent sign
+pub record IsFromSign (text rest : List ℕ) : Type 0 where
+  pub before : List ℕ
+  pub whole : text ≡ before ++ rest
+  pub ends : EndsLine before
+  pub none : All (λ b. (b == 37) ≡ false) before
+  pub some : 0 < length rest
+
+-- the first line of a text, and what stands behind its line feed, which is nothing where it has none
+abbrev pub IsFirstLine : List ℕ → List ℕ → List ℕ → Type 0
+IsFirstLine text line behind = IsCut 10 text line behind ⊎ (All (λ b. (b == 10) ≡ false) text × (line ≡ text) × (behind ≡ []))
+
+-- the first part of a text, and what stands behind the line that ends it
+pub record IsFirstPart (text part behind : List ℕ) : Type 0 where
+  pub parts : parts_of_text text ≡ part ∷ parts_of_text behind
+  pub shorter : length behind < length text

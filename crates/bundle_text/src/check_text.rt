@@ -6,7 +6,7 @@ ghost use Rattle.rank_cert.specs.Reading.{cert_in};
 
 use crate::answer::{Answer, Status};
 use crate::faults::{cert_fault_line, table_fault_line};
-use crate::input_parts::parts;
+use crate::input_parts::{parts, text_of};
 use crate::refusals::refusal_line;
 use net_rows::Tables;
 use net_tables::read_tables;
@@ -95,16 +95,17 @@ fn check_both(alloc: Global, tables: &[u8], ranks: &[u8]) -> Result<Answer, Allo
 pub fn check_answer(alloc: Global, input: &[u8]) -> Result<Answer, AllocError>
     ensures { IfOk result (λ a. Answers a (check_said input.now)) }
 {
-    let parts = parts(alloc, input)?;
+    let text = text_of(alloc, input)?;
+    let parts = parts(alloc, &text)?;
     check_of(alloc, &parts)
 }
 
 #[tactic(auto, using(crate::proofs::Pairs::not_two, crate::proofs::Pairs::two))]
-fn check_of(alloc: Global, parts: &[Vec<u8>]) -> Result<Answer, AllocError>
-    ensures { IfOk result (λ a. Answers a (check_parts (map (λ p. p.items) parts.now))) }
+fn check_of(alloc: Global, parts: &[&[u8]]) -> Result<Answer, AllocError>
+    ensures { IfOk result (λ a. Answers a (check_parts (map (λ p. p.now) parts.now))) }
 {
     if parts.len() != 2 {
         return parts_fault(alloc);
     }
-    check_both(alloc, &parts[0], &parts[1])
+    check_both(alloc, parts[0], parts[1])
 }

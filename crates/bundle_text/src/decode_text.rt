@@ -4,7 +4,7 @@ ghost use Rattle.card_digits.specs.Lines.{lines};
 ghost use Rattle.bundle_text.specs.Answers.{DecodeAnswers, IsDecoded, IsDecodedParts, Wrote, WroteFront, decode_status, parts_fault};
 
 use crate::answer::Status;
-use crate::input_parts::{is_one_part, parts};
+use crate::input_parts::{parts, text_of};
 use card_digits::{Sink, write_all};
 use message_text::{PrintFault, decode_frames, decode_lines};
 use std::alloc::Global;
@@ -58,18 +58,18 @@ fn write_parts_fault<W: Sink>(writer: &mut W) -> Result<Status, PrintFault>
 #[tactic(auto, using(crate::proofs::Pairs::decoded_of_others, crate::proofs::Pairs::one))]
 fn write_parts<W: Sink>(
     alloc: Global,
-    parts: &[Vec<u8>],
+    parts: &[&[u8]],
     writer: &mut W,
 ) -> Result<Status, PrintFault>
-    ensures ok { IfOk result (Wrote (IsDecodedParts (map (λ p. p.items) parts.now)) (W.written writer.old) (W.written writer.new)) }
-    ensures write { result ≡ Err PrintFault.Write → WroteFront (IsDecodedParts (map (λ p. p.items) parts.now)) (W.written writer.old) (W.written writer.new) }
+    ensures ok { IfOk result (Wrote (IsDecodedParts (map (λ p. p.now) parts.now)) (W.written writer.old) (W.written writer.new)) }
+    ensures write { result ≡ Err PrintFault.Write → WroteFront (IsDecodedParts (map (λ p. p.now) parts.now)) (W.written writer.old) (W.written writer.new) }
     ensures failed { result ≡ Err PrintFault.Write → 0 < W.failures writer.new }
     ensures memory { result ≡ Err PrintFault.Memory → W.written writer.new ≡ W.written writer.old }
 {
     if parts.len() != 1 {
         return write_parts_fault(writer);
     }
-    write_lines(alloc, &parts[0], writer)
+    write_lines(alloc, parts[0], writer)
 }
 
 /// Writes the blocks of an input of one message a line.
@@ -79,10 +79,10 @@ fn write_text<W: Sink>(alloc: Global, input: &[u8], writer: &mut W) -> Result<St
     ensures failed { result ≡ Err PrintFault.Write → 0 < W.failures writer.new }
     ensures memory { result ≡ Err PrintFault.Memory → W.written writer.new ≡ W.written writer.old }
 {
-    if is_one_part(input) {
-        return write_lines(alloc, input, writer);
-    }
-    let Ok(parts) = parts(alloc, input) else {
+    let Ok(text) = text_of(alloc, input) else {
+        return Err(PrintFault::Memory);
+    };
+    let Ok(parts) = parts(alloc, &text) else {
         return Err(PrintFault::Memory);
     };
     write_parts(alloc, &parts, writer)

@@ -8,7 +8,7 @@ ghost use Rattle.bundle_text.specs.Answers.{IsMade, IsMadeOf, IsMadeOfParts, Mak
 use crate::answer::{Answer, Status};
 use crate::check_text::{fault_answer, parts_fault};
 use crate::faults::table_fault_line;
-use crate::input_parts::parts;
+use crate::input_parts::{parts, text_of};
 use crate::names::NamedNodes;
 use card_digits::{NodeNo, Prefix};
 use net_rows::Tables;
@@ -84,19 +84,20 @@ fn make_one(alloc: Global, text: &[u8]) -> Result<Answer, AllocError>
 ghost use Rattle.std.specs.Prelude.{◌⊎◌};
 
 #[tactic(auto, using(crate::proofs::Pairs::made_of_others, crate::proofs::Pairs::one))]
-fn make_of(alloc: Global, parts: &[Vec<u8>]) -> Result<Answer, AllocError>
-    ensures { IfOk result (λ a. IsMadeOfParts (map (λ p. p.items) parts.now) a ⊎ NamesMemory a) }
+fn make_of(alloc: Global, parts: &[&[u8]]) -> Result<Answer, AllocError>
+    ensures { IfOk result (λ a. IsMadeOfParts (map (λ p. p.now) parts.now) a ⊎ NamesMemory a) }
 {
     if parts.len() != 1 {
         return parts_fault(alloc);
     }
-    make_one(alloc, &parts[0])
+    make_one(alloc, parts[0])
 }
 
 /// An answer of `make` to an input of one part, the tables: a certificate, a circle or that none was found, or the first fault.
 pub fn make_answer(alloc: Global, input: &[u8]) -> Result<Answer, AllocError>
     ensures { IfOk result (MakeAnswers input.now) }
 {
-    let parts = parts(alloc, input)?;
+    let text = text_of(alloc, input)?;
+    let parts = parts(alloc, &text)?;
     make_of(alloc, &parts)
 }

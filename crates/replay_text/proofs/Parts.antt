@@ -1,16 +1,16 @@
 -- Three parts, and any other number of them.
-use Rattle.std.proofs.Common.{◌≡◌, ◌≢◌, ℕ, List, [], ◌∷◌, map, length, get_or, Vec, Global, refl, arith}
+use Rattle.std.proofs.Common.{◌≡◌, ◌≢◌, ℕ, List, [], ◌∷◌, map, length, get_or, Bor, refl, arith}
 use Rattle.bundle_text.specs.Answers.{parts_fault}
 use Rattle.replay_text.specs.Answers.{replay_parts}
 
-pub not_three : (parts : List (Vec ℕ Global)) → length parts ≢ 3 → replay_parts (map (λ p. p.items) parts) ≡ parts_fault
+pub not_three : (parts : List (Bor (List ℕ))) → length parts ≢ 3 → replay_parts (map (λ p. p.now) parts) ≡ parts_fault
 not_three [] h = refl
 not_three (a ∷ []) h = refl
 not_three (a ∷ b ∷ []) h = refl
 not_three (a ∷ b ∷ c ∷ []) h = absurd (h (omega arith))
 not_three (a ∷ b ∷ c ∷ d ∷ parts) h = refl
 
-pub three : (parts : List (Vec ℕ Global)) (a b c : Vec ℕ Global) → length parts ≡ 3 → a ≡ get_or parts 0 a → b ≡ get_or parts 1 b → c ≡ get_or parts 2 c → map (λ p. p.items) parts ≡ a.items ∷ b.items ∷ c.items ∷ []
+pub three : (parts : List (Bor (List ℕ))) (a b c : Bor (List ℕ)) → length parts ≡ 3 → a ≡ get_or parts 0 a → b ≡ get_or parts 1 b → c ≡ get_or parts 2 c → map (λ p. p.now) parts ≡ a.now ∷ b.now ∷ c.now ∷ []
 three [] a b c h x y z = absurd (omega arith)
 three (u ∷ []) a b c h x y z = absurd (omega arith)
 three (u ∷ v ∷ []) a b c h x y z = absurd (omega arith)

@@ -13,14 +13,13 @@ ghost use Rattle.replay_text.specs.Lines.{steps_text};
 ghost use Rattle.bundle_text.specs.Answers.{Wrote, WroteFront, fault};
 ghost use Rattle.bundle_text.specs.Lines.{table_fault_line, cert_fault_line};
 ghost use Rattle.replay_text.specs.Lines.{script_fault_line};
-ghost use Rattle.bundle_text.specs.Parts.{parts_of};
 ghost use Rattle.replay_text.specs.Answers.{WroteMade, WroteMadeFront, ReplayAnswers, outcome_said, checked_said, read_said, replay_parts, replay_said};
 
 use crate::faults::script_fault_line;
 use crate::steps::write_traces;
 use bundle_text::{
     Answer, PrintFault, Status, cert_fault_line, check_memory_answer, fault_answer, parts,
-    parts_fault, refused_answer, table_fault_line, write_answer,
+    parts_fault, refused_answer, table_fault_line, text_of, write_answer,
 };
 use card_digits::Sink;
 use net_replay::{ReplayFault, Traces, replay};
@@ -170,25 +169,18 @@ fn write_read<W: Sink>(
 #[tactic(auto, using(crate::proofs::Parts::not_three, crate::proofs::Parts::three))]
 fn write_parts<W: Sink>(
     alloc: Global,
-    parts: &[Vec<u8>],
+    parts: &[&[u8]],
     writer: &mut W,
 ) -> Result<Status, PrintFault>
-    ensures ok { IfOk result (Wrote (λ said. ReplayAnswers said (replay_parts (map (λ p. p.items) parts.now))) (W.written writer.old) (W.written writer.new)) }
-    ensures write { result ≡ Err PrintFault.Write → WroteFront (λ said. ReplayAnswers said (replay_parts (map (λ p. p.items) parts.now))) (W.written writer.old) (W.written writer.new) }
+    ensures ok { IfOk result (Wrote (λ said. ReplayAnswers said (replay_parts (map (λ p. p.now) parts.now))) (W.written writer.old) (W.written writer.new)) }
+    ensures write { result ≡ Err PrintFault.Write → WroteFront (λ said. ReplayAnswers said (replay_parts (map (λ p. p.now) parts.now))) (W.written writer.old) (W.written writer.new) }
     ensures failed { result ≡ Err PrintFault.Write → 0 < W.failures writer.new }
     ensures memory { result ≡ Err PrintFault.Memory → W.written writer.new ≡ W.written writer.old }
 {
     if parts.len() != 3 {
         return write_made(writer, parts_fault(alloc));
     }
-    write_read(alloc, &parts[0], &parts[1], &parts[2], writer)
-}
-
-/// The parts of an input, whose own memory is given back.
-fn own_parts(alloc: Global, input: Vec<u8>) -> Result<Vec<Vec<u8>>, AllocError>
-    ensures { IfOk result (λ v. map (λ p. p.items) v.items ≡ parts_of input.items) }
-{
-    parts(alloc, &input)
+    write_read(alloc, parts[0], parts[1], parts[2], writer)
 }
 
 /// Writes the answer of `replay` to an input of three parts, tables, ranks and a script: what the nodes put out for each line, the first
@@ -204,7 +196,10 @@ pub fn write_replayed<W: Sink>(
     ensures failed { result ≡ Err PrintFault.Write → 0 < W.failures writer.new }
     ensures memory { result ≡ Err PrintFault.Memory → W.written writer.new ≡ W.written writer.old }
 {
-    let Ok(parts) = own_parts(alloc, input) else {
+    let Ok(text) = text_of(alloc, &input) else {
+        return Err(PrintFault::Memory);
+    };
+    let Ok(parts) = parts(alloc, &text) else {
         return Err(PrintFault::Memory);
     };
     write_parts(alloc, &parts, writer)

@@ -11,7 +11,7 @@ use crate::fault_lines::run_fault_line;
 use crate::text_run::run_plan_text;
 use bundle_text::{
     Answer, Status, cert_fault_line, check_memory_answer, fault_answer, parts, parts_fault,
-    refused_answer, table_fault_line,
+    refused_answer, table_fault_line, text_of,
 };
 use net_rows::Tables;
 use net_tables::read_tables;
@@ -92,14 +92,14 @@ fn read_answer<R: Threads + Wait + Sync>(
 fn answer_of<R: Threads + Wait + Sync>(
     rt: &R,
     alloc: Global,
-    parts: &[Vec<u8>],
+    parts: &[&[u8]],
 ) -> Result<Answer, AllocError>
-    ensures { IfOk result (λ a. IsOfParts (map (λ p. p.items) parts.now) a ⊎ NamesMemory a) }
+    ensures { IfOk result (λ a. IsOfParts (map (λ p. p.now) parts.now) a ⊎ NamesMemory a) }
 {
     if parts.len() != 3 {
         return parts_fault(alloc);
     }
-    read_answer(rt, alloc, &parts[0], &parts[1], &parts[2])
+    read_answer(rt, alloc, parts[0], parts[1], parts[2])
 }
 
 /// The answer of `run` to an input of three parts, tables, ranks and a plan: the report of what the threads did, the first fault, or
@@ -111,6 +111,7 @@ pub fn run_answer<R: Threads + Wait + Sync>(
 ) -> Result<Answer, AllocError>
     ensures { IfOk result (λ a. RunAnswers input.now a) }
 {
-    let parts = parts(alloc, input)?;
+    let text = text_of(alloc, input)?;
+    let parts = parts(alloc, &text)?;
     answer_of(rt, alloc, &parts)
 }

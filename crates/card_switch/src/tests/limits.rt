@@ -168,3 +168,35 @@ fn parts_and_returns(rt: HostRuntime) -> Result<(), Fail> {
     );
     Ok(())
 }
+
+/// The settings, with a line before the ranks.
+fn parted_by(alloc: Global, line: &str) -> Result<String, AllocError> {
+    format!(in alloc; "{SETTINGS}{line}\nRANKS 1\nEND\n")
+}
+
+#[test]
+fn lines_with_per_cent_signs(rt: HostRuntime) -> Result<(), Fail> {
+    let alloc = rt.alloc();
+    let comments = parted_by(alloc, "# 1 %\n# %%\n%%")?;
+    assert!(rt; says(alloc, Job::Check, comments.as_bytes(), b"accepted\n", 0)?);
+    let last = format!(in alloc; "{SETTINGS}%%")?;
+    assert!(rt;
+        says(
+            alloc,
+            Job::Check,
+            last.as_bytes(),
+            b"fault ranks 1 header\n",
+            2
+        )?
+    );
+    let others = ["%", " %%", "%% ", "%%%", "# %%"];
+    for line in others.iter() {
+        let input = parted_by(alloc, line)?;
+        let fault = b"fault bundle 1 parts\n";
+        assert!(rt;
+            says(alloc, Job::Check, input.as_bytes(), fault, 2)?,
+            "{line}"
+        );
+    }
+    Ok(())
+}

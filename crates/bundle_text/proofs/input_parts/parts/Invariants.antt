@@ -1,17 +1,9 @@
-use Rattle.std.proofs.Common.{ℕ, List, length}
-use Rattle.bundle_text.specs.declared.input_parts.Gathered.{Gathered}
-use Rattle.bundle_text.specs.Parts.{IsGathered}
-use Rattle.bundle_text.proofs.Joining.{MakeAll}
+use Rattle.std.proofs.Common.{◌≡◌, ◌++◌, List, ℕ, Bor, length, map}
+use Rattle.bundle_text.specs.Parts.{parts_of_text}
 use Rattle.bundle_text.proofs.input_parts.parts.Given as goal
 
-pub record IsSoFar (g : Gathered) (rest input : List ℕ) : Type 0 where
-  pub parts : List (List ℕ)
-  pub lines : List (List ℕ)
-  pub gathered : IsGathered g parts lines
-  pub all : MakeAll parts lines rest input
+abbrev pub invariant-loop-part : goal.invariant-loop-part
+invariant-loop-part l = map (λ (p : Bor (List ℕ)). p.now) l.parts.items ++ parts_of_text l.rest ≡ parts_of_text l.fn.text
 
-abbrev pub invariant-loop-line : goal.invariant-loop-line
-invariant-loop-line l = IsSoFar l.gathered l.rest l.fn.input
-
-abbrev pub decreases-loop-line : goal.decreases-loop-line
-decreases-loop-line l = length l.rest
+abbrev pub decreases-loop-part : goal.decreases-loop-part
+decreases-loop-part l = length l.rest
