@@ -1,7 +1,6 @@
 //! Nodes, hosts and sessions as threads.
 ghost use Rattle.std.specs.Prelude.{IfOk};
 ghost use Rattle.std.specs.List.{AllZip};
-ghost use Rattle.network_law.specs.Runs.{IsTyped};
 ghost use Rattle.net_operate.specs.Sessions.{SessionFits};
 
 use crate::fitting::fitted;
@@ -13,7 +12,7 @@ use std::alloc::{AllocError, Global};
 use std::sync::{Mutex, Wait};
 use std::thread;
 use std::thread::Threads;
-use switch_node::{Case, Input, Lending};
+use switch_node::{Case, Input};
 use thiserror::Error;
 
 /// Who answers what the node of an issuer asks.
@@ -31,20 +30,6 @@ pub enum OperateFault {
     Memory,
 }
 
-/// What the lender of a loan is given.
-fn input_of(alloc: Global, loan: &Loan) -> Result<Input, AllocError>
-    ensures { IfOk result IsTyped }
-{
-    let order = Lending {
-        borrower: loan.borrower,
-        card: loan.card,
-        date: loan.date,
-        amount: loan.amount,
-    };
-    let case = Case::lend(alloc, order)?;
-    Ok(Input::new(case))
-}
-
 /// Makes the steps of the plan's loans; one that its node refuses is dropped.
 fn lend_all<R: Wait>(
     rt: &R,
@@ -54,8 +39,8 @@ fn lend_all<R: Wait>(
 ) -> Result<(), AllocError> {
     for loan in loans {
         if let Some(station) = stations.get(loan.lender.place()) {
-            let input = input_of(alloc, loan)?;
-            let _ = station.lock(rt).apply(input);
+            let case = Case::lend(alloc, loan.order)?;
+            let _ = station.lock(rt).apply(Input::new(case));
         }
     }
     Ok(())

@@ -1,6 +1,4 @@
 //! What each thread does.
-ghost use Rattle.network_law.specs.Runs.{IsTyped};
-ghost use Rattle.switch_node.specs.Inputs.{input_of};
 
 use crate::fitting::is_answer_to;
 use crate::running::Host;
@@ -9,6 +7,7 @@ use iso_message::decode;
 use link_rings::Held;
 use net_threads::{LineEnd, Station, StationFault};
 use run_plan::{Plan, Session};
+use shared_bytes::SharedBytes;
 use std::alloc::{AllocError, Global};
 use std::sync::atomic::{AtomicBool, AtomicU64, Ordering};
 use std::sync::{Mutex, Wait};
@@ -124,9 +123,7 @@ fn apply_at<R: Wait>(
     station: &Mutex<Station<'_>>,
     case: Case,
     shared: &Shared,
-) -> Result<(), StationFault>
-    requires typed { IsTyped (input_of case) }
-{
+) -> Result<(), StationFault> {
     let mut station = station.lock(rt);
     let done = station.apply(Input::new(case));
     shared.tell(n, &station);
@@ -225,12 +222,12 @@ fn enter_at<R: Wait>(
     rt: &R,
     n: usize,
     station: &Mutex<Station<'_>>,
-    line: Vec<u8>,
+    bytes: SharedBytes,
     shared: &Shared,
 ) -> (usize, Result<(), StationFault>) {
     let mut station = station.lock(rt);
     let from = station.trace().len();
-    let entered = station.apply(Input::new(Case::Enter(line)));
+    let entered = station.apply(Input::new(Case::Enter(bytes)));
     shared.tell(n, &station);
     (from, entered)
 }
@@ -306,8 +303,8 @@ fn run_lines<R: Wait>(
         return Ok(ends);
     };
     for line in session.lines.iter() {
-        let copy = Vec::from_slice(alloc, *line)?;
-        let (from, entered) = enter_at(rt, session.node.place(), station, copy, shared);
+        let bytes = SharedBytes::from_slice(alloc, *line)?;
+        let (from, entered) = enter_at(rt, session.node.place(), station, bytes, shared);
         let end = match entered {
             Ok(()) => await_line(rt, alloc, station, from, *line, session, plan, shared),
             Err(fault) => LineEnd::Refused(fault),

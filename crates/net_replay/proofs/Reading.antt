@@ -17,6 +17,8 @@ use Rattle.net_replay.specs.Steps.{Step}
 use Rattle.net_replay.specs.Replays.{IsInput}
 use Rattle.replay_script.specs.Lines.{Event, Said, Enter, Take, LinkUp, LinkDown, Tick, HostAnswer, NewDate, Lend, at_node, node_of, own_link, read_line, by_word}
 use Rattle.replay_script.specs.Lines as lines
+use Rattle.replay_script.specs.declared.command.Loan.{Loan}
+use Rattle.step_rules.specs.declared.lending.Lending.{Lending}
 
 -- the event names no link but the node's own
 abbrev pub IsOwn : Network → ℕ → Event → Type 0
@@ -114,18 +116,26 @@ date_placed t rest x e =
     let d = from (result_ok (read_digits 4 4 p.0.1)) _ x n.2 in
     placed t n.0 (NewDate d.0) x d.2 (node_there t p.0.0 n.0 n.1) tt
 
+lender_there : (t : Network) (text : Bytes) (l : Loan) → lines.loan t text ≡ Some l → l.lender < length t.nodes
+lender_there t text l e =
+    let p = from (word_and_rest text) _ l e in
+    let q = from (word_and_rest p.0.1) _ l p.2 in
+    let r = from (word_and_rest q.0.1) _ l q.2 in
+    let s = from (word_and_rest r.0.1) _ l r.2 in
+    let n = from (node_of t p.0.0) _ l s.2 in
+    let m = from (node_of t q.0.0) _ l n.2 in
+    let card = from (result_ok (read_digits 8 19 r.0.0)) _ l m.2 in
+    let date = from (result_ok (read_digits 4 4 s.0.0)) _ l card.2 in
+    let amount = from (amount_of s.0.1) _ l date.2 in
+    subst (λ z. z < length t.nodes) (same n.0 amount.2) (node_there t p.0.0 n.0 n.1)
+  where
+    same : {order : Lending} (n : ℕ) → ◌≡◌ {A = Option Loan} (Some (record { lender = n; order = order })) (Some l) → n ≡ l.lender
+    same n p = cc
+
 lend_placed : (t : Network) (rest : Bytes) (x : Said) → lines.lend t rest ≡ Some x → IsPlaced t x
 lend_placed t rest x e =
-    let p = from (word_and_rest rest) _ x e in
-    let q = from (word_and_rest p.0.1) _ x p.2 in
-    let r = from (word_and_rest q.0.1) _ x q.2 in
-    let s = from (word_and_rest r.0.1) _ x r.2 in
-    let n = from (node_of t p.0.0) _ x s.2 in
-    let m = from (node_of t q.0.0) _ x n.2 in
-    let card = from (result_ok (read_digits 8 19 r.0.0)) _ x m.2 in
-    let date = from (result_ok (read_digits 4 4 s.0.0)) _ x card.2 in
-    let amount = from (amount_of s.0.1) _ x date.2 in
-    placed t n.0 (Lend m.0 card.0 date.0 amount.0) x amount.2 (node_there t p.0.0 n.0 n.1) tt
+    let l = from (lines.loan t rest) _ x e in
+    placed t l.0.lender (Lend l.0.order.borrower l.0.order.card l.0.order.date l.0.order.amount) x l.2 (lender_there t rest l.0 l.1) tt
 
 either : {X : Type 0} (x : X) (b : Bool) (o other : Option X) → cond b o other ≡ Some x → (o ≡ Some x) ⊎ (other ≡ Some x)
 either x true o other e = inl e

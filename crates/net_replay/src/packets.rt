@@ -14,9 +14,9 @@ use switch_node::{Entry, Output};
 #[derive(Clone, Copy, Debug)]
 pub(crate) struct PacketPlace {
     /// The place of the entry in the trace, from 0.
-    entry: usize,
+    entry: u32,
     /// The place among the outputs of the entry, from 0.
-    output: usize,
+    output: u32,
 }
 
 /// Where the packets stand that were put on a link, in the order of serials, which count from 1.
@@ -54,8 +54,8 @@ pub(crate) fn bytes_at(trace: &[Entry], place: Option<PacketPlace>) -> Option<&S
     ensures { option_copied result ≡ option_and_then (bytes_at trace.now) place }
 {
     let place = place?;
-    let entry = trace.get(place.entry)?;
-    let output = entry.outputs().as_slice().get(place.output)?;
+    let entry = trace.get(place.entry as usize)?;
+    let output = entry.outputs().as_slice().get(place.output as usize)?;
     Some(output.shared_bytes())
 }
 
@@ -96,11 +96,12 @@ impl Packets {
     }
 
     /// The packets among the outputs of the entry at this place, in their order.
-    pub(crate) fn put_all(&mut self, entry: usize, outputs: &[Output]) -> Result<(), AllocError>
+    pub(crate) fn put_all(&mut self, entry: u32, outputs: &[Output]) -> Result<(), AllocError>
         ensures { OnOk result (self.new ≡ put_all self.old entry 0 outputs.now) }
     {
-        for output in 0..outputs.len() {
-            if let Way::Put(link, _) = outputs[output].way() {
+        for index in 0..outputs.len() {
+            if let Way::Put(link, _) = outputs[index].way() {
+                let output = u32::try_from(index).or(Err(AllocError))?;
                 self.put(link, PacketPlace { entry, output })?;
             }
         }

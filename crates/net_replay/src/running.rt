@@ -19,7 +19,7 @@ use network_law::StepFault;
 use replay_script::{Command, ScriptLine};
 use shared_bytes::SharedBytes;
 use std::alloc::{AllocError, Global};
-use switch_node::{Case, Input, Lending, Node};
+use switch_node::{Case, Input, Node};
 use table_checker::Accepted;
 
 /// The nodes, what each has put on its links, and where the entries of the lines stand.
@@ -30,13 +30,6 @@ pub(crate) struct Running<'a> {
     nodes: Vec<Node<'a>>,
     sent: Vec<Packets>,
     places: Vec<StepPlace>,
-}
-
-/// The bytes in memory of their own, with no room to spare.
-fn copied(alloc: Global, bytes: &[u8]) -> Result<Vec<u8>, AllocError>
-    ensures { IfOk result (λ v. v.items ≡ bytes.now) }
-{
-    Vec::from_slice(alloc, bytes)
 }
 
 fn step_fault(number: usize, fault: StepFault) -> ReplayFault
@@ -89,7 +82,7 @@ impl<'a> Running<'a> {
         ensures fault { IfErr result (λ f. f ≢ Memory → (steps : List Step) → IsStanding self.now steps → IsSaidFault self.now.tables.now steps number (said line.now) f) }
     {
         let case = match line.command {
-            Command::Enter(message) => Case::Enter(copied(self.alloc, message)?),
+            Command::Enter(message) => Case::Enter(SharedBytes::from_slice(self.alloc, message)?),
             Command::Take { link, serial } => {
                 let Some(bytes) = self.packet(line.node, link, serial) else {
                     return Err(ReplayFault::NoSuchPacket(number));
@@ -101,20 +94,7 @@ impl<'a> Running<'a> {
             Command::Tick => Case::Tick,
             Command::HostAnswer { ask, code } => Case::HostAnswer(ask, code),
             Command::NewDate(date) => Case::NewDate(date),
-            Command::Lend {
-                borrower,
-                card,
-                date,
-                amount,
-            } => {
-                let order = Lending {
-                    borrower,
-                    card,
-                    date,
-                    amount,
-                };
-                Case::lend(self.alloc, order)?
-            }
+            Command::Lend(order) => Case::lend(self.alloc, order)?,
         };
         Ok(Input::new(case))
     }
@@ -129,7 +109,10 @@ impl<'a> Running<'a> {
     {
         let input = self.input(number, line)?;
         let place = line.node.place();
-        let entry = self.nodes[place].trace().len();
+        let count = self.nodes[place].trace().len();
+        let Ok(entry) = u32::try_from(count) else {
+            return Err(ReplayFault::Memory);
+        };
         if let Err(fault) = self.nodes[place].advance(input) {
             return Err(step_fault(number, fault));
         }

@@ -11,8 +11,8 @@ use switch_node::{Entry, Node};
 #[derive(Clone, Copy, Debug, PartialEq, Eq)]
 pub struct StepPlace {
     pub node: NodeNo,
-    /// In the node's trace, from 0.
-    pub entry: usize,
+    /// In the node's trace, from 0; a trace has at most 1,000,000 entries.
+    pub entry: u32,
 }
 
 /// The nodes with their traces, in the order of the tables, and for each line of the script where its entry stands.
@@ -56,6 +56,6 @@ impl<'a> Traces<'a> {
         ensures { option_copied result ≡ entry_at self.now place }
     {
         let node = self.nodes.get(place.node.place())?;
-        node.trace().get(place.entry)
+        node.trace().get(place.entry as usize)
     }
 }

@@ -2,7 +2,7 @@
 ghost use Rattle.std.specs.Prelude.{◌≡◌, ◌<◌, All, IfOk, vec_len, length};
 ghost use Rattle.network_law.specs.Claims.{Safe, Covered, IsWithinLimits};
 ghost use Rattle.network_law.specs.Entries.{history};
-ghost use Rattle.network_law.specs.Runs.{IsLegal, IsTyped};
+ghost use Rattle.network_law.specs.Runs.{IsLegal};
 ghost use Rattle.net_threads.specs.Verdicts.{trace_of, Holds};
 ghost use Rattle.net_threads.specs.declared.ended.Verdict.TheVariants.{Linked};
 
@@ -124,7 +124,7 @@ impl<'n, 't> Network<'n, 't> {
     ghost use Rattle.std.specs.Prelude.{◌≡◌, ◌<◌, All, IfOk, vec_len, length};
     ghost use Rattle.network_law.specs.Claims.{Safe, Covered, IsWithinLimits};
     ghost use Rattle.network_law.specs.Entries.{history};
-    ghost use Rattle.network_law.specs.Runs.{IsLegal, IsTyped};
+    ghost use Rattle.network_law.specs.Runs.{IsLegal};
     ghost use Rattle.net_threads.specs.Verdicts.{trace_of, Holds};
     ghost use Rattle.net_threads.specs.declared.ended.Verdict.TheVariants.{Linked};
 
@@ -158,8 +158,7 @@ impl<'n, 't> Network<'n, 't> {
 
     /// Takes the lock of one station alone, and applies an input there.
     pub fn step_at(&self, rt: &impl Wait, n: NodeNo, input: Input) -> Result<(), StationFault>
-        requires there { n < length self.now.t.nodes }
-        requires typed { IsTyped input }
+        requires { n < length self.now.t.nodes }
     {
         self.station(n).lock(rt).apply(input)
     }

@@ -2,7 +2,7 @@
 ghost use Rattle.std.specs.Prelude.{◌≡◌, ◌<◌, [], length, reverse, IfOk, slice_get, Some};
 ghost use Rattle.network_law.specs.Claims.{IsWithinLimits};
 ghost use Rattle.network_law.specs.Entries.{history};
-ghost use Rattle.network_law.specs.Runs.{IsLegal, IsTyped};
+ghost use Rattle.network_law.specs.Runs.{IsLegal};
 ghost use Rattle.rtrb.specs.Ring.{sent, received, known_items};
 ghost use Rattle.link_rings.specs.Rings.{Pops, links_in};
 ghost use Rattle.net_threads.specs.Pumping.{with_ins};
@@ -87,7 +87,6 @@ impl<'a> Station<'a> {
 
     /// Makes the step of its node, and puts the outputs on the rings. A packet that meets a full ring, or no memory, is lost.
     pub fn apply(&mut self, input: Input) -> Result<(), StationFault>
-        requires typed { IsTyped input }
         ensures { Does self.old input result self.new }
     {
         if !is_own(&self.node, &input) {

@@ -1,5 +1,5 @@
 //! A part of a limit that one node lends another, over a link that repeats each packet.
-use crate::network::{copied, pump, ranks, step, tables};
+use crate::network::{pump, ranks, step, tables};
 use card_digits::LinkNo;
 use iso_message::{Code, Message};
 use net_operate::{Host, operate};
@@ -9,6 +9,7 @@ use rank_cert::Cert;
 use request_book::Way;
 use run_plan::{Plan, read_plan};
 use sample_networks::Sample;
+use shared_bytes::SharedBytes;
 use std::alloc::{AllocError, Global};
 use std::sync::Wait;
 use std::test::Fail;
@@ -71,7 +72,12 @@ fn is_answered<R: Wait>(
     line: &[u8],
     answer: &[u8],
 ) -> Result<bool, AllocError> {
-    let entered = step(rt, network, 1, Case::Enter(copied(alloc, line)?));
+    let entered = step(
+        rt,
+        network,
+        1,
+        Case::Enter(SharedBytes::from_slice(alloc, line)?),
+    );
     let Some(station) = network.stations().get(1) else {
         return Ok(false);
     };

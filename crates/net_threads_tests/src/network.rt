@@ -1,6 +1,4 @@
 //! The networks of the tests, and steps at their nodes. Nothing is promised of these functions, so that a test is proved fast.
-ghost use Rattle.network_law.specs.Runs.{IsTyped};
-ghost use Rattle.switch_node.specs.Inputs.{input_of};
 
 use card_digits::NodeNo;
 use net_rows::Tables;
@@ -98,9 +96,7 @@ pub(crate) fn step<R: Wait>(
     network: &Network<'_, '_>,
     n: usize,
     case: Case,
-) -> Option<Result<(), StationFault>>
-    requires typed { IsTyped (input_of case) }
-{
+) -> Option<Result<(), StationFault>> {
     if n >= 64 || n >= network.stations().len() {
         return None;
     }

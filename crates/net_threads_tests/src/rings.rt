@@ -1,8 +1,9 @@
 //! Rings between nodes that nobody pumps meanwhile.
-use crate::network::{Act, copied, entries, pump, request, seen_on, step};
+use crate::network::{Act, entries, pump, request, seen_on, step};
 use card_digits::LinkNo;
 use net_threads::{Network, StationFault};
 use sample_networks::Sample;
+use shared_bytes::SharedBytes;
 use std::alloc::Global;
 use std::sync::Wait;
 use std::test::Fail;
@@ -18,7 +19,7 @@ fn enter_all<R: Wait>(
 ) -> Result<bool, Fail> {
     for k in 0..count {
         let text = request(alloc, k + 1)?;
-        let bytes = copied(alloc, text.as_bytes())?;
+        let bytes = SharedBytes::from_slice(alloc, text.as_bytes())?;
         if step(rt, network, 0, Case::Enter(bytes)) != Some(Ok(())) {
             return Ok(false);
         }

@@ -69,7 +69,8 @@ impl<'t> Desk<'t> {
 
     pub(crate) fn enter(&mut self, words: &Words, trace: u32) -> io::Result<()> {
         let bytes = words.written(self.alloc, trace)?;
-        let input = Input::new(Case::Enter(bytes));
+        let shared = SharedBytes::from_vec(self.alloc, bytes)?;
+        let input = Input::new(Case::Enter(shared));
         let fault = self.node.advance(input).err();
         self.count(fault);
         Ok(())

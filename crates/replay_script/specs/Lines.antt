@@ -9,6 +9,7 @@ use Rattle.net_rows.specs.Network.{Network}
 use Rattle.network_law.specs.Tables.{is_link_of}
 use Rattle.replay_script.specs.declared.command.Command.{Command}
 use Rattle.replay_script.specs.declared.command.Command.TheVariants as commands
+use Rattle.replay_script.specs.declared.command.Loan.{Loan}
 use Rattle.replay_script.specs.declared.command.ScriptLine.{ScriptLine}
 use Rattle.replay_script.specs.declared.script.MalformedLine.{MalformedLine}
 use Rattle.card_digits.specs.Steps.{◌>>=◌}
@@ -37,7 +38,7 @@ event_of (commands.LinkDown l) = LinkDown l
 event_of commands.Tick = Tick
 event_of (commands.HostAnswer a code) = HostAnswer a code
 event_of (commands.NewDate date) = NewDate date
-event_of (commands.Lend m card date amount) = Lend m card date amount
+event_of (commands.Lend order) = Lend order.borrower order.card order.date order.amount
 
 abbrev pub said : ScriptLine → Said
 said l = record { node = l.node; event = event_of l.command }
@@ -108,9 +109,10 @@ new_date t rest = do
   d ← result_ok (read_digits 4 4 p.1)
   at_node n (NewDate d)
 
-abbrev pub lend : Network → List ℕ → Option Said
-lend t rest = do
-  p ← word_and_rest rest
+-- a node, the one that it is to lend to, a card, a date and an amount
+abbrev pub loan : Network → List ℕ → Option Loan
+loan t text = do
+  p ← word_and_rest text
   q ← word_and_rest p.1
   r ← word_and_rest q.1
   s ← word_and_rest r.1
@@ -119,7 +121,12 @@ lend t rest = do
   card ← result_ok (read_digits 8 19 r.0)
   date ← result_ok (read_digits 4 4 s.0)
   amount ← amount_of s.1
-  at_node n (Lend m card date amount)
+  Some (record { lender = n; order = record { borrower = m; card = card; date = date; amount = amount } })
+
+abbrev pub lend : Network → List ℕ → Option Said
+lend t rest = do
+  l ← loan t rest
+  at_node l.lender (Lend l.order.borrower l.order.card l.order.date l.order.amount)
 
 abbrev pub by_word : Network → List ℕ → List ℕ → Option Said
 by_word t word rest =

@@ -8,6 +8,6 @@ mod script;
 mod tests;
 mod words;
 
-pub use command::{Command, ScriptLine};
-pub use line::read_line;
+pub use command::{Command, Loan, ScriptLine};
+pub use line::{read_line, read_loan};
 pub use script::{MalformedLine, Script};

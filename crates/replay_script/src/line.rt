@@ -1,14 +1,14 @@
 //! A line of a script.
 ghost use Rattle.std.specs.Prelude.{◌≡◌};
 ghost use Rattle.std.specs.Option.{option_map};
-ghost use Rattle.replay_script.specs.Lines.{said, enter, take, own_link, link_up, link_down, tick, host_answer, new_date, lend, read_line};
+ghost use Rattle.replay_script.specs.Lines.{said, enter, take, own_link, link_up, link_down, tick, host_answer, new_date, loan, lend, read_line};
 
-use crate::command::{Command, ScriptLine};
+use crate::command::{Command, Loan, ScriptLine};
 use crate::words::{amount_of, number_of, word_and_rest};
 use card_digits::{Card, DateLabel, LinkNo, NodeNo};
 use iso_message::Code;
 use net_rows::Tables;
-use step_rules::is_link_of;
+use step_rules::{Lending, is_link_of};
 
 /// `NODE MESSAGE`, the message being the rest of the line.
 fn enter<'a>(tables: &Tables, rest: &'a [u8]) -> Option<ScriptLine<'a>>
@@ -97,22 +97,32 @@ fn new_date<'a>(tables: &Tables, rest: &[u8]) -> Option<ScriptLine<'a>>
     Some(ScriptLine { node, command })
 }
 
-/// `NODE BORROWER CARD MMDD AMOUNT`.
-fn lend<'a>(tables: &Tables, rest: &[u8]) -> Option<ScriptLine<'a>>
-    ensures { option_map said result ≡ lend tables.now rest.now }
+/// What `NODE BORROWER CARD MMDD AMOUNT` says, behind the word `lend` of a script or of a plan: the first node is to lend to the second.
+pub fn read_loan(tables: &Tables, text: &[u8]) -> Option<Loan>
+    ensures { result ≡ loan tables.now text.now }
 {
-    let (name, behind) = word_and_rest(rest)?;
+    let (lender, behind) = word_and_rest(text)?;
     let (borrower, behind) = word_and_rest(behind)?;
     let (card, behind) = word_and_rest(behind)?;
     let (date, amount) = word_and_rest(behind)?;
-    let node = tables.node_of(name)?;
-    let command = Command::Lend {
+    let lender = tables.node_of(lender)?;
+    let order = Lending {
         borrower: tables.node_of(borrower)?,
         card: Card::read(card).ok()?,
         date: DateLabel::read(date).ok()?,
         amount: amount_of(amount)?,
     };
-    Some(ScriptLine { node, command })
+    Some(Loan { lender, order })
+}
+
+fn lend<'a>(tables: &Tables, rest: &[u8]) -> Option<ScriptLine<'a>>
+    ensures { option_map said result ≡ lend tables.now rest.now }
+{
+    let Loan { lender, order } = read_loan(tables, rest)?;
+    Some(ScriptLine {
+        node: lender,
+        command: Command::Lend(order),
+    })
 }
 
 /// What a line of a script says. None where its first word is no command, a part is missing or malformed, there is one too many, a

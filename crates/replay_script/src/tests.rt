@@ -80,7 +80,7 @@ fn word_of<'a>(command: &Command<'a>) -> &'a [u8] {
         Command::Tick => b"tick",
         Command::HostAnswer { .. } => b"host",
         Command::NewDate(_) => b"date",
-        Command::Lend { .. } => b"lend",
+        Command::Lend(_) => b"lend",
     }
 }
 

@@ -15,13 +15,14 @@ use std::marker::Model;
 /// A request with its key. A source is the link that it came by, or none of the gate.
 #[derive(Drop)]
 pub struct Row {
-    key: Key,
+    // Fields lie in this order, so the small ones stand together.
     message: KeptMessage,
-    source: Option<LinkNo>,
+    answer: Option<KeptMessage>,
     count: u64,
+    key: Key,
+    source: Option<LinkNo>,
     link: Option<LinkNo>,
     asked: bool,
-    answer: Option<KeptMessage>,
 }
 
 impl Model for Row {

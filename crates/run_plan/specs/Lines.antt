@@ -9,6 +9,7 @@ use Rattle.card_digits.specs.Reading.{read_digits}
 use Rattle.net_rows.specs.Network.{Network}
 use Rattle.card_digits.specs.Steps.{◌>>=◌}
 use Rattle.replay_script.specs.Words.{word_and_rest, number_of, amount_of}
+use Rattle.replay_script.specs.Lines.{node_of, loan}
 use Rattle.run_plan.specs.declared.line.Setting.{Setting}
 use Rattle.run_plan.specs.declared.line.Setting.TheVariants.{Host, Lose, Delay, Repeat, Lend}
 use Rattle.run_plan.specs.declared.line.PlanLine.{PlanLine}
@@ -24,9 +25,6 @@ abbrev pub line_of : PlanLine → Line
 line_of (lines.Setting s) = Set s
 line_of (lines.Session id) = Session id
 line_of (lines.Send message) = Send message.now
-
-abbrev pub node_of : Network → List ℕ → Option ℕ
-node_of t name = position (λ n. pointwise ◌==◌ n.name name) t.nodes
 
 abbrev pub link_of : Network → List ℕ → Option ℕ
 link_of t name = position (λ k. pointwise ◌==◌ k.name name) t.links
@@ -68,26 +66,13 @@ delay t rest = do
   turns ← between 1 4000 q.1
   Some (Delay l (record { every = every; turns = turns }))
 
-abbrev pub lend : Network → List ℕ → Option Setting
-lend t rest = do
-  p ← word_and_rest rest
-  q ← word_and_rest p.1
-  r ← word_and_rest q.1
-  s ← word_and_rest r.1
-  n ← node_of t p.0
-  m ← node_of t q.0
-  card ← result_ok (read_digits 8 19 r.0)
-  date ← result_ok (read_digits 4 4 s.0)
-  amount ← amount_of s.1
-  Some (Lend (record { lender = n; borrower = m; card = card; date = date; amount = amount }))
-
 abbrev pub setting : Network → List ℕ → List ℕ → Option Setting
 setting t word rest =
     if bytes_eq word (codes "host") then host t rest
     else if bytes_eq word (codes "lose") then option_map (λ p. Lose p.0 p.1) (link_and_number t rest)
     else if bytes_eq word (codes "delay") then delay t rest
     else if bytes_eq word (codes "repeat") then option_map (λ p. Repeat p.0 p.1) (link_and_number t rest)
-    else if bytes_eq word (codes "lend") then lend t rest
+    else if bytes_eq word (codes "lend") then option_map Lend (loan t rest)
     else None
 
 -- an id has one to eleven digits

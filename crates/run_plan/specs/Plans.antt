@@ -9,7 +9,7 @@ use Rattle.run_plan.specs.declared.fault.PlanFault.TheVariants.{Line, Acquirer, 
 use Rattle.run_plan.specs.declared.faults.LinkFaults.{LinkFaults}
 use Rattle.run_plan.specs.declared.line.Setting.{Setting}
 use Rattle.run_plan.specs.declared.line.Setting.TheVariants.{Host, Lose, Delay, Repeat, Lend}
-use Rattle.run_plan.specs.declared.plan.Loan.{Loan}
+use Rattle.replay_script.specs.declared.command.Loan.{Loan}
 use Rattle.run_plan.specs.declared.faults.Delay.{Delay as DelayOf}
 use Rattle.run_plan.specs.declared.plan.Session.{Session}
 use Rattle.run_plan.specs.declared.plan.Plan.{Plan}

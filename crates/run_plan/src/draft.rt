@@ -7,9 +7,10 @@ ghost use Rattle.run_plan.specs.Plans.{place_of};
 use crate::fault::PlanFault;
 use crate::faults::{Delay, Faults, LinkFaults};
 use crate::line::{PlanLine, Setting};
-use crate::plan::{Loan, Plan, Session};
+use crate::plan::{Plan, Session};
 use card_digits::{Amount, LinkNo, NodeNo, pad11};
 use net_rows::{Acquirer as AcquirerRow, Tables};
+use replay_script::Loan;
 use std::alloc::{AllocError, Global};
 use std::marker::Model;
 

@@ -10,5 +10,6 @@ mod read;
 
 pub use fault::PlanFault;
 pub use faults::{Delay, Fate, Faults, LinkFaults};
-pub use plan::{Loan, Plan, Session};
+pub use plan::{Plan, Session};
 pub use read::read_plan;
+pub use replay_script::Loan;

@@ -3,12 +3,12 @@ ghost use Rattle.std.specs.Prelude.{◌≡◌, ◌≤◌, ◌<◌, ◌^◌, Some
 ghost use Rattle.std.specs.Option.{option_map};
 ghost use Rattle.card_digits.specs.Numbers.{pad11};
 ghost use Rattle.replay_script.specs.Words.{word_and_rest, number_of, amount_of};
-ghost use Rattle.run_plan.specs.Lines.{between, numbered, host, link_and_number, delay, lend, setting, line_of, read_line};
+ghost use Rattle.run_plan.specs.Lines.{between, numbered, host, link_and_number, delay, setting, line_of, read_line};
 
 use crate::faults::Delay;
-use crate::plan::Loan;
-use card_digits::{Amount, Card, DateLabel, LinkNo, NodeNo, all_digits, cut, decimal, pad11};
+use card_digits::{Amount, LinkNo, NodeNo, all_digits, cut, decimal, pad11};
 use net_rows::Tables;
+use replay_script::{Loan, read_loan};
 
 /// What stands before the first session.
 #[derive(Clone, Copy)]
@@ -88,17 +88,6 @@ fn read_amount(text: &[u8]) -> Option<Amount>
     Some(Amount::new(amount))
 }
 
-/// One to twelve digits that write no 0.
-fn loan_amount(text: &[u8]) -> Option<Amount>
-    ensures { result ≡ amount_of text.now }
-{
-    let amount = number_of(text, 12)?;
-    if amount == 0 {
-        return None;
-    }
-    Some(Amount::new(amount))
-}
-
 /// `NODE AMOUNT`.
 fn host(tables: &Tables, rest: &[u8]) -> Option<Setting>
     ensures { result ≡ host tables.now rest.now }
@@ -131,23 +120,6 @@ fn read_delay(tables: &Tables, rest: &[u8]) -> Option<Setting>
     Some(Setting::Delay(link, delay))
 }
 
-/// `NODE BORROWER CARD MMDD AMOUNT`, and the amount isn't 0.
-fn lend(tables: &Tables, rest: &[u8]) -> Option<Setting>
-    ensures { result ≡ lend tables.now rest.now }
-{
-    let (lender, behind) = word_and_rest(rest)?;
-    let (borrower, behind) = word_and_rest(behind)?;
-    let (card, behind) = word_and_rest(behind)?;
-    let (date, amount) = word_and_rest(behind)?;
-    Some(Setting::Lend(Loan {
-        lender: tables.node_of(lender)?,
-        borrower: tables.node_of(borrower)?,
-        card: Card::read(card).ok()?,
-        date: DateLabel::read(date).ok()?,
-        amount: loan_amount(amount)?,
-    }))
-}
-
 /// The padded id that one to eleven digits write.
 fn session(id: &[u8]) -> Option<[u8; 11]>
     ensures { result ≡ option_map (λ n. pad11 id.now) (number_of 11 id.now) }
@@ -171,7 +143,8 @@ fn read_setting(tables: &Tables, word: &[u8], rest: &[u8]) -> Option<Setting>
         let (link, every) = link_and_number(tables, rest)?;
         Some(Setting::Repeat(link, every))
     } else if word == b"lend".as_slice() {
-        lend(tables, rest)
+        let loan = read_loan(tables, rest)?;
+        Some(Setting::Lend(loan))
     } else {
         None
     }

@@ -1,17 +1,8 @@
 //! What a plan says.
 
 use crate::faults::Faults;
-use card_digits::{Amount, Card, DateLabel, NodeNo};
-
-/// A node is to lend another a part of its limit for a card and date, before anything else happens.
-#[derive(Clone, Copy, Debug, PartialEq, Eq)]
-pub struct Loan {
-    pub lender: NodeNo,
-    pub borrower: NodeNo,
-    pub card: Card,
-    pub date: DateLabel,
-    pub amount: Amount,
-}
+use card_digits::{Amount, NodeNo};
+use replay_script::Loan;
 
 /// What an acquirer enters at its node, one message after the answer to the last or after its turns.
 #[derive(Drop)]
@@ -31,6 +22,7 @@ pub struct Plan<'a> {
     /// Up to what amount each node's host approves, in the order of the tables.
     pub limits: Vec<Amount>,
     pub faults: Faults,
+    /// They are made before anything else happens.
     pub loans: Vec<Loan>,
     /// At most 256.
     pub sessions: Vec<Session<'a>>,

@@ -5,7 +5,7 @@ use Rattle.step_draft.specs.declared.outputs.Held.{Held}
 use Rattle.step_draft.specs.declared.outputs.Held.TheVariants as held
 
 -- in order
-abbrev pub outputs_of : Held → List Output
-outputs_of held.Nothing = []
-outputs_of (held.One o) = o ∷ []
-outputs_of (held.Several v) = v.items
+abbrev pub held_outputs : Held → List Output
+held_outputs held.Nothing = []
+held_outputs (held.One o) = o ∷ []
+held_outputs (held.Several v) = v.items

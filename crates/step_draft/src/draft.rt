@@ -228,7 +228,8 @@ impl Draft {
 
     /// Lends the entry's outputs, with the same bytes.
     pub fn lend(&self, lent: &mut Outputs) -> Result<(), AllocError>
-        ensures { OnOk result (lent.new ≡ spelled_in self.now.effects) }
+        ensures ok { OnOk result (lent.new ≡ spelled_in self.now.effects) }
+        ensures err { OnErr result (lent.new ≡ lent.old) }
     {
         *lent = Outputs::shared(self.alloc, self.outs.as_slice())?;
         Ok(())

@@ -9,7 +9,7 @@ use std::slice::from_ref;
 
 /// How outputs are kept.
 #[derive(Drop)]
-pub enum Held {
+pub(crate) enum Held {
     Nothing,
     /// One, as of most entries, which takes no memory besides its bytes.
     One(Output),
@@ -25,11 +25,11 @@ pub struct Outputs {
 impl Model for Outputs {
     ghost use Rattle.std.specs.Prelude.{List};
     ghost use Rattle.network_law.specs.Entries.{Output};
-    ghost use Rattle.step_draft.specs.Held.{outputs_of};
+    ghost use Rattle.step_draft.specs.Held.{held_outputs};
 
     ghost Value = { List Output };
 
-    ghost view = { λ o. outputs_of o.held };
+    ghost view = { λ o. held_outputs o.held };
 }
 
 impl Outputs {

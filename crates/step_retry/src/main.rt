@@ -8,6 +8,7 @@ use net_tables::read_tables;
 use network_law::StepFault;
 use rank_cert::{Cert, read_cert};
 use sample_networks::Sample;
+use shared_bytes::SharedBytes;
 use std::alloc::{AllocError, Global};
 use std::io;
 use std::io::Write;
@@ -30,12 +31,8 @@ enum Event {
     Tick,
 }
 
-fn copied(alloc: Global, bytes: &[u8]) -> Result<Vec<u8>, AllocError> {
-    Vec::from_slice(alloc, bytes)
-}
-
-fn request(alloc: Global) -> Result<Vec<u8>, AllocError> {
-    copied(alloc, REQUEST)
+fn request(alloc: Global) -> Result<SharedBytes, AllocError> {
+    SharedBytes::from_slice(alloc, REQUEST)
 }
 
 /// One try of a step.

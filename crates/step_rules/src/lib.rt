@@ -1,10 +1,11 @@
-//! What a node reads in a message and in the tables, to refuse an input or to decide it. Each call is the definition of the same name
-//! in `network_law`, allocates nothing, and takes every message: what an absent element makes of an answer is the definition's own.
+//! What a node reads in a message and in the tables, to refuse an input or to decide it, and what an order to lend has. Each call is the
+//! definition of the same name in `network_law`, allocates nothing, and takes every message: what an absent element makes of an answer is the definition's own.
 #![tactic(auto)]
 
 mod cards;
 mod elements;
 mod kinds;
+mod lending;
 mod limits;
 mod links;
 mod places;
@@ -17,6 +18,7 @@ pub use elements::{
 pub use kinds::{
     as_code, entered_kind, is_advice_group, is_answer, is_reversal, sent_kind, taken_kind,
 };
+pub use lending::Lending;
 pub use limits::{Limits, is_due_again};
 pub use links::{LinkStates, are_linked, first_up, first_up_between, is_link_of, joins, ticks_by};
 pub use places::{

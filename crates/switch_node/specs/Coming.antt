@@ -15,11 +15,6 @@ opened_start x h = record {
   outs = [];
 }
 
--- what is kept of a message, where something is, is that message
-abbrev pub IsKept : Option Fields → Fields → Type 0
-IsKept None m = ⊤
-IsKept (Some k) m = k ≡ m
-
 -- whether a message of a group has what it is handled by: a request or an answer its key, an answer its code, and an advice or what acknowledges one its identity
 abbrev pub is_complete : Group → Fields → Bool
 is_complete groups.AuthorizationRequest m = has_key m

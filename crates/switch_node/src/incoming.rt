@@ -1,5 +1,5 @@
 //! Messages that come to a node.
-ghost use Rattle.std.specs.Prelude.{◌≡◌, ◌&&◌, ℕ, bytes_eq, [], IfOk, OnOk, true, false};
+ghost use Rattle.std.specs.Prelude.{◌≡◌, ◌&&◌, ℕ, bytes_eq, [], IfOk, IfSome, OnOk, true, false};
 ghost use Rattle.std.specs.Option.{option_and_then};
 ghost use Rattle.card_digits.specs.Digits.{IsDateLabel};
 ghost use Rattle.iso_message.specs.Fields.{has};
@@ -15,7 +15,7 @@ ghost use Rattle.node_machine.specs.Steps.{on_advice, on_answer, on_group, on_re
 ghost use Rattle.node_books.specs.Effects.{progress};
 ghost use Rattle.request_book.specs.Values.{IsKeyOf, source_of};
 ghost use Rattle.step_draft.specs.Used.{IsQuiet};
-ghost use Rattle.switch_node.specs.Coming.{opened_start, is_complete, IsKept};
+ghost use Rattle.switch_node.specs.Coming.{opened_start, is_complete};
 
 use crate::answers::on_code;
 use crate::notices::{on_advice, on_reversal};
@@ -110,7 +110,7 @@ fn open(
     requires complete { is_complete (group m.now.kind) m.now ≡ true }
     ensures base { draft.new.base ≡ draft.old.base }
     ensures ok { OnOk result (progress draft.new ≡ opened_start draft.old.base (record { message = m.now; source = source_of source })) }
-    ensures kept { IfOk result (λ k. IsKept k m.now) }
+    ensures kept { IfOk result (λ kept. IfSome kept (λ k. k ≡ m.now)) }
 {
     if !is_request(m.kind()) {
         return Ok(None);
@@ -172,7 +172,7 @@ fn on_keyed_request(
 ) -> Result<(), AllocError>
     requires request { is_request m.kind ≡ true }
     requires key { has_key m ≡ true }
-    requires kept { IsKept kept m }
+    requires kept { IfSome kept (λ k. k ≡ m) }
     requires quiet { IsQuiet draft.old.base (progress draft.old).lists }
     requires left { LeftAsMarked draft.old.base.marks draft.old.base.takes }
     ensures base { draft.new.base ≡ draft.old.base }
@@ -215,7 +215,7 @@ fn on_message(
     source: Option<LinkNo>,
 ) -> Result<(), AllocError>
     requires complete { is_complete (group m.kind) m ≡ true }
-    requires kept { IsKept kept m }
+    requires kept { IfSome kept (λ k. k ≡ m) }
     requires quiet { IsQuiet draft.old.base (progress draft.old).lists }
     requires left { LeftAsMarked draft.old.base.marks draft.old.base.takes }
     ensures base { draft.new.base ≡ draft.old.base }

@@ -1,26 +1,51 @@
 //! Inputs.
 ghost use Rattle.std.specs.Prelude.{◌≡◌, IfOk};
 
-use card_digits::{Amount, Card, DateLabel, LinkNo, NodeNo};
+use card_digits::{DateLabel, LinkNo};
 use iso_message::Code;
 use shared_bytes::SharedBytes;
 use std::alloc::{AllocError, Global};
 use std::marker::Model;
+use step_rules::Lending;
 
-/// To lend another node a part of the limit for a card and date.
-#[derive(Clone, Copy, Debug)]
-pub struct Lending {
-    pub borrower: NodeNo,
-    pub card: Card,
-    pub date: DateLabel,
-    pub amount: Amount,
+/// An order to lend, in memory of its own.
+#[derive(Drop)]
+pub struct BoxedLending {
+    order: Box<Lending>,
+}
+
+impl Model for BoxedLending {
+    ghost use Rattle.std.specs.Prelude.{◌<◌};
+    ghost use Rattle.card_digits.specs.Digits.{IsCard, IsDateLabel};
+    ghost use Rattle.step_rules.specs.declared.lending.Lending.{Lending};
+
+    ghost Value = { Lending };
+
+    ghost view = { λ b. b.order.value };
+
+    ghost invariant = { λ b. IsCard b.order.value.card × IsDateLabel b.order.value.date × (b.order.value.amount < 1000000000000) };
+}
+
+impl BoxedLending {
+    fn new(alloc: Global, order: Lending) -> Result<BoxedLending, AllocError>
+        ensures { IfOk result (λ b. b ≡ order) }
+    {
+        let order = Box::new(alloc, order)?;
+        Ok(BoxedLending { order })
+    }
+
+    pub fn order(&self) -> &Lending
+        ensures { result.now ≡ self.now }
+    {
+        &self.order
+    }
 }
 
 /// What comes to a node.
 #[derive(Drop)]
 pub enum Case {
     /// Bytes that an acquirer enters.
-    Enter(Vec<u8>),
+    Enter(SharedBytes),
     /// Bytes that come by a link, with their serial; the node that put them may hold them too.
     Take(LinkNo, u64, SharedBytes),
     LinkUp(LinkNo),
@@ -29,21 +54,19 @@ pub enum Case {
     /// The host's code for an ask.
     HostAnswer(u64, Code),
     NewDate(DateLabel),
-    /// It is rare, and in a box so that the others aren't as large.
-    Lend(Box<Lending>),
+    /// An order to lend. It is rare and larger than the others, so it is in a box.
+    Lend(BoxedLending),
 }
 
 impl Case {
     ghost use Rattle.switch_node.specs.Inputs.{input_of};
     ghost use Rattle.network_law.specs.Entries as entries;
-    ghost use Rattle.network_law.specs.Runs.{IsTyped};
 
     /// An order to lend, in a box of its own.
     pub fn lend(alloc: Global, order: Lending) -> Result<Case, AllocError>
-        ensures order { IfOk result (λ c. input_of c ≡ entries.Lend order.borrower order.card order.date order.amount) }
-        ensures typed { IfOk result (λ c. IsTyped (input_of c)) }
+        ensures { IfOk result (λ c. input_of c ≡ entries.Lend order.borrower order.card order.date order.amount) }
     {
-        let boxed = Box::new(alloc, order)?;
+        let boxed = BoxedLending::new(alloc, order)?;
         Ok(Case::Lend(boxed))
     }
 }
@@ -56,18 +79,23 @@ pub struct Input {
 
 impl Model for Input {
     ghost use Rattle.network_law.specs.Entries.{Input};
+    ghost use Rattle.network_law.specs.Runs.{IsTyped};
     ghost use Rattle.switch_node.specs.Inputs.{input_of};
 
     ghost Value = { Input };
 
     ghost view = { λ i. input_of i.case };
+
+    ghost invariant = { λ i. IsTyped (input_of i.case) };
 }
 
 impl Input {
+    ghost use Rattle.network_law.specs.Runs.{IsTyped};
     ghost use Rattle.switch_node.specs.Inputs.{input_of};
 
     pub fn new(case: Case) -> Input
-        ensures { result ≡ input_of case }
+        ensures case { result ≡ input_of case }
+        ensures typed { IsTyped result }
     {
         Input { case }
     }

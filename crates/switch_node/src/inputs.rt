@@ -105,7 +105,7 @@ fn enter_bytes(
     draft: &mut Draft,
     tables: &Tables,
     node: NodeNo,
-    bytes: &[u8],
+    bytes: &SharedBytes,
 ) -> Result<(), StepFault>
     requires empty { draft.old.effects ≡ [] }
     requires left { LeftAsMarked draft.old.base.marks draft.old.base.takes }
@@ -113,7 +113,7 @@ fn enter_bytes(
     ensures ok { OnOk result (Does tables.now node (entries.Enter bytes.now) draft.old draft.new) }
     ensures fault { IfErr result (λ f. (f ≡ Memory) ⊎ (fault_in tables.now node draft.old.base (read_input (entries.Enter bytes.now)) ≡ Some f)) }
 {
-    let m = match decode(draft.alloc(), bytes) {
+    let m = match decode(draft.alloc(), bytes.as_slice()) {
         Ok(m) => m,
         Err(fault) => return Err(unread(fault)),
     };
@@ -121,6 +121,7 @@ fn enter_bytes(
     if let Some(fault) = refused {
         return Err(fault);
     }
+    draft.hold(bytes)?;
     Ok(enter(draft, tables, node, m)?)
 }
 
@@ -316,14 +317,17 @@ pub(crate) fn step(
             take_bytes(draft, tables, node, *link, *serial, bytes)
         }
         Case::HostAnswer(ask, code) => host_answer(draft, tables, node, *ask, *code),
-        Case::Lend(order) => lend_input(
-            draft,
-            tables,
-            node,
-            order.borrower,
-            &order.card,
-            &order.date,
-            order.amount,
-        ),
+        Case::Lend(boxed) => {
+            let order = boxed.order();
+            lend_input(
+                draft,
+                tables,
+                node,
+                order.borrower,
+                &order.card,
+                &order.date,
+                order.amount,
+            )
+        }
     }
 }

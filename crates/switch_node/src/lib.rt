@@ -11,6 +11,6 @@ mod notices;
 mod requests;
 
 pub use entry::Entry;
-pub use input::{Case, Input, Lending};
+pub use input::{BoxedLending, Case, Input};
 pub use node::Node;
 pub use step_draft::{Output, Outputs};

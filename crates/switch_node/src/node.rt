@@ -3,7 +3,7 @@ ghost use Rattle.std.specs.Prelude.{◌≡◌, ◌⊎◌, ◌<◌, ◌≤◌, []
 ghost use Rattle.network_law.specs.Claims.{IsWithinLimits};
 ghost use Rattle.network_law.specs.Entries.{history};
 ghost use Rattle.network_law.specs.Tables.{is_link_of};
-ghost use Rattle.network_law.specs.Runs.{IsLegal, NamesOwnLink, IsTyped, step_refusal, step_outputs};
+ghost use Rattle.network_law.specs.Runs.{IsLegal, NamesOwnLink, step_refusal, step_outputs};
 ghost use Rattle.network_law.specs.declared.fault.StepFault.TheVariants.{Memory};
 ghost use Rattle.std.specs.Prelude.{reverse, if◌then◌else◌};
 ghost use Rattle.step_draft.specs.Outputs.{spelled_in};
@@ -27,7 +27,8 @@ const MOST: usize = 1_000_000;
 /// Lends copies of the outputs of a draft, if asked to.
 fn lend(draft: &Draft, lends: bool, out: &mut Outputs) -> Result<(), AllocError>
     requires none { out.old ≡ [] }
-    ensures { OnOk result (out.new ≡ if lends then spelled_in draft.now.effects else []) }
+    ensures ok { OnOk result (out.new ≡ if lends then spelled_in draft.now.effects else []) }
+    ensures err { OnErr result (out.new ≡ []) }
 {
     if lends {
         draft.lend(out)?;
@@ -109,7 +110,6 @@ impl<'a> Node<'a> {
     /// Adds the entry of an input, and lends copies of its outputs; or changes nothing.
     pub fn step(&mut self, input: Input, out: &mut Outputs) -> Result<(), StepFault>
         requires own { NamesOwnLink self.old.t self.old.n input }
-        requires typed { IsTyped input }
         ensures same { (self.new.t ≡ self.old.t) × (self.new.n ≡ self.old.n) }
         ensures entry { OnOk result (self.new.trace ≡ record { input = input; outputs = out.new } ∷ self.old.trace) }
         ensures accepted { OnOk result (step_refusal self.old.t self.old.n self.old.trace input ≡ None) }
@@ -124,7 +124,6 @@ impl<'a> Node<'a> {
     /// The same without copies of the outputs, which stand in the newest entry.
     pub fn advance(&mut self, input: Input) -> Result<(), StepFault>
         requires own { NamesOwnLink self.old.t self.old.n input }
-        requires typed { IsTyped input }
         ensures same { (self.new.t ≡ self.old.t) × (self.new.n ≡ self.old.n) }
         ensures entry { OnOk result (self.new.trace ≡ record { input = input; outputs = step_outputs self.old.t self.old.n self.old.trace input } ∷ self.old.trace) }
         ensures accepted { OnOk result (step_refusal self.old.t self.old.n self.old.trace input ≡ None) }
@@ -138,7 +137,6 @@ impl<'a> Node<'a> {
     /// Adds the entry of an input, and lends copies of its outputs if asked to; or changes nothing.
     fn make_entry(&mut self, input: Input, lends: bool, out: &mut Outputs) -> Result<(), StepFault>
         requires own { NamesOwnLink self.old.t self.old.n input }
-        requires typed { IsTyped input }
         requires none { out.old ≡ [] }
         ensures same { (self.new.t ≡ self.old.t) × (self.new.n ≡ self.old.n) }
         ensures entry { OnOk result (self.new.trace ≡ record { input = input; outputs = step_outputs self.old.t self.old.n self.old.trace input } ∷ self.old.trace) }
@@ -157,7 +155,6 @@ impl<'a> Node<'a> {
         }
         let Ok(()) = lend(&self.draft, lends, out) else {
             self.draft.rollback();
-            out.clear();
             return Err(StepFault::Memory);
         };
         let Ok(outputs) = self.draft.commit() else {

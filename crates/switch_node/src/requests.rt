@@ -1,5 +1,5 @@
 //! Requests.
-ghost use Rattle.std.specs.Prelude.{◌≡◌, ◌+◌, ℕ, suc, IfOk, OnOk, None, find, is_some, nat_lt, true};
+ghost use Rattle.std.specs.Prelude.{◌≡◌, ◌+◌, ℕ, suc, IfOk, IfSome, OnOk, None, find, is_some, nat_lt, true};
 ghost use Rattle.iso_message.specs.Fields.{as_kind};
 ghost use Rattle.iso_message.specs.declared.kind.Kind.TheVariants.{K0100};
 ghost use Rattle.iso_message.specs.Groups.{is_answer};
@@ -20,7 +20,6 @@ ghost use Rattle.std.specs.Prelude.{false};
 ghost use Rattle.node_books.specs.Effects.{progress};
 ghost use Rattle.request_book.specs.Values.{IsAnswerOf, IsKeyOf, source_of};
 ghost use Rattle.step_draft.specs.Used.{IsQuiet};
-ghost use Rattle.switch_node.specs.Coming.{IsKept};
 ghost use Rattle.node_machine.specs.Lists.{link_at};
 
 use card_digits::{Key, LinkNo, NodeNo};
@@ -42,7 +41,7 @@ fn forwarded(
     kept: Option<KeptMessage>,
 ) -> Result<KeptMessage, AllocError>
     requires key { IsKeyOf key m }
-    requires kept { IsKept kept m }
+    requires kept { IfSome kept (λ k. k ≡ m) }
     ensures same { draft.new ≡ draft.old }
     ensures message { IfOk result (λ f. f ≡ as_kind K0100 m) }
     ensures key { IfOk result (λ f. key ≡ key_of f) }
@@ -108,7 +107,7 @@ fn answer_again(row: &Row) -> Result<Option<KeptMessage>, AllocError>
 /// A request goes to the host.
 fn ask(draft: &mut Draft, key: Key, m: Message, kept: Option<KeptMessage>) -> Result<(), AllocError>
     requires key { IsKeyOf key m }
-    requires kept { IsKept kept m }
+    requires kept { IfSome kept (λ k. k ≡ m) }
     ensures base { draft.new.base ≡ draft.old.base }
     ensures ok { OnOk result ((t : Network) (n : ℕ) → progress draft.new ≡ emit (Ask (suc (view t n draft.old.base).ask_count) (as_kind K0100 m)) (progress draft.old)) }
 {
@@ -143,7 +142,7 @@ fn forward(
     source: Option<LinkNo>,
 ) -> Result<(), AllocError>
     requires key { IsKeyOf key m }
-    requires kept { IsKept kept m }
+    requires kept { IfSome kept (λ k. k ≡ m) }
     requires quiet { IsQuiet draft.old.base (progress draft.old).lists }
     requires left { LeftAsMarked draft.old.base.marks draft.old.base.takes }
     ensures base { draft.new.base ≡ draft.old.base }
@@ -169,7 +168,7 @@ fn take_request(
     source: Option<LinkNo>,
 ) -> Result<(), AllocError>
     requires key { IsKeyOf key m }
-    requires kept { IsKept kept m }
+    requires kept { IfSome kept (λ k. k ≡ m) }
     requires quiet { IsQuiet draft.old.base (progress draft.old).lists }
     requires left { LeftAsMarked draft.old.base.marks draft.old.base.takes }
     ensures base { draft.new.base ≡ draft.old.base }
@@ -199,7 +198,7 @@ fn on_new_request(
     source: Option<LinkNo>,
 ) -> Result<(), AllocError>
     requires key { IsKeyOf key m }
-    requires kept { IsKept kept m }
+    requires kept { IfSome kept (λ k. k ≡ m) }
     requires quiet { IsQuiet draft.old.base (progress draft.old).lists }
     requires left { LeftAsMarked draft.old.base.marks draft.old.base.takes }
     ensures base { draft.new.base ≡ draft.old.base }
@@ -273,7 +272,7 @@ pub(crate) fn on_request(
     source: Option<LinkNo>,
 ) -> Result<(), AllocError>
     requires key { IsKeyOf key m }
-    requires kept { IsKept kept m }
+    requires kept { IfSome kept (λ k. k ≡ m) }
     requires quiet { IsQuiet draft.old.base (progress draft.old).lists }
     requires left { LeftAsMarked draft.old.base.marks draft.old.base.takes }
     ensures base { draft.new.base ≡ draft.old.base }

@@ -11,7 +11,8 @@ use sample_networks::Sample;
 use shared_bytes::SharedBytes;
 use std::alloc::Global;
 use std::test::Fail;
-use switch_node::{Case, Input, Lending, Node, Outputs};
+use step_rules::Lending;
+use switch_node::{Case, Input, Node, Outputs};
 use table_checker::check;
 
 fn tables_of(alloc: Global, text: &[u8]) -> Result<Tables, Fail> {
@@ -89,7 +90,7 @@ impl<'t> Stepped<'t> {
     }
 
     fn enter(&mut self, text: &str) -> Result<(), Fail> {
-        let bytes = text.as_bytes().to_vec(self.alloc)?;
+        let bytes = SharedBytes::from_slice(self.alloc, text.as_bytes())?;
         let input = Input::new(Case::Enter(bytes));
         self.fault = self.node.step(input, &mut self.outputs).err();
         Ok(())
@@ -157,8 +158,6 @@ impl<'t> Stepped<'t> {
     }
 
     fn lend(&mut self, borrower: NodeNo, loan: &Loan) -> Result<(), Fail> {
-        // A card and a date have digits, and an amount has a bound.
-        let (_card, _date, _amount) = (loan.card.digits(), loan.date.digits(), loan.amount.value());
         let order = Lending {
             borrower,
             card: loan.card,

@@ -37,8 +37,8 @@ fn has_loan(plan: &Plan<'_>) -> bool {
     let Some(loan) = plan.loans.first() else {
         return false;
     };
-    let places = loan.lender.place() == 0 && loan.borrower.place() == 1;
-    plan.loans.len() == 1 && places && loan.amount.value() == 1
+    let places = loan.lender.place() == 0 && loan.order.borrower.place() == 1;
+    plan.loans.len() == 1 && places && loan.order.amount.value() == 1
 }
 
 fn has_lines(plan: &Plan<'_>) -> bool {

@@ -58,7 +58,7 @@ fn text(wanted: Wanted) -> &'static str {
 fn outputs<'r>(traces: &'r Traces, step: usize) -> Option<&'r [Output]> {
     let stands = traces.places().get(step)?;
     let node = traces.nodes().get(stands.node.place())?;
-    let entry = node.trace().get(stands.entry)?;
+    let entry = node.trace().get(stands.entry as usize)?;
     Some(entry.outputs().as_slice())
 }
 

@@ -23,15 +23,15 @@ index_mut-requires c = omega (arith, c.place-place.ensures.place, (line_placed c
 pub index_mut-requires-2 : goal.index_mut-requires-2
 index_mut-requires-2 c = omega (arith, c.place-place.ensures.place, (line_placed c.args.self.now.tables.now c.requires.said.0 _ c.requires.said.1).0, c.requires.standing.1.1.sent_are.0)
 
-pub advance-requires-clause-own : goal.advance-requires-clause-own
-advance-requires-clause-own c =
+pub advance-requires : goal.advance-requires
+advance-requires c =
     let t = c.args.self.now.tables.now in
     let n = c.args.line.now.node in
     let steps = c.requires.standing.0 in
     let at = c.requires.standing.1.1 in
     let placed = line_placed t c.requires.said.0 _ c.requires.said.1 in
     let view = node_at t c.args.self.now.nodes.items c.args.self.now.sent.items c.args.self.now.places.items steps at n placed.0 c.place-place.result c.index_mut.result.now c.place-place.ensures.place c.index_mut.ensures.value in
-    subst (λ (v : NodeView). NamesOwnLink v.t v.n c.in_ok-input.input) (sym view) (own_input t steps n (event_of c.args.line.now.command) c.in_ok-input.input (c.in_ok-input.ensures.input steps c.requires.standing.1) placed.1)
+    record { own = subst (λ (v : NodeView). NamesOwnLink v.t v.n c.in_ok-input.input) (sym view) (own_input t steps n (event_of c.args.line.now.command) c.in_ok-input.input (c.in_ok-input.ensures.input steps c.requires.standing.1) placed.1) }
 
 pub returns-in-Err-clause-fault : goal.returns-in-Err-clause-fault
 returns-in-Err-clause-fault c aside steps standing =
@@ -62,14 +62,15 @@ returns-clause-made c steps standing =
     let step : IsStep t n es e = record {
       own = own_input t steps n (event_of c.args.line.now.command) c.in_ok-input.input input placed.1;
       typed = c.in_ok-input.ensures.typed;
-      accepted = subst (λ (v : NodeView). step_refusal v.t v.n v.trace c.in_ok-input.input ≡ None) view c.in_default.ensures.accepted;
+      accepted = subst (λ (v : NodeView). step_refusal v.t v.n v.trace c.in_ok-input.input ≡ None) view c.in_default-advance.ensures.accepted;
       outputs = refl;
     } in
-    let now = view_is c.advance.new.self t n (e ∷ es) (c.in_default.ensures.same.0 ∙ ap (λ (v : NodeView). v.t) view) (c.in_default.ensures.same.1 ∙ ap (λ (v : NodeView). v.n) view) (c.in_default.ensures.entry ∙ ap (λ (v : NodeView). (record { input = c.in_ok-input.input; outputs = step_outputs v.t v.n v.trace c.in_ok-input.input }) ∷ v.trace) view) in
+    let now = view_is c.advance.new.self t n (e ∷ es) (c.in_default-advance.ensures.same.0 ∙ ap (λ (v : NodeView). v.t) view) (c.in_default-advance.ensures.same.1 ∙ ap (λ (v : NodeView). v.n) view) (c.in_default-advance.ensures.entry ∙ ap (λ (v : NodeView). (record { input = c.in_ok-input.input; outputs = step_outputs v.t v.n v.trace c.in_ok-input.input }) ∷ v.trace) view) in
     let newest : c.index-2.result.now ≡ c.advance.new.self = c.index-2.ensures ∙ get_or_set c.args.self.now.nodes.items c.place-place.result c.advance.new.self c.index-2.result.now (omega (arith, c.place-place.ensures.place, placed.0, at.nodes_are.0)) in
     let outs : c.newest_outputs-outputs.result.now ≡ e.outputs = c.newest_outputs-outputs.ensures ∙ ap (λ (v : NodeView). newest_outputs v.trace) (newest ∙ now) in
-    let len : length c.trace-entry.result.now ≡ length es = sym (length-reverse c.trace-entry.result.now) ∙ ap length (c.trace-entry.ensures.trace ∙ ap (λ (v : NodeView). v.trace) first) in
-    let sent : c.put_all.new.self ≡ put_all c.index_mut-2.result.now (length es) 0 e.outputs = c.in_ok-put_all.ensures ∙ (ap (λ k. put_all c.index_mut-2.result.now k 0 c.newest_outputs-outputs.result.now) len ∙ ap (put_all c.index_mut-2.result.now (length es) 0) outs) in
+    let len : length c.trace-count.result.now ≡ length es = sym (length-reverse c.trace-count.result.now) ∙ ap length (c.trace-count.ensures.trace ∙ ap (λ (v : NodeView). v.trace) first) in
+    let entry : c.in-Ok.entry ≡ length es = c.in-Ok.ensures.1 ∙ len in
+    let sent : c.put_all.new.self ≡ put_all c.index_mut-2.result.now (length es) 0 e.outputs = c.in_ok-put_all.ensures ∙ (ap (λ k. put_all c.index_mut-2.result.now k 0 c.newest_outputs-outputs.result.now) entry ∙ ap (put_all c.index_mut-2.result.now (length es) 0) outs) in
     let ok : is_ok c.push.result ≡ true = c.is_err.ensures.negation ∙ ap not c.if-is_err.false in
-    let pushed : c.push.new.self.items ≡ c.args.self.now.places.items ++ (record { node = n; entry = length es }) ∷ [] = c.push.ensures.items ∙ rw ok (ap (λ z. c.args.self.now.places.items ++ (record { node = n; entry = z }) ∷ []) len) in
+    let pushed : c.push.new.self.items ≡ c.args.self.now.places.items ++ (record { node = n; entry = length es }) ∷ [] = c.push.ensures.items ∙ rw ok (ap (λ z. c.args.self.now.places.items ++ (record { node = n; entry = z }) ∷ []) entry) in
     (record { node = n; entry = e }, record { node = refl; input = input; step = step }, (standing.0, rw (c.place-place.ensures.place, now, sent, pushed) (one_more t c.args.self.now.nodes.items c.args.self.now.sent.items c.args.self.now.places.items steps at n placed.0 e step c.index_mut-2.result.now links)))

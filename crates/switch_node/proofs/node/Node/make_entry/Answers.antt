@@ -1,7 +1,8 @@
-use Rattle.std.proofs.Common.{◌≡◌, ◌<◌, ◌≤◌, List, [], ◌∷◌, length, map, reverse, true, false, nat_le, inl, inr, refl, sym, ap, ◌∙◌, arith, if◌then◌else◌}
+use Rattle.std.proofs.Common.{◌≡◌, ◌<◌, ◌≤◌, List, [], ◌∷◌, length, map, reverse, true, false, nat_le, inl, inr, refl, sym, ap, ◌∙◌, subst, arith, if◌then◌else◌}
 use Rattle.std.proofs.lemmas.Bool.{cases_Bool, leb-true, leb-false}
 use Rattle.std.proofs.lemmas.List.{reverse-append, reverse-reverse, length-reverse}
 use Rattle.network_law.specs.Entries.{Entry, spelled}
+use Rattle.network_law.specs.Runs.{IsTyped}
 use Rattle.node_books.specs.Effects.{progress, sent_in}
 use Rattle.switch_node.specs.Node.{Does}
 use Rattle.switch_node.proofs.Stepped.{Stepped, stepped, faulted, few_next, full}
@@ -26,7 +27,7 @@ made c =
     let does : Does t n c.args.input c.self.inside.draft c.step.new.draft = c.in_default.ensures.ok in
     let room : nat_le 1000000 (length trace) ≡ false = not_full c.self.inside.trace.items (omega (arith, ap length c.as_slice.ensures.value)) in
     let own = rw (← c.self.view_is) at c.requires.own in
-    stepped t n trace c.self.inside.draft.base (record { input = c.args.input; outputs = c.in-Ok-commit.outputs }) (Does.read does) (progress c.step.new.draft) c.self.invariant.given own c.requires.typed (Does.reads does) room (Does.accepted does) (Does.done does) (c.in-Ok-commit.ensures.outs ∙ ap (map spelled) (sym (reverse-reverse (sent_in c.step.new.draft.effects))))
+    stepped t n trace c.self.inside.draft.base (record { input = c.args.input; outputs = c.in-Ok-commit.outputs }) (Does.read does) (progress c.step.new.draft) c.self.invariant.given own (subst IsTyped c.input.view_is c.input.invariant) (Does.reads does) room (Does.accepted does) (Does.done does) (c.in-Ok-commit.ensures.outs ∙ ap (map spelled) (sym (reverse-reverse (sent_in c.step.new.draft.effects))))
 
 pub invariant_of-self-2 : goal.invariant_of-self-2
 invariant_of-self-2 c = rw (c.push_reserved.ensures.items, c.reserve.ensures.items, c.new.ensures, reverse-append c.self.inside.trace.items (record { input = c.args.input; outputs = c.in-Ok-commit.outputs } ∷ []), c.in-Ok-commit.ensures.done) (record { given = Stepped.given (made c); empty = refl })
@@ -40,7 +41,7 @@ returns-clause-entry c =
     (ap (λ z. record { input = c.args.input; outputs = z } ∷ reverse c.self.inside.trace.items) (Stepped.outputs (made c))))
 
 pub returns-clause-lent : goal.returns-clause-lent
-returns-clause-lent c = rw (← c.self.view_is) (c.in-Ok.ensures ∙ ap (λ z. if c.args.lends then z else []) (sym c.in-Ok-commit.ensures.outs ∙ Stepped.outputs (made c)))
+returns-clause-lent c = rw (← c.self.view_is) (c.in-Ok.ensures.ok ∙ ap (λ z. if c.args.lends then z else []) (sym c.in-Ok-commit.ensures.outs ∙ Stepped.outputs (made c)))
 
 pub returns-in-Err-clause-fault : goal.returns-in-Err-clause-fault
 returns-in-Err-clause-fault c =
