@@ -1,5 +1,5 @@
 //! A node and the steps of the tests. Nothing is promised of these functions, so that they are proved fast.
-use crate::lines::{Given, Line, Loan, Step, read_steps};
+use crate::lines::{Given, Line, Step, read_steps};
 use card_digits::{DateLabel, LinkNo, NodeNo};
 use iso_message::Code;
 use net_rows::Tables;
@@ -144,26 +144,16 @@ impl<'t> Stepped<'t> {
     }
 
     fn host(&mut self, ask: u64, code: Code) {
-        // A code has two bytes of text.
-        let _text = code.as_slice();
         let input = Input::new(Case::HostAnswer(ask, code));
         self.fault = self.node.step(input, &mut self.outputs).err();
     }
 
     fn date(&mut self, date: DateLabel) {
-        // A date has four digits.
-        let _digits = date.digits();
         let input = Input::new(Case::NewDate(date));
         self.fault = self.node.step(input, &mut self.outputs).err();
     }
 
-    fn lend(&mut self, borrower: NodeNo, loan: &Loan) -> Result<(), Fail> {
-        let order = Lending {
-            borrower,
-            card: loan.card,
-            date: loan.date,
-            amount: loan.amount,
-        };
+    fn lend(&mut self, order: Lending) -> Result<(), Fail> {
         let case = Case::lend(self.alloc, order)?;
         self.fault = self.node.step(Input::new(case), &mut self.outputs).err();
         Ok(())
@@ -184,7 +174,7 @@ impl<'t> Stepped<'t> {
                 self.date(*date);
                 Ok(())
             }
-            Given::Lend(node, loan) => self.lend(*node, loan),
+            Given::Lend(order) => self.lend(*order),
         }
     }
 }

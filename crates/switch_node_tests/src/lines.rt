@@ -31,6 +31,7 @@ use network_law::StepFault;
 use request_book::Way;
 use std::alloc::Global;
 use std::test::Fail;
+use step_rules::Lending;
 
 /// An input. The message of one that has a message stands beside it.
 #[derive(Clone, Copy)]
@@ -42,16 +43,7 @@ pub(crate) enum Given {
     Ticks(u64),
     Host(u64, Code),
     Date(DateLabel),
-    /// To a node.
-    Lend(NodeNo, Loan),
-}
-
-/// An amount for a card and a settlement date.
-#[derive(Clone, Copy)]
-pub(crate) struct Loan {
-    pub(crate) card: Card,
-    pub(crate) date: DateLabel,
-    pub(crate) amount: Amount,
+    Lend(Lending),
 }
 
 /// What a line says, besides its message.
@@ -171,19 +163,16 @@ fn new_date(text: &str) -> Result<Given, Fail> {
     Ok(Given::Date(date(text)?))
 }
 
-fn loan_of(words: &[&'static str]) -> Result<Loan, Fail> {
+fn lend(tables: &Tables, name: &str, words: &[&'static str]) -> Result<Given, Fail> {
     match words {
-        [number, day, units] => Ok(Loan {
+        [number, day, units] => Ok(Given::Lend(Lending {
+            borrower: node(tables, name)?,
             card: card(number)?,
             date: date(day)?,
             amount: amount(units)?,
-        }),
-        _ => Err("no loan".into()),
+        })),
+        _ => Err("no order to lend".into()),
     }
-}
-
-fn lend(tables: &Tables, name: &str, words: &[&'static str]) -> Result<Given, Fail> {
-    Ok(Given::Lend(node(tables, name)?, loan_of(words)?))
 }
 
 fn given_by(tables: &Tables, words: &[&'static str]) -> Result<Given, Fail> {
@@ -195,7 +184,7 @@ fn given_by(tables: &Tables, words: &[&'static str]) -> Result<Given, Fail> {
         ["ticks", count] => ticks(count),
         ["host", ask, text] => host(ask, text),
         ["date", text] => new_date(text),
-        ["lend", name, loan @ ..] => lend(tables, name, loan),
+        ["lend", name, order @ ..] => lend(tables, name, order),
         _ => Err("no input".into()),
     }
 }
