@@ -1,5 +1,6 @@
 //! What a node reads in a message and in the tables, to refuse an input or to decide it, and what an order to lend has. Each call is the
-//! definition of the same name in `network_law`, allocates nothing, and takes every message: what an absent element makes of an answer is the definition's own.
+//! definition of the same name in `network_law`, allocates nothing, and takes every message: what an absent element makes of an answer is
+//! the definition's own.
 #![tactic(auto)]
 
 mod cards;
