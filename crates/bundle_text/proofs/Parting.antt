@@ -7,7 +7,8 @@ use Rattle.std.proofs.lemmas.List.{append-nil, length-append}
 use Rattle.std.proofs.lemmas.List.Elements.{All-head, All-from_recursion}
 use Rattle.std.proofs.lemmas.List.Splits.{join_with_byte-slice_split, slice_split_at, slice_split_none}
 use Rattle.card_digits.proofs.Cuts.{Others}
-use Rattle.bundle_text.specs.Parts.{separates, between_feeds, parts_of_lines, parts_of_text, EndsLine, IsFromSign, IsFirstLine, IsFirstPart}
+use Rattle.bundle_text.specs.Parts.{separates, between_feeds, parts_of_lines, parts_of_text}
+use Rattle.bundle_text.specs.Cutting.{EndsLine, IsFromSign, IsFirstLine, IsFirstPart}
 use Rattle.bundle_text.proofs.Lacking.{Lack, lines_lack, split_has}
 
 -- no line separates

@@ -1,9 +1,8 @@
 -- The parts of an input.
-use Rattle.std.specs.Prelude.{◌≡◌, ℕ, ◌==◌, ◌<◌, Bool, false, List, [], ◌∷◌, ◌++◌, ◌-◌, ◌⊎◌, All, length, take, map, codes, slice_get, if◌then◌else◌}
+use Rattle.std.specs.Prelude.{ℕ, ◌==◌, Bool, List, [], ◌∷◌, ◌-◌, length, take, map, codes, slice_get, if◌then◌else◌}
 use Rattle.std.specs.Option.{option_map_or}
 use Rattle.std.specs.List.{slice_split, join_with_byte}
 use Rattle.std.specs.Cmp.Lexicographic.{pointwise}
-use Rattle.card_digits.specs.Cut.{IsCut}
 
 -- without a carriage return at its end
 abbrev pub without_return : List ℕ → List ℕ
@@ -37,24 +36,3 @@ parts_of input = parts_of_lines (lines_of input)
 -- the parts of a text of which no line loses a carriage return
 abbrev pub parts_of_text : List ℕ → List (List ℕ)
 parts_of_text text = parts_of_lines (between_feeds text)
-
--- behind it a line begins
-abbrev pub EndsLine : List ℕ → Type 0
-EndsLine text = (text ≡ []) ⊎ ((front : List ℕ) × (text ≡ front ++ 10 ∷ []))
-
--- the rest of a text begins with its first line that has a per cent sign
-pub record IsFromSign (text rest : List ℕ) : Type 0 where
-  pub before : List ℕ
-  pub whole : text ≡ before ++ rest
-  pub ends : EndsLine before
-  pub none : All (λ b. (b == 37) ≡ false) before
-  pub some : 0 < length rest
-
--- the first line of a text, and what stands behind its line feed, which is nothing where it has none
-abbrev pub IsFirstLine : List ℕ → List ℕ → List ℕ → Type 0
-IsFirstLine text line behind = IsCut 10 text line behind ⊎ (All (λ b. (b == 10) ≡ false) text × (line ≡ text) × (behind ≡ []))
-
--- the first part of a text, and what stands behind the line that ends it
-pub record IsFirstPart (text part behind : List ℕ) : Type 0 where
-  pub parts : parts_of_text text ≡ part ∷ parts_of_text behind
-  pub shorter : length behind < length text

@@ -1,7 +1,8 @@
 //! The parts of an input.
 ghost use Rattle.std.specs.Prelude.{◌≡◌, ◌==◌, ◌≤◌, ◌-◌, ◌∷◌, [], false, length, drop, take, map, All, IfOk, MatchOption};
 ghost use Rattle.std.specs.Cow.{cow_slice_items};
-ghost use Rattle.bundle_text.specs.Parts.{separates, without_return, between_feeds, lines_of, parts_of_text, EndsLine, IsFromSign, IsFirstLine, IsFirstPart};
+ghost use Rattle.bundle_text.specs.Parts.{separates, without_return, between_feeds, lines_of, parts_of_text};
+ghost use Rattle.bundle_text.specs.Cutting.{EndsLine, IsFromSign, IsFirstLine, IsFirstPart};
 
 use card_digits::cut;
 use memchr::{memchr, memrchr};
