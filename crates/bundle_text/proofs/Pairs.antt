@@ -1,4 +1,4 @@
--- One part, two parts, and any other number of them.
+-- One part, two, three, and other numbers of them.
 use Rattle.std.proofs.Common.{◌≡◌, ◌≢◌, ℕ, List, [], ◌∷◌, map, length, get_or, Bor, Result, Err, refl, ap, arith}
 use Rattle.bundle_text.specs.Answers.{Said, check_parts, parts_fault, IsMadeOfParts, IsDecodedParts}
 
@@ -13,6 +13,13 @@ two [] a b h x y = absurd (omega arith)
 two (u ∷ []) a b h x y = absurd (omega arith)
 two (u ∷ v ∷ []) a b h x y = rw (x, y) refl
 two (u ∷ v ∷ w ∷ parts) a b h x y = absurd (omega arith)
+
+pub three : (parts : List (Bor (List ℕ))) (a b c : Bor (List ℕ)) → length parts ≡ 3 → a ≡ get_or parts 0 a → b ≡ get_or parts 1 b → c ≡ get_or parts 2 c → map (λ p. p.now) parts ≡ a.now ∷ b.now ∷ c.now ∷ []
+three [] a b c h x y z = absurd (omega arith)
+three (u ∷ []) a b c h x y z = absurd (omega arith)
+three (u ∷ v ∷ []) a b c h x y z = absurd (omega arith)
+three (u ∷ v ∷ w ∷ []) a b c h x y z = rw (x, y, z) refl
+three (u ∷ v ∷ w ∷ r ∷ parts) a b c h x y z = absurd (omega arith)
 
 pub one : (parts : List (Bor (List ℕ))) (d : Bor (List ℕ)) → length parts ≡ 1 → map (λ p. p.now) parts ≡ (get_or parts 0 d).now ∷ []
 one [] d h = absurd (omega arith)

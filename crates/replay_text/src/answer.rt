@@ -166,7 +166,7 @@ fn write_read<W: Sink>(
     }
 }
 
-#[tactic(auto, using(crate::proofs::Parts::not_three, crate::proofs::Parts::three))]
+#[tactic(auto, using(crate::proofs::Parts::not_three, bundle_text::proofs::Pairs::three))]
 fn write_parts<W: Sink>(
     alloc: Global,
     parts: &[&[u8]],

@@ -88,7 +88,7 @@ fn read_answer<R: Threads + Wait + Sync>(
     }
 }
 
-#[tactic(auto, using(crate::proofs::Parts::of_others, crate::proofs::Parts::three))]
+#[tactic(auto, using(crate::proofs::Parts::of_others, bundle_text::proofs::Pairs::three))]
 fn answer_of<R: Threads + Wait + Sync>(
     rt: &R,
     alloc: Global,
