@@ -6,7 +6,7 @@ ghost use Rattle.rank_cert.specs.Reading.{cert_in};
 
 use crate::answer::{Answer, Status};
 use crate::faults::{cert_fault_line, table_fault_line};
-use crate::input_parts::{parts, text_of};
+use crate::input_parts::{parts, without_carriage_returns};
 use crate::refusals::refusal_line;
 use net_rows::Tables;
 use net_tables::read_tables;
@@ -95,7 +95,7 @@ fn check_both(alloc: Global, tables: &[u8], ranks: &[u8]) -> Result<Answer, Allo
 pub fn check_answer(alloc: Global, input: &[u8]) -> Result<Answer, AllocError>
     ensures { IfOk result (λ a. Answers a (check_said input.now)) }
 {
-    let text = text_of(alloc, input)?;
+    let text = without_carriage_returns(alloc, input)?;
     let parts = parts(alloc, &text)?;
     check_of(alloc, &parts)
 }

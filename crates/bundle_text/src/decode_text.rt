@@ -4,7 +4,7 @@ ghost use Rattle.card_digits.specs.Lines.{lines};
 ghost use Rattle.bundle_text.specs.Answers.{DecodeAnswers, IsDecoded, IsDecodedParts, Wrote, WroteFront, decode_status, parts_fault};
 
 use crate::answer::Status;
-use crate::input_parts::{parts, text_of};
+use crate::input_parts::{parts, without_carriage_returns};
 use card_digits::{Sink, write_all};
 use message_text::{PrintFault, decode_frames, decode_lines};
 use std::alloc::Global;
@@ -79,7 +79,7 @@ fn write_text<W: Sink>(alloc: Global, input: &[u8], writer: &mut W) -> Result<St
     ensures failed { result ≡ Err PrintFault.Write → 0 < W.failures writer.new }
     ensures memory { result ≡ Err PrintFault.Memory → W.written writer.new ≡ W.written writer.old }
 {
-    let Ok(text) = text_of(alloc, input) else {
+    let Ok(text) = without_carriage_returns(alloc, input) else {
         return Err(PrintFault::Memory);
     };
     let Ok(parts) = parts(alloc, &text) else {

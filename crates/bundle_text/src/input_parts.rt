@@ -18,7 +18,7 @@ fn without_return(line: &[u8]) -> &[u8]
     }
 }
 
-fn without_returns(alloc: Global, input: &[u8]) -> Result<Vec<u8>, AllocError>
+fn copy_without_returns(alloc: Global, input: &[u8]) -> Result<Vec<u8>, AllocError>
     ensures { IfOk result (λ text. between_feeds text.items ≡ lines_of input.now) }
 {
     let mut text = Vec::with_capacity(alloc, input.len())?;
@@ -34,13 +34,13 @@ fn without_returns(alloc: Global, input: &[u8]) -> Result<Vec<u8>, AllocError>
 
 /// The input without the carriage return before each line feed. Only an input with carriage returns is copied.
 #[tactic(auto, using(crate::proofs::Trimming::no_returns))]
-pub fn text_of(alloc: Global, input: &[u8]) -> Result<CowSlice<'_, u8>, AllocError>
+pub fn without_carriage_returns(alloc: Global, input: &[u8]) -> Result<CowSlice<'_, u8>, AllocError>
     ensures { IfOk result (λ text. between_feeds (cow_slice_items text) ≡ lines_of input.now) }
 {
     if memchr(b'\r', input).is_none() {
         return Ok(CowSlice::Borrowed(input));
     }
-    Ok(CowSlice::Owned(without_returns(alloc, input)?))
+    Ok(CowSlice::Owned(copy_without_returns(alloc, input)?))
 }
 
 fn is_separator(line: &[u8]) -> bool
@@ -103,8 +103,8 @@ fn first_part(text: &[u8]) -> Option<(&[u8], &[u8])>
     None
 }
 
-/// The parts of a text, which lines `%%` separate, as slices of it. `text_of` drops carriage returns, and this doesn't. The cost is one
-/// search for per cent signs, and a look at each line that has one.
+/// The parts of a text, which lines `%%` separate, as slices of it. This drops no carriage returns: `without_carriage_returns` does. The
+/// cost is one search for per cent signs, and a look at each line that has one.
 pub fn parts(alloc: Global, text: &[u8]) -> Result<Vec<&[u8]>, AllocError>
     ensures { IfOk result (λ v. map (λ p. p.now) v.items ≡ parts_of_text text.now) }
 {

@@ -16,7 +16,7 @@ pub use check_text::{
 };
 pub use decode_text::write_decoded;
 pub use faults::{cert_fault_line, table_fault_line};
-pub use input_parts::{parts, text_of};
+pub use input_parts::{parts, without_carriage_returns};
 pub use make_text::make_answer;
 pub use message_text::{MOST_WAITING, PrintFault, add_text, send};
 pub use names::{link_name, node_name};

@@ -8,7 +8,7 @@ ghost use Rattle.bundle_text.specs.Answers.{IsMade, IsMadeOf, IsMadeOfParts, Mak
 use crate::answer::{Answer, Status};
 use crate::check_text::{fault_answer, parts_fault};
 use crate::faults::table_fault_line;
-use crate::input_parts::{parts, text_of};
+use crate::input_parts::{parts, without_carriage_returns};
 use crate::names::NamedNodes;
 use card_digits::{NodeNo, Prefix};
 use net_rows::Tables;
@@ -97,7 +97,7 @@ fn make_of(alloc: Global, parts: &[&[u8]]) -> Result<Answer, AllocError>
 pub fn make_answer(alloc: Global, input: &[u8]) -> Result<Answer, AllocError>
     ensures { IfOk result (MakeAnswers input.now) }
 {
-    let text = text_of(alloc, input)?;
+    let text = without_carriage_returns(alloc, input)?;
     let parts = parts(alloc, &text)?;
     make_of(alloc, &parts)
 }

@@ -19,7 +19,7 @@ use crate::faults::script_fault_line;
 use crate::steps::write_traces;
 use bundle_text::{
     Answer, PrintFault, Status, cert_fault_line, check_memory_answer, fault_answer, parts,
-    parts_fault, refused_answer, table_fault_line, text_of, write_answer,
+    parts_fault, refused_answer, table_fault_line, without_carriage_returns, write_answer,
 };
 use card_digits::Sink;
 use net_replay::{ReplayFault, Traces, replay};
@@ -196,7 +196,7 @@ pub fn write_replayed<W: Sink>(
     ensures failed { result ≡ Err PrintFault.Write → 0 < W.failures writer.new }
     ensures memory { result ≡ Err PrintFault.Memory → W.written writer.new ≡ W.written writer.old }
 {
-    let Ok(text) = text_of(alloc, &input) else {
+    let Ok(text) = without_carriage_returns(alloc, &input) else {
         return Err(PrintFault::Memory);
     };
     let Ok(parts) = parts(alloc, &text) else {

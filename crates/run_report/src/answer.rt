@@ -11,7 +11,7 @@ use crate::fault_lines::run_fault_line;
 use crate::text_run::run_plan_text;
 use bundle_text::{
     Answer, Status, cert_fault_line, check_memory_answer, fault_answer, parts, parts_fault,
-    refused_answer, table_fault_line, text_of,
+    refused_answer, table_fault_line, without_carriage_returns,
 };
 use net_rows::Tables;
 use net_tables::read_tables;
@@ -111,7 +111,7 @@ pub fn run_answer<R: Threads + Wait + Sync>(
 ) -> Result<Answer, AllocError>
     ensures { IfOk result (λ a. RunAnswers input.now a) }
 {
-    let text = text_of(alloc, input)?;
+    let text = without_carriage_returns(alloc, input)?;
     let parts = parts(alloc, &text)?;
     answer_of(rt, alloc, &parts)
 }

@@ -1,7 +1,7 @@
 use Rattle.std.proofs.Common.{◌++◌, ◌∷◌, [], ℕ, List, ap, sym, subst, ◌∙◌}
 use Rattle.bundle_text.specs.Parts.{between_feeds}
 use Rattle.bundle_text.proofs.Trimming.{IsSoFar, line_on, finished}
-use Rattle.bundle_text.proofs.input_parts.without_returns.Goals as goal
+use Rattle.bundle_text.proofs.input_parts.copy_without_returns.Goals as goal
 
 pub loop-line-preserved : goal.loop-line-preserved
 loop-line-preserved c =
