@@ -12,7 +12,7 @@ ghost use Rattle.step_draft.specs.Outputs.{spelled_in};
 ghost use Rattle.step_draft.specs.SoFar.{approved_in};
 
 use crate::output::Output;
-use crate::outputs::Outputs;
+use crate::outputs::{NoOutputs, Outputs, SharedOutputs};
 use book_index::Sums;
 use card_digits::LinkNo;
 use entry_changes::Changes;
@@ -37,6 +37,7 @@ pub struct Draft {
     spelling: Vec<u8>,
     /// The bytes that were taken or spelled last. What comes is often put out or kept with the same bytes.
     at_hand: Option<SharedBytes>,
+    no_outputs: NoOutputs,
 }
 
 impl Model for Draft {
@@ -92,10 +93,11 @@ fn spelled_packet(
 
 impl Draft {
     /// Nothing was done to these books.
-    pub fn new(alloc: Global, books: Books) -> Draft
-        ensures { result ≡ record { base = books.lists; effects = [] } }
+    pub fn new(alloc: Global, books: Books) -> Result<Draft, AllocError>
+        ensures { IfOk result (λ d. d ≡ record { base = books.lists; effects = [] }) }
     {
-        Draft {
+        let no_outputs = NoOutputs::new(alloc)?;
+        Ok(Draft {
             alloc,
             books,
             effects: Changes::new(alloc),
@@ -103,7 +105,8 @@ impl Draft {
             outs: Vec::new(alloc),
             spelling: Vec::new(alloc),
             at_hand: None,
-        }
+            no_outputs,
+        })
     }
 
     /// The books as they were before the entry.
@@ -235,17 +238,25 @@ impl Draft {
         Ok(())
     }
 
-    /// All that was done is done to the books, and its outputs are handed out; or it is as before.
-    pub fn commit(&mut self) -> Result<Outputs, AllocError>
+    /// All that was done is done to the books, and its outputs are handed out; or, where memory is refused, nothing was done.
+    pub fn commit(&mut self) -> Result<SharedOutputs, AllocError>
         requires few { AreFew (progress self.old).lists }
         ensures outs { IfOk result (λ outs. outs ≡ spelled_in self.old.effects) }
         ensures done { OnOk result (self.new ≡ record { base = (progress self.old).lists; effects = [] }) }
-        ensures err { OnErr result (self.new ≡ self.old) }
+        ensures err { OnErr result (self.new ≡ record { base = self.old.base; effects = [] }) }
     {
-        self.books.reserve(self.effects.len())?;
+        let Ok(()) = self.books.reserve(self.effects.len()) else {
+            self.rollback();
+            return Err(AllocError);
+        };
+        let Ok(outputs) = self.no_outputs.kept(self.alloc, &mut self.outs) else {
+            self.effects.clear();
+            self.late_uses = Sums::new(self.alloc);
+            return Err(AllocError);
+        };
         self.effects.apply_to(&mut self.books);
         self.late_uses = Sums::new(self.alloc);
-        Ok(Outputs::take(self.alloc, &mut self.outs))
+        Ok(outputs)
     }
 
     /// Nothing was done.

@@ -17,5 +17,5 @@ mod used;
 pub use advice::Advice;
 pub use draft::Draft;
 pub use output::Output;
-pub use outputs::Outputs;
+pub use outputs::{Outputs, SharedOutputs};
 pub use timers::Cause;

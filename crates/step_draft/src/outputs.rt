@@ -6,6 +6,7 @@ use std::alloc::{AllocError, Global};
 use std::marker::Model;
 use std::mem::replace;
 use std::slice::from_ref;
+use std::sync::Arc;
 
 /// How outputs are kept.
 #[derive(Drop)]
@@ -32,6 +33,17 @@ impl Model for Outputs {
     ghost view = { λ o. held_outputs o.held };
 }
 
+fn all_shared(alloc: Global, outputs: &[Output]) -> Result<Vec<Output>, AllocError>
+    ensures { IfOk result (λ v. v.items ≡ outputs.now) }
+{
+    let mut again = Vec::with_capacity(alloc, outputs.len())?;
+    for output in outputs {
+        let one = output.share()?;
+        again.push(one)?;
+    }
+    Ok(again)
+}
+
 impl Outputs {
     /// No outputs.
     pub fn new() -> Outputs
@@ -46,20 +58,12 @@ impl Outputs {
     pub(crate) fn shared(alloc: Global, outputs: &[Output]) -> Result<Outputs, AllocError>
         ensures { IfOk result (λ o. o ≡ outputs.now) }
     {
-        if outputs.len() == 1 {
-            let one = outputs[0].share()?;
-            return Ok(Outputs {
-                held: Held::One(one),
-            });
-        }
-        let mut several = Vec::new(alloc);
-        for output in outputs {
-            let again = output.share()?;
-            several.push(again)?;
-        }
-        Ok(Outputs {
-            held: Held::Several(several),
-        })
+        let held = match outputs.len() {
+            0 => Held::Nothing,
+            1 => Held::One(outputs[0].share()?),
+            _ => Held::Several(all_shared(alloc, outputs)?),
+        };
+        Ok(Outputs { held })
     }
 
     /// What stands in a list, which is empty afterwards.
@@ -98,5 +102,85 @@ impl Outputs {
             Held::One(output) => from_ref(output),
             Held::Several(outputs) => outputs.as_slice(),
         }
+    }
+}
+
+/// Outputs with several owners. An entry holds its outputs so: in eight bytes, since most entries of a busy trace are ticks without any.
+#[derive(Drop)]
+pub struct SharedOutputs {
+    outputs: Arc<Outputs>,
+}
+
+impl Model for SharedOutputs {
+    ghost use Rattle.std.specs.Prelude.{List};
+    ghost use Rattle.network_law.specs.Entries.{Output};
+
+    ghost Value = { List Output };
+
+    ghost view = { λ s. s.outputs.value };
+}
+
+impl SharedOutputs {
+    /// These outputs, with one owner.
+    pub(crate) fn new(alloc: Global, outputs: Outputs) -> Result<SharedOutputs, AllocError>
+        ensures { IfOk result (λ s. s ≡ outputs) }
+    {
+        match Arc::new(alloc, outputs) {
+            Ok(outputs) => Ok(SharedOutputs { outputs }),
+            Err(_) => Err(AllocError),
+        }
+    }
+
+    /// One owner more. It is refused only where there are as many owners as can be counted.
+    pub(crate) fn share(&self) -> Result<SharedOutputs, AllocError>
+        ensures { IfOk result (λ s. s ≡ self.now) }
+    {
+        let outputs = self.outputs.clone()?;
+        Ok(SharedOutputs { outputs })
+    }
+
+    pub fn outputs(&self) -> &Outputs
+        ensures { result.now ≡ self.now }
+    {
+        &self.outputs
+    }
+}
+
+/// The outputs of entries without any, which all such entries hold.
+#[derive(Drop)]
+pub(crate) struct NoOutputs {
+    none: SharedOutputs,
+}
+
+impl Model for NoOutputs {
+    ghost use Rattle.std.specs.Prelude.{◌≡◌, List, []};
+    ghost use Rattle.network_law.specs.Entries.{Output};
+
+    ghost Value = { List Output };
+
+    ghost view = { λ n. n.none };
+
+    ghost invariant = { λ n. n.none ≡ [] };
+}
+
+impl NoOutputs {
+    pub(crate) fn new(alloc: Global) -> Result<NoOutputs, AllocError> {
+        let none = SharedOutputs::new(alloc, Outputs::new())?;
+        Ok(NoOutputs { none })
+    }
+
+    /// What an entry with these outputs holds. The list is empty afterwards, also where memory is refused.
+    pub(crate) fn kept(
+        &self,
+        alloc: Global,
+        outputs: &mut Vec<Output>,
+    ) -> Result<SharedOutputs, AllocError>
+        ensures kept { IfOk result (λ s. s ≡ outputs.old.items) }
+        ensures empty { outputs.new.items ≡ [] }
+    {
+        if outputs.is_empty() {
+            return self.none.share();
+        }
+        SharedOutputs::new(alloc, Outputs::take(alloc, outputs))
     }
 }

@@ -3,13 +3,13 @@ ghost use Rattle.std.specs.Prelude.{◌≡◌};
 
 use crate::input::Input;
 use std::marker::Model;
-use step_draft::Outputs;
+use step_draft::{Outputs, SharedOutputs};
 
 /// An input and what the node put out for it.
 #[derive(Drop)]
 pub struct Entry {
     input: Input,
-    outputs: Outputs,
+    outputs: SharedOutputs,
 }
 
 impl Model for Entry {
@@ -21,7 +21,7 @@ impl Model for Entry {
 }
 
 impl Entry {
-    pub fn new(input: Input, outputs: Outputs) -> Entry
+    pub fn new(input: Input, outputs: SharedOutputs) -> Entry
         ensures { result ≡ record { input = input; outputs = outputs } }
     {
         Entry { input, outputs }
@@ -38,6 +38,6 @@ impl Entry {
     pub fn outputs(&self) -> &Outputs
         ensures { result.now ≡ self.now.outputs }
     {
-        &self.outputs
+        self.outputs.outputs()
     }
 }

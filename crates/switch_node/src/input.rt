@@ -15,15 +15,15 @@ pub struct BoxedLending {
 }
 
 impl Model for BoxedLending {
-    ghost use Rattle.std.specs.Prelude.{◌<◌};
-    ghost use Rattle.card_digits.specs.Digits.{IsCard, IsDateLabel};
+    ghost use Rattle.network_law.specs.Entries as entries;
+    ghost use Rattle.network_law.specs.Runs.{IsTyped};
     ghost use Rattle.step_rules.specs.declared.lending.Lending.{Lending};
 
     ghost Value = { Lending };
 
     ghost view = { λ b. b.order.value };
 
-    ghost invariant = { λ b. IsCard b.order.value.card × IsDateLabel b.order.value.date × (b.order.value.amount < 1000000000000) };
+    ghost invariant = { λ b. IsTyped (entries.Lend b.order.value.borrower b.order.value.card b.order.value.date b.order.value.amount) };
 }
 
 impl BoxedLending {

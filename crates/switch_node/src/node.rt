@@ -68,10 +68,11 @@ impl<'a> Node<'a> {
         let settings = tables.settings();
         let ticks = settings.advice_ticks;
         let books = Books::new(alloc, settings.date, tables.links().len(), ticks)?;
+        let draft = Draft::new(alloc, books)?;
         Ok(Node {
             tables,
             node,
-            draft: Draft::new(alloc, books),
+            draft,
             trace: Vec::new(alloc),
         })
     }
@@ -158,7 +159,6 @@ impl<'a> Node<'a> {
             return Err(StepFault::Memory);
         };
         let Ok(outputs) = self.draft.commit() else {
-            self.draft.rollback();
             out.clear();
             return Err(StepFault::Memory);
         };

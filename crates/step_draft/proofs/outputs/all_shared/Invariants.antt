@@ -1,5 +1,5 @@
 use Rattle.std.proofs.Common.{◌≡◌, ◌++◌, drop}
-use Rattle.step_draft.proofs.outputs.Outputs.shared.Given as goal
+use Rattle.step_draft.proofs.outputs.all_shared.Given as goal
 
 abbrev pub invariant-loop-output : goal.invariant-loop-output
-invariant-loop-output l = l.several.items ++ drop l.output-index l.outputs ≡ l.outputs
+invariant-loop-output l = l.again.items ++ drop l.output-index l.outputs ≡ l.outputs
