@@ -3,6 +3,7 @@ pub mod Ends
 pub mod Sent
 pub mod Reading
 pub mod Standing
+pub mod Merging
 pub mod Runs
 pub mod Outcomes
 pub mod Unread

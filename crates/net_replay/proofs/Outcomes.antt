@@ -1,6 +1,5 @@
 -- Steps to which lines lead, and faults, are those of the function.
-use Rattle.std.proofs.Common.{◌≡◌, ℕ, zero, suc, ◌<◌, List, [], ◌∷◌, length, Option, Some, None, Result, Ok, Err, Bool, true, false, cond, eqb, eqb-true, eq-eqb, refl, sym, ap, ◌∙◌, subst, inl, inr, ⊎_elim, ◌⊎◌}
-use Rattle.std.specs.Prelude.{slice_get}
+use Rattle.std.proofs.Common.{◌≡◌, ℕ, zero, suc, ◌<◌, List, [], ◌∷◌, length, Option, Some, None, Ok, Err, Bool, true, false, cond, eqb, eqb-true, refl, sym, ap, ◌∙◌, subst, inl, inr}
 use Rattle.std.specs.Option.{option_map}
 use Rattle.net_rows.specs.Network.{Network, other_end}
 use Rattle.network_law.specs.Cards.{Bytes}
@@ -8,8 +7,7 @@ use Rattle.network_law.specs.Checked.{IsChecked}
 use Rattle.network_law.specs.Tables.{is_link_of}
 use Rattle.network_law.specs.Entries.{Entry, Input}
 use Rattle.network_law.specs.Entries as inputs
-use Rattle.network_law.specs.Runs.{IsLegal, IsStep, step_refusal, step_outputs}
-use Rattle.network_law.specs.declared.fault.StepFault.{StepFault}
+use Rattle.network_law.specs.Runs.{IsLegal, IsStep, step_outputs}
 use Rattle.replay_script.specs.Lines.{Event, Said, Enter, Take, LinkUp, LinkDown, Tick, HostAnswer, NewDate, Lend, read_line}
 use Rattle.net_replay.specs.declared.fault.ReplayFault.{ReplayFault}
 use Rattle.net_replay.specs.declared.fault.ReplayFault.TheVariants.{Line, NoSuchPacket, Step as StepOf, Memory}

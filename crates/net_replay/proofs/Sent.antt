@@ -6,7 +6,6 @@ use Rattle.network_law.specs.Cards.{Bytes}
 use Rattle.network_law.specs.Checked.{IsChecked}
 use Rattle.network_law.specs.Tables.{is_link_of}
 use Rattle.switch_node.specs.Node.{NodeView}
-use Rattle.net_replay.specs.declared.traces.StepPlace.{StepPlace}
 use Rattle.net_replay.specs.Steps.{Step, entries_at, packets}
 use Rattle.network_law.specs.Entries.{Entry}
 use Rattle.net_replay.specs.declared.packets.PacketPlace.{PacketPlace}
@@ -45,8 +44,8 @@ abbrev pub packet_in : List Entry → List (List PacketPlace) → ℕ → ℕ �
 packet_in trace links l s = option_and_then (bytes_at (reverse trace)) (place_of links l s)
 
 -- what is kept for the other end is what it put there
-kept_is : (t : Network) (nodes : List NodeView) (sent : List (List (List PacketPlace))) (places : List StepPlace) (steps : List Step) → IsChecked t → IsAt t nodes sent places steps → (n l s : ℕ) → is_link_of t n l ≡ true → (links : List (List PacketPlace)) → slice_get sent (other_end t n l) ≡ Some links → packet_in (entries_at (other_end t n l) steps) links l s ≡ by_serial s (packets l (entries_at (other_end t n l) steps))
-kept_is t nodes sent places steps checked at n l s own links there =
+kept_is : (t : Network) (nodes : List NodeView) (sent : List (List (List PacketPlace))) (line_nodes : List ℕ) (steps : List Step) → IsChecked t → IsAt t nodes sent line_nodes steps → (n l s : ℕ) → is_link_of t n l ≡ true → (links : List (List PacketPlace)) → slice_get sent (other_end t n l) ≡ Some links → packet_in (entries_at (other_end t n l) steps) links l s ≡ by_serial s (packets l (entries_at (other_end t n l) steps))
+kept_is t nodes sent line_nodes steps checked at n l s own links there =
     let trace = entries_at (other_end t n l) steps in
     let k = at.sent_are.1 (other_end t n l) (end_there t checked n l own) in
     let same : k.0 ≡ links = some_is k.0 links (sym k.1 ∙ there) in
@@ -54,20 +53,20 @@ kept_is t nodes sent places steps checked at n l s own links there =
     let found : slice_get links l ≡ Some on.0 = ap (λ z. slice_get z l) (sym same) ∙ on.1 in
     ap (λ z. option_and_then (bytes_at (reverse trace)) (option_and_then (by_serial s) z)) found ∙ read_at (reverse trace) on.0 (packets l trace) s on.2
 
-pub kept_was_sent : (t : Network) (nodes : List NodeView) (sent : List (List (List PacketPlace))) (places : List StepPlace) (steps : List Step) → IsChecked t → IsAt t nodes sent places steps → (n l s : ℕ) → is_link_of t n l ≡ true → (links : List (List PacketPlace)) → slice_get sent (other_end t n l) ≡ Some links → (bytes : Bytes) → packet_in (entries_at (other_end t n l) steps) links l s ≡ Some bytes → WasSent t steps n l s bytes
-kept_was_sent t nodes sent places steps checked at n l zero own links there bytes e = absurd (no (sym (kept_is t nodes sent places steps checked at n l zero own links there) ∙ e))
+pub kept_was_sent : (t : Network) (nodes : List NodeView) (sent : List (List (List PacketPlace))) (line_nodes : List ℕ) (steps : List Step) → IsChecked t → IsAt t nodes sent line_nodes steps → (n l s : ℕ) → is_link_of t n l ≡ true → (links : List (List PacketPlace)) → slice_get sent (other_end t n l) ≡ Some links → (bytes : Bytes) → packet_in (entries_at (other_end t n l) steps) links l s ≡ Some bytes → WasSent t steps n l s bytes
+kept_was_sent t nodes sent line_nodes steps checked at n l zero own links there bytes e = absurd (no (sym (kept_is t nodes sent line_nodes steps checked at n l zero own links there) ∙ e))
   where
     no : ◌≡◌ {A = Option Bytes} None (Some bytes) → ⊥
     no p = cc
-kept_was_sent t nodes sent places steps checked at n l (suc s) own links there bytes e =
+kept_was_sent t nodes sent line_nodes steps checked at n l (suc s) own links there bytes e =
     let less = end_there t checked n l own in
-    packet_was_put t checked (other_end t n l) less (entries_at (other_end t n l) steps) (at.legal (other_end t n l) less) l s bytes (sym (kept_is t nodes sent places steps checked at n l (suc s) own links there) ∙ e)
+    packet_was_put t checked (other_end t n l) less (entries_at (other_end t n l) steps) (at.legal (other_end t n l) less) l s bytes (sym (kept_is t nodes sent line_nodes steps checked at n l (suc s) own links there) ∙ e)
 
-pub sent_is_kept : (t : Network) (nodes : List NodeView) (sent : List (List (List PacketPlace))) (places : List StepPlace) (steps : List Step) → IsChecked t → IsAt t nodes sent places steps → (n l s : ℕ) → is_link_of t n l ≡ true → (links : List (List PacketPlace)) → slice_get sent (other_end t n l) ≡ Some links → packet_in (entries_at (other_end t n l) steps) links l s ≡ None → (bytes : Bytes) → WasSent t steps n l s bytes → ⊥
-sent_is_kept t nodes sent places steps checked at n l s own links there e bytes w =
+pub sent_is_kept : (t : Network) (nodes : List NodeView) (sent : List (List (List PacketPlace))) (line_nodes : List ℕ) (steps : List Step) → IsChecked t → IsAt t nodes sent line_nodes steps → (n l s : ℕ) → is_link_of t n l ≡ true → (links : List (List PacketPlace)) → slice_get sent (other_end t n l) ≡ Some links → packet_in (entries_at (other_end t n l) steps) links l s ≡ None → (bytes : Bytes) → WasSent t steps n l s bytes → ⊥
+sent_is_kept t nodes sent line_nodes steps checked at n l s own links there e bytes w =
     let less = end_there t checked n l own in
     let p = put_is_packet t checked (other_end t n l) less (entries_at (other_end t n l) steps) (at.legal (other_end t n l) less) l s bytes w in
-    no (sym e ∙ (kept_is t nodes sent places steps checked at n l s own links there ∙ (ap (λ z. by_serial z (packets l (entries_at (other_end t n l) steps))) p.1 ∙ p.2)))
+    no (sym e ∙ (kept_is t nodes sent line_nodes steps checked at n l s own links there ∙ (ap (λ z. by_serial z (packets l (entries_at (other_end t n l) steps))) p.1 ∙ p.2)))
   where
     no : ◌≡◌ {A = Option Bytes} None (Some bytes) → ⊥
     no q = cc

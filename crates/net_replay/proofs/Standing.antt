@@ -15,7 +15,6 @@ use Rattle.replay_script.specs.Lines.{Said}
 use Rattle.net_replay.specs.declared.fault.ReplayFault.TheVariants.{Memory}
 use Rattle.net_replay.specs.Replays.{IsInput, IsSaidFault, fault_of}
 use Rattle.switch_node.specs.Node.{NodeView}
-use Rattle.net_replay.specs.declared.traces.StepPlace.{StepPlace}
 use Rattle.net_replay.specs.Steps.{Step, entries_at, packets, packets_in}
 use Rattle.step_draft.specs.Outputs.{bytes_of}
 use Rattle.net_replay.specs.declared.packets.PacketPlace.{PacketPlace}
@@ -25,12 +24,12 @@ use Rattle.net_replay.proofs.Serials.{get_left}
 
 -- an element of a list is replaced
 
-get_same : {X : Type 0} (xs : List X) (i : ℕ) (v : X) → i < length xs → slice_get (set xs i v) i ≡ Some v
+pub get_same : {X : Type 0} (xs : List X) (i : ℕ) (v : X) → i < length xs → slice_get (set xs i v) i ≡ Some v
 get_same [] i v less = absurd (omega (arith, less))
 get_same (x ∷ xs) zero v less = refl
 get_same (x ∷ xs) (suc i) v less = get_same xs i v (omega (arith, less))
 
-get_other : {X : Type 0} (xs : List X) (i j : ℕ) (v : X) → (i ≡ j → ⊥) → slice_get (set xs i v) j ≡ slice_get xs j
+pub get_other : {X : Type 0} (xs : List X) (i j : ℕ) (v : X) → (i ≡ j → ⊥) → slice_get (set xs i v) j ≡ slice_get xs j
 get_other [] i j v ne = refl
 get_other (x ∷ xs) zero zero v ne = absurd (ne refl)
 get_other (x ∷ xs) zero (suc j) v ne = refl
@@ -40,7 +39,7 @@ get_other (x ∷ xs) (suc i) (suc j) v ne = get_other xs i j v (λ e. ne (ap suc
 pub get_or_set : {X : Type 0} (xs : List X) (i : ℕ) (v w : X) → i < length xs → get_or (set xs i v) i w ≡ v
 get_or_set xs i v w less = get_or_from_slice_get (set xs i v) i v w (get_same xs i v less)
 
-differ : (i j : ℕ) → eqb i j ≡ false → i ≡ j → ⊥
+pub differ : (i j : ℕ) → eqb i j ≡ false → i ≡ j → ⊥
 differ i j f e = no (sym f ∙ eq-eqb i j e)
   where
     no : false ≡ true → ⊥
@@ -166,13 +165,13 @@ entries_same n e steps = rw (eq-eqb n n refl) refl
 entries_other : (n m : ℕ) (e : Entry) (steps : List Step) → eqb n m ≡ false → entries_at m (record { node = n; entry = e } ∷ steps) ≡ entries_at m steps
 entries_other n m e steps other = rw other refl
 
-pub one_more : (t : Network) (nodes : List NodeView) (sent : List (List (List PacketPlace))) (places : List StepPlace) (steps : List Step) → IsAt t nodes sent places steps
+pub one_more : (t : Network) (nodes : List NodeView) (sent : List (List (List PacketPlace))) (line_nodes : List ℕ) (steps : List Step) → IsAt t nodes sent line_nodes steps
     → (n : ℕ) → n < length t.nodes → (e : Entry) → IsStep t n (entries_at n steps) e → (links : List (List PacketPlace)) → slice_get sent n ≡ Some links
-    → IsAt t (set nodes n (record { t = t; n = n; trace = e ∷ entries_at n steps })) (set sent n (put_all links (length (entries_at n steps)) 0 e.outputs)) (places ++ (record { node = n; entry = length (entries_at n steps) }) ∷ []) (record { node = n; entry = e } ∷ steps)
-one_more t nodes sent places steps at n less e step links there = record {
+    → IsAt t (set nodes n (record { t = t; n = n; trace = e ∷ entries_at n steps })) (set sent n (put_all links (length (entries_at n steps)) 0 e.outputs)) (line_nodes ++ n ∷ []) (record { node = n; entry = e } ∷ steps)
+one_more t nodes sent line_nodes steps at n less e step links there = record {
   nodes_are = (length-set nodes n now ∙ at.nodes_are.0, λ m lm. node m (eqb n m) refl lm);
   sent_are = (length-set sent n (put_all links (length (entries_at n steps)) 0 e.outputs) ∙ at.sent_are.0, λ m lm. put m (eqb n m) refl lm);
-  places_are = ap (λ z. z ++ (record { node = n; entry = length (entries_at n steps) }) ∷ []) at.places_are;
+  line_nodes_are = ap (λ z. z ++ n ∷ []) at.line_nodes_are;
   there = (less, at.there);
   legal = λ m lm. right m (eqb n m) refl lm;
 }
@@ -234,11 +233,11 @@ refused t steps number x i NotLent aside brings (inr is) = (refl, (i, brings, is
 
 -- what stands at the place of a node
 
-pub node_at : (t : Network) (nodes : List NodeView) (sent : List (List (List PacketPlace))) (places : List StepPlace) (steps : List Step) → IsAt t nodes sent places steps → (n : ℕ) → n < length t.nodes → (place : ℕ) (v : NodeView) → place ≡ n → v ≡ get_or nodes place v → v ≡ record { t = t; n = n; trace = entries_at n steps }
-node_at t nodes sent places steps at n less place v is e = e ∙ (ap (λ z. get_or nodes z v) is ∙ get_or_from_slice_get nodes n (record { t = t; n = n; trace = entries_at n steps }) v (at.nodes_are.1 n less))
+pub node_at : (t : Network) (nodes : List NodeView) (sent : List (List (List PacketPlace))) (line_nodes : List ℕ) (steps : List Step) → IsAt t nodes sent line_nodes steps → (n : ℕ) → n < length t.nodes → (place : ℕ) (v : NodeView) → place ≡ n → v ≡ get_or nodes place v → v ≡ record { t = t; n = n; trace = entries_at n steps }
+node_at t nodes sent line_nodes steps at n less place v is e = e ∙ (ap (λ z. get_or nodes z v) is ∙ get_or_from_slice_get nodes n (record { t = t; n = n; trace = entries_at n steps }) v (at.nodes_are.1 n less))
 
-pub links_at : (t : Network) (nodes : List NodeView) (sent : List (List (List PacketPlace))) (places : List StepPlace) (steps : List Step) → IsAt t nodes sent places steps → (n : ℕ) → n < length t.nodes → (place : ℕ) (v : List (List PacketPlace)) → place ≡ n → v ≡ get_or sent place v → slice_get sent n ≡ Some v
-links_at t nodes sent places steps at n less place v is e =
+pub links_at : (t : Network) (nodes : List NodeView) (sent : List (List (List PacketPlace))) (line_nodes : List ℕ) (steps : List Step) → IsAt t nodes sent line_nodes steps → (n : ℕ) → n < length t.nodes → (place : ℕ) (v : List (List PacketPlace)) → place ≡ n → v ≡ get_or sent place v → slice_get sent n ≡ Some v
+links_at t nodes sent line_nodes steps at n less place v is e =
     let k = at.sent_are.1 n less in
     k.1 ∙ ap Some (sym (e ∙ (ap (λ z. get_or sent z v) is ∙ get_or_from_slice_get sent n k.0 v k.1)))
 

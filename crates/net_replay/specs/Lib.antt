@@ -3,4 +3,5 @@ pub mod Packets
 pub mod Replays
 pub mod Outcome
 pub mod Traces
+pub mod Merged
 pub mod Running

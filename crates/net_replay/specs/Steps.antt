@@ -1,7 +1,6 @@
 -- Steps, one after another, at the nodes of a network.
 use Rattle.std.specs.Prelude.{ℕ, ◌==◌, List, [], ◌∷◌, ◌++◌, if◌then◌else◌}
 use Rattle.network_law.specs.Cards.{Bytes}
-use Rattle.network_law.specs.Traces.{IsIn}
 use Rattle.network_law.specs.Entries.{Entry, Output, Put, Answer, Ask, Post}
 
 -- an entry of a node's trace

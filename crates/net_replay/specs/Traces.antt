@@ -1,14 +1,13 @@
 -- Traces as contracts see them.
-use Rattle.std.specs.Prelude.{ℕ, ◌≡◌, ◌<◌, List, [], ◌∷◌, ◌++◌, length, Option, Some, None, slice_get, reverse, option_and_then, ⊤}
+use Rattle.std.specs.Prelude.{ℕ, ◌≡◌, ◌<◌, List, [], ◌∷◌, ◌++◌, length, Option, Some, None, slice_get, ⊤}
 use Rattle.network_law.specs.Entries.{Entry}
 use Rattle.net_rows.specs.Network.{Network}
 use Rattle.switch_node.specs.Node.{NodeView}
-use Rattle.net_replay.specs.declared.traces.StepPlace.{StepPlace}
 use Rattle.net_replay.specs.Steps.{Step, entries_at}
 
 pub record TracesView : Type 0 where
   pub nodes : List NodeView
-  pub places : List StepPlace
+  pub line_nodes : List ℕ
 
 abbrev pub trace_or_none : Option NodeView → List Entry
 trace_or_none None = []
@@ -18,18 +17,14 @@ trace_or_none (Some a) = a.trace
 abbrev pub trace_of : TracesView → ℕ → List Entry
 trace_of v n = trace_or_none (slice_get v.nodes n)
 
--- the entry at a place; of the trace of a node the oldest entry has place 0
-abbrev pub entry_at : TracesView → StepPlace → Option Entry
-entry_at v p = option_and_then (λ (a : NodeView). slice_get (reverse a.trace) p.entry) (slice_get v.nodes p.node)
-
 -- there is a node of the tables for each number, and its trace is that of the steps
 abbrev pub AreNodes : Network → List Step → List NodeView → Type 0
 AreNodes t steps nodes = (length nodes ≡ length t.nodes) × ((n : ℕ) → n < length t.nodes → slice_get nodes n ≡ Some (record { t = t; n = n; trace = entries_at n steps }))
 
--- where the entries of the steps stand; the newest step stands first, and its place last
-abbrev pub places_of : List Step → List StepPlace
-places_of [] = []
-places_of (s ∷ steps) = places_of steps ++ (record { node = s.node; entry = length (entries_at s.node steps) }) ∷ []
+-- the nodes of steps; the newest step stands first, and its node last
+abbrev pub nodes_of : List Step → List ℕ
+nodes_of [] = []
+nodes_of (s ∷ steps) = nodes_of steps ++ s.node ∷ []
 
 -- each step is that of a node of the tables
 abbrev pub AreThere : Network → List Step → Type 0
@@ -38,5 +33,5 @@ AreThere t (s ∷ steps) = (s.node < length t.nodes) × AreThere t steps
 
 pub record AreTraces (t : Network) (steps : List Step) (v : TracesView) : Type 0 where
   pub nodes : AreNodes t steps v.nodes
-  pub places : v.places ≡ places_of steps
+  pub line_nodes : v.line_nodes ≡ nodes_of steps
   pub there : AreThere t steps

@@ -5,8 +5,10 @@ mod fault;
 mod packets;
 mod run;
 mod running;
+mod steps;
 mod traces;
 
 pub use fault::ReplayFault;
 pub use run::replay;
-pub use traces::{StepPlace, Traces};
+pub use steps::{LineStep, Steps};
+pub use traces::Traces;

@@ -12,7 +12,7 @@ ghost use Rattle.net_replay.specs.Replays.{fault_of};
 
 use crate::fault::ReplayFault;
 use crate::packets::{Packets, bytes_at};
-use crate::traces::{StepPlace, Traces};
+use crate::traces::Traces;
 use card_digits::{LinkNo, NodeNo};
 use net_rows::Tables;
 use network_law::StepFault;
@@ -22,14 +22,14 @@ use std::alloc::{AllocError, Global};
 use switch_node::{Case, Input, Node};
 use table_checker::Accepted;
 
-/// The nodes, what each has put on its links, and where the entries of the lines stand.
+/// The nodes, what each has put on its links, and the node of each line that was run.
 #[derive(Drop)]
 pub(crate) struct Running<'a> {
     alloc: Global,
     tables: &'a Tables,
     nodes: Vec<Node<'a>>,
     sent: Vec<Packets>,
-    places: Vec<StepPlace>,
+    line_nodes: Vec<NodeNo>,
 }
 
 fn step_fault(number: usize, fault: StepFault) -> ReplayFault
@@ -58,7 +58,7 @@ impl<'a> Running<'a> {
             tables,
             nodes,
             sent,
-            places: Vec::new(alloc),
+            line_nodes: Vec::new(alloc),
         })
     }
 
@@ -118,11 +118,7 @@ impl<'a> Running<'a> {
         }
         let outputs = self.nodes[place].newest_outputs();
         self.sent[place].put_all(entry, outputs)?;
-        let stands = StepPlace {
-            node: line.node,
-            entry,
-        };
-        if self.places.push(stands).is_err() {
+        if self.line_nodes.push(line.node).is_err() {
             return Err(ReplayFault::Memory);
         }
         Ok(())
@@ -131,6 +127,6 @@ impl<'a> Running<'a> {
     pub(crate) fn traces(self) -> Traces<'a>
         ensures { (steps : List Step) → IsStanding self.entry steps → AreTraces self.entry.tables.now steps result }
     {
-        Traces::new(self.nodes, self.places)
+        Traces::new(self.nodes, self.line_nodes)
     }
 }

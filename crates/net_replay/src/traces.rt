@@ -1,25 +1,21 @@
 //! What comes of a script.
-ghost use Rattle.std.specs.Prelude.{◌≡◌};
-ghost use Rattle.std.specs.Option.{option_copied};
-ghost use Rattle.net_replay.specs.Traces.{entry_at};
+ghost use Rattle.std.specs.Prelude.{◌≡◌, ◌<◌, ◌^◌, List, IfOk, length, reverse};
+ghost use Rattle.net_rows.specs.Network.{Network};
+ghost use Rattle.net_replay.specs.Steps.{Step};
+ghost use Rattle.net_replay.specs.Traces.{AreTraces};
 
+use crate::steps::Steps;
 use card_digits::NodeNo;
+use std::alloc::{AllocError, Global};
 use std::marker::Model;
-use switch_node::{Entry, Node};
+use switch_node::Node;
 
-/// Where the entry of a line stands.
-#[derive(Clone, Copy, Debug, PartialEq, Eq)]
-pub struct StepPlace {
-    pub node: NodeNo,
-    /// In the node's trace, from 0; a trace has at most 1,000,000 entries.
-    pub entry: u32,
-}
-
-/// The nodes with their traces, in the order of the tables, and for each line of the script where its entry stands.
+/// The nodes with their traces, in the order of the tables, and for each line of the script its node. The entries of a node stand in its
+/// trace in the order of its lines.
 #[derive(Drop)]
 pub struct Traces<'a> {
     nodes: Vec<Node<'a>>,
-    places: Vec<StepPlace>,
+    line_nodes: Vec<NodeNo>,
 }
 
 impl<'a> Model for Traces<'a> {
@@ -27,14 +23,14 @@ impl<'a> Model for Traces<'a> {
 
     ghost Value = { TracesView };
 
-    ghost view = { λ r. record { nodes = r.nodes.items; places = r.places.items } };
+    ghost view = { λ r. record { nodes = r.nodes.items; line_nodes = r.line_nodes.items } };
 }
 
 impl<'a> Traces<'a> {
-    pub(crate) fn new(nodes: Vec<Node<'a>>, places: Vec<StepPlace>) -> Traces<'a>
-        ensures { result ≡ record { nodes = nodes.entry.items; places = places.items } }
+    pub(crate) fn new(nodes: Vec<Node<'a>>, line_nodes: Vec<NodeNo>) -> Traces<'a>
+        ensures { result ≡ record { nodes = nodes.entry.items; line_nodes = line_nodes.items } }
     {
-        Traces { nodes, places }
+        Traces { nodes, line_nodes }
     }
 
     /// The nodes, in the order of the tables.
@@ -44,18 +40,19 @@ impl<'a> Traces<'a> {
         self.nodes.as_slice()
     }
 
-    /// Where the entries of the lines stand, in the order of the lines.
-    pub fn places(&self) -> &[StepPlace]
-        ensures { result.now ≡ self.now.places }
+    /// The node of each line, in the order of the lines.
+    pub fn line_nodes(&self) -> &[NodeNo]
+        ensures { result.now ≡ self.now.line_nodes }
     {
-        self.places.as_slice()
+        self.line_nodes.as_slice()
     }
 
-    /// The entry at a place, or none where nothing stands.
-    pub fn entry(&self, place: StepPlace) -> Option<&Entry>
-        ensures { option_copied result ≡ entry_at self.now place }
+    /// The steps of the lines. Memory is taken for one slice of each node, and none while they are gone through.
+    pub fn steps(&self, alloc: Global) -> Result<Steps<'_>, AllocError>
+        // Those of the script, the oldest first.
+        ensures steps { IfOk result (λ s. (t : Network) (steps : List Step) → AreTraces t steps self.now → s ≡ reverse steps) }
+        ensures few { IfOk result (λ s. length s < 2 ^ 63) }
     {
-        let node = self.nodes.get(place.node.place())?;
-        node.trace().get(place.entry as usize)
+        Steps::new(alloc, self.nodes.as_slice(), self.line_nodes.as_slice())
     }
 }

@@ -2,9 +2,9 @@
 use Rattle.std.proofs.Common.{◌≡◌, ℕ, suc, ◌+◌, ◌<◌, arith, List, [], ◌∷◌, ◌++◌, length, drop, get_or, Option, sym, ap, subst, ◌∙◌, append_assoc}
 use Rattle.std.proofs.lemmas.List.{at_drop_more}
 use Rattle.net_rows.specs.Network.{Network}
-use Rattle.net_replay.specs.declared.traces.StepPlace.{StepPlace}
-use Rattle.net_replay.specs.Traces.{TracesView}
-use Rattle.replay_text.specs.Placed.{place_text, placed_text}
+use Rattle.net_replay.specs.Steps.{Step}
+use Rattle.replay_text.specs.Lines.{step_text}
+use Rattle.replay_text.specs.Ordered.{ordered_text}
 use Rattle.replay_text.specs.Fronts.{SendsFront}
 use Rattle.std.specs.Io.KnownBytes.{Appends}
 use Rattle.std.proofs.KnownBytes.{Appends-trans}
@@ -45,13 +45,11 @@ next_text F text step xs i d done all less e = ap (λ z. done ++ z) (sym (step (
 pub next_item : {X : Type 0} (F : List X → List ℕ) (text : X → List ℕ) → ((x : X) (xs : List X) → F (x ∷ xs) ≡ text x ++ F xs) → (xs : List X) (i : ℕ) (x : X) (done all : List ℕ) → i < length xs → x ≡ get_or xs i x → done ++ F (drop i xs) ≡ all → done ++ (text x ++ F (drop (i + 1) xs)) ≡ all
 next_item F text step xs i x done all less is e = ap (λ z. done ++ (text z ++ F (drop (i + 1) xs))) is ∙ next_text F text step xs i x done all less e
 
-pub next_place : (t : Network) (v : TracesView) (ps : List StepPlace) (i : ℕ) (p : StepPlace) (done all : List ℕ) → i < length ps → p ≡ get_or ps i p → done ++ placed_text t v (suc i) (drop i ps) ≡ all → done ++ (place_text t v (i + 1) p ++ placed_text t v (suc (i + 1)) (drop (i + 1) ps)) ≡ all
-next_place t v ps i p done all less is e =
-    let same : i + 1 ≡ suc i = omega arith in
-    ap (λ k. done ++ (place_text t v k p ++ placed_text t v (suc k) (drop (i + 1) ps))) same
-    ∙ (ap (λ z. done ++ (place_text t v (suc i) z ++ placed_text t v (suc (suc i)) (drop (i + 1) ps))) is
-    ∙ (ap (λ z. done ++ z) (sym (at_drop_more (placed_text t v (suc i)) ps i p less))
-    ∙ e))
+-- a step more of those in the order of their lines
+pub next_ordered : (t : Network) (number : ℕ) (s : Step) (old new : List Step) (done all : List ℕ) → old ≡ s ∷ new → done ++ ordered_text t (number + 1) old ≡ all → done ++ (step_text t (number + 1) s ++ ordered_text t (number + 1 + 1) new) ≡ all
+next_ordered t number s old new done all is e =
+    let more : number + 1 + 1 ≡ suc (number + 1) = omega arith in
+    ap (λ k. done ++ (step_text t (number + 1) s ++ ordered_text t k new)) more ∙ (ap (λ z. done ++ ordered_text t (number + 1) z) (sym is) ∙ e)
 
 -- all that went out and what waits
 pub all_sent : (a b c : Option (List ℕ)) (w text : List ℕ) → Sends a b [] text w → Appends b c w → Appends a c text

@@ -1,4 +1,4 @@
 pub mod Lines
-pub mod Placed
+pub mod Ordered
 pub mod Fronts
 pub mod Answers

@@ -1,5 +1,5 @@
 //! What the nodes put out for the lines of a script.
-ghost use Rattle.std.specs.Prelude.{◌≡◌, ◌<◌, List, [], Err, OnOk, OnErr};
+ghost use Rattle.std.specs.Prelude.{◌≡◌, ◌<◌, ◌^◌, List, [], length, Err, OnOk, OnErr};
 ghost use Rattle.std.specs.List.{flat_map};
 ghost use Rattle.std.specs.Io.KnownBytes.{Appends};
 ghost use Rattle.card_digits.specs.Stream.{AppendsFront};
@@ -8,13 +8,13 @@ ghost use Rattle.net_replay.specs.Steps.{Step};
 ghost use Rattle.net_replay.specs.Traces.{AreTraces};
 ghost use Rattle.replay_text.specs.Fronts.{SendsFront};
 ghost use Rattle.replay_text.specs.Lines.{output_text, step_text, steps_text};
-ghost use Rattle.replay_text.specs.Placed.{place_text, placed_text};
+ghost use Rattle.replay_text.specs.Ordered.{ordered_text};
 
 use crate::sending::add_pieces;
 use bundle_text::{MOST_WAITING, PrintFault, link_name, node_name, send};
 use card_digits::{NodeNo, Sink, WriteFault};
 use itoa::Buffer;
-use net_replay::{StepPlace, Traces};
+use net_replay::{Steps, Traces};
 use net_rows::Tables;
 use request_book::Way;
 use std::alloc::Global;
@@ -85,42 +85,23 @@ fn add_step<W: Sink>(
     add_outputs(writer, waiting, tables, entry.outputs().as_slice())
 }
 
-/// Adds the lines of the step at a place.
-fn add_place<W: Sink>(
+/// Writes the steps that are left, behind nothing that waits.
+fn write_steps<W: Sink>(
     writer: &mut W,
     waiting: &mut Vec<u8>,
     tables: &Tables,
-    traces: &Traces<'_>,
-    number: u64,
-    place: StepPlace,
+    steps: &mut Steps<'_>,
 ) -> Result<(), WriteFault>
-    ensures ok { OnOk result (Sends (W.written writer.old) (W.written writer.new) waiting.old.items (place_text tables.now traces.now number place) waiting.new.items) }
-    ensures err { OnErr result (SendsFront (W.written writer.old) (W.written writer.new) waiting.old.items (place_text tables.now traces.now number place)) }
+    requires nothing { waiting.old.items ≡ [] }
+    requires few { length steps.old < 2 ^ 63 }
+    ensures ok { OnOk result (Appends (W.written writer.old) (W.written writer.new) (ordered_text tables.now 1 steps.old)) }
+    ensures err { OnErr result (AppendsFront (W.written writer.old) (W.written writer.new) (ordered_text tables.now 1 steps.old)) }
     ensures failed { OnErr result (0 < W.failures writer.new) }
 {
-    let node = place.node;
-    match traces.entry(place) {
-        Some(entry) => add_step(writer, waiting, tables, number, node, entry),
-        None => Ok(()),
-    }
-}
-
-/// Writes the steps at all places, behind nothing that waits.
-fn write_places<W: Sink>(
-    writer: &mut W,
-    waiting: &mut Vec<u8>,
-    tables: &Tables,
-    traces: &Traces<'_>,
-) -> Result<(), WriteFault>
-    requires { waiting.old.items ≡ [] }
-    ensures ok { OnOk result (Appends (W.written writer.old) (W.written writer.new) (placed_text tables.now traces.now 1 traces.now.places)) }
-    ensures err { OnErr result (AppendsFront (W.written writer.old) (W.written writer.new) (placed_text tables.now traces.now 1 traces.now.places)) }
-    ensures failed { OnErr result (0 < W.failures writer.new) }
-{
-    let places = traces.places();
-    for index in 0..places.len() {
-        let number = index as u64 + 1;
-        add_place(writer, waiting, tables, traces, number, places[index])?;
+    let mut number = 0u64;
+    while let Some(step) = steps.next_step() {
+        number += 1;
+        add_step(writer, waiting, tables, number, step.node, step.entry)?;
     }
     send(writer, waiting)
 }
@@ -141,7 +122,10 @@ pub fn write_traces<W: Sink>(
     let Ok(mut waiting) = Vec::with_capacity(alloc, MOST_WAITING) else {
         return Err(PrintFault::Memory);
     };
-    match write_places(writer, &mut waiting, tables, traces) {
+    let Ok(mut steps) = traces.steps(alloc) else {
+        return Err(PrintFault::Memory);
+    };
+    match write_steps(writer, &mut waiting, tables, &mut steps) {
         Ok(()) => Ok(()),
         Err(_) => Err(PrintFault::Write),
     }

@@ -4,7 +4,7 @@ use net_tables::read_tables;
 use rank_cert::read_cert;
 use request_book::Way;
 use sample_networks::Sample;
-use std::alloc::Global;
+use std::alloc::{AllocError, Global};
 use std::test::Fail;
 use switch_node::Output;
 use table_checker::check;
@@ -55,30 +55,35 @@ fn text(wanted: Wanted) -> &'static str {
     }
 }
 
-fn outputs<'r>(traces: &'r Traces, step: usize) -> Option<&'r [Output]> {
-    let stands = traces.places().get(step)?;
-    let node = traces.nodes().get(stands.node.place())?;
-    let entry = node.trace().get(stands.entry as usize)?;
-    Some(entry.outputs().as_slice())
+/// What the lines made their nodes put out, line by line.
+fn outputs_of<'r>(alloc: Global, traces: &'r Traces) -> Result<Vec<&'r [Output]>, AllocError> {
+    let mut left = traces.steps(alloc)?;
+    let mut outputs = Vec::new(alloc);
+    for _ in traces.line_nodes() {
+        if let Some(step) = left.next_step() {
+            outputs.push(step.entry.outputs().as_slice())?;
+        }
+    }
+    Ok(outputs)
 }
 
 fn is_step(traces: &Traces, step: usize, node: usize) -> bool {
-    match traces.places().get(step) {
-        Some(stands) => stands.node.place() == node,
+    match traces.line_nodes().get(step) {
+        Some(found) => found.place() == node,
         None => false,
     }
 }
 
 /// How many outputs a step has, none where there is no such step.
-fn count(traces: &Traces, step: usize) -> usize {
-    match outputs(traces, step) {
+fn count(made: &[&[Output]], step: usize) -> usize {
+    match made.get(step) {
         Some(outputs) => outputs.len(),
         None => 0,
     }
 }
 
-fn is_output(traces: &Traces, step: usize, place: usize, wanted: Wanted) -> bool {
-    match outputs(traces, step) {
+fn is_output(made: &[&[Output]], step: usize, place: usize, wanted: Wanted) -> bool {
+    match made.get(step) {
         Some(outputs) => match outputs.get(place) {
             Some(output) => goes(output.way(), wanted) && output.bytes() == text(wanted).as_bytes(),
             None => false,
@@ -88,21 +93,21 @@ fn is_output(traces: &Traces, step: usize, place: usize, wanted: Wanted) -> bool
 }
 
 /// The first line of what is expected that isn't met. All steps and outputs have to be named.
-fn compared(traces: &Traces, all: &[Wanted]) -> End {
+fn compared(traces: &Traces, made: &[&[Output]], all: &[Wanted]) -> End {
     let mut steps: usize = 0;
     let mut named: usize = 0;
     let mut line: usize = 0;
     for wanted in all {
         let met = match *wanted {
             Wanted::Step(node) => {
-                let whole = steps == 0 || count(traces, steps - 1) == named;
+                let whole = steps == 0 || count(made, steps - 1) == named;
                 steps = steps.saturating_add(1);
                 named = 0;
                 whole && is_step(traces, steps - 1, node)
             }
             _ => {
                 named = named.saturating_add(1);
-                steps > 0 && is_output(traces, steps - 1, named - 1, *wanted)
+                steps > 0 && is_output(made, steps - 1, named - 1, *wanted)
             }
         };
         if !met {
@@ -110,8 +115,8 @@ fn compared(traces: &Traces, all: &[Wanted]) -> End {
         }
         line = line.saturating_add(1);
     }
-    let whole = steps == 0 || count(traces, steps - 1) == named;
-    if !whole || traces.places().len() != steps {
+    let whole = steps == 0 || count(made, steps - 1) == named;
+    if !whole || made.len() != steps {
         return End::Wrong(line);
     }
     End::AsWanted
@@ -127,7 +132,10 @@ pub(crate) fn end_of(alloc: Global, script: &[u8], all: &[Wanted]) -> Result<End
         return Err("not accepted".into());
     };
     match replay(alloc, &accepted, script) {
-        Ok(traces) => Ok(compared(&traces, all)),
+        Ok(traces) => {
+            let made = outputs_of(alloc, &traces)?;
+            Ok(compared(&traces, made.as_slice(), all))
+        }
         Err(fault) => Ok(End::Fault(fault)),
     }
 }

@@ -1,12 +1,9 @@
-use Rattle.std.proofs.Common.{◌≡◌, [], List, Ok, Err, subst, sym}
+use Rattle.std.proofs.Common.{[], subst}
 use Rattle.std.proofs.lemmas.Result.{IfOk-weaker, IfErr-weaker}
 use Rattle.card_digits.specs.Lines.{lines}
 use Rattle.net_rows.specs.Network.{Network}
-use Rattle.network_law.specs.Checked.{IsChecked}
-use Rattle.net_replay.specs.Steps.{Step}
 use Rattle.net_replay.specs.Replays.{Leads, Fails}
-use Rattle.net_replay.specs.Outcome.{outcome}
-use Rattle.net_replay.specs.Traces.{TracesView, AreTraces}
+use Rattle.net_replay.specs.Traces.{AreTraces}
 use Rattle.net_replay.proofs.Outcomes.{leads_outcome, fails_outcome}
 use Rattle.net_replay.proofs.run.replay.Goals as goal
 

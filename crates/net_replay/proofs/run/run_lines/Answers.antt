@@ -44,6 +44,6 @@ returns-clause-run c =
     let inv = c.loop-line.invariant in
     let t = c.args.tables.now in
     let none = c.in_default.ensures.line in
-    let at : IsAt t c.loop-line.running.nodes.items c.loop-line.running.sent.items c.loop-line.running.places.items inv.0 = subst (λ (z : Network). IsAt z c.loop-line.running.nodes.items c.loop-line.running.sent.items c.loop-line.running.places.items inv.0) inv.2 inv.1.1 in
+    let at : IsAt t c.loop-line.running.nodes.items c.loop-line.running.sent.items c.loop-line.running.line_nodes.items inv.0 = subst (λ (z : Network). IsAt z c.loop-line.running.nodes.items c.loop-line.running.sent.items c.loop-line.running.line_nodes.items inv.0) inv.2 inv.1.1 in
     let are = subst (λ (z : Network). AreTraces z inv.0 c.traces.result) inv.2 (c.traces.ensures inv.0 inv.1) in
     are_run t (subst IsChecked c.requires.tables c.requires.standing.0) (lines c.args.script.now) inv.0 c.traces.result (inv.4 inv.0 (none_left t inv.0 c.loop-line.unread.number c.loop-line.unread.lines (sym none))) are at.legal

@@ -28,7 +28,7 @@ returns-clause-standing c =
       record {
         nodes_are = (inv.0 ∙ end, λ n less. inv.2 n (omega (arith, less, end)));
         sent_are = (inv.1 ∙ end, λ n less. (replicate (length t.links) [], inv.3 n (omega (arith, less, end)), none_put (length t.links)));
-        places_are = c.new-2.ensures.items;
+        line_nodes_are = c.new-2.ensures.items;
         there = tt;
         legal = λ n less. tt;
       },

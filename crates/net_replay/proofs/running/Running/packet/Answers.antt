@@ -24,12 +24,12 @@ returns c steps standing =
     let less = end_there t standing.0 c.args.node c.args.link c.requires.own in
     let at = slice_get_read c.args.self.now.sent.items (length c.args.self.now.sent.items) c.place-other.result c.index.result.now refl (omega (arith, place, less, standing.1.sent_are.0)) c.index.ensures in
     let there : slice_get c.args.self.now.sent.items far ≡ Some c.index.result.now = ap (slice_get c.args.self.now.sent.items) (sym place) ∙ at in
-    let view = node_at t c.args.self.now.nodes.items c.args.self.now.sent.items c.args.self.now.places.items steps standing.1 far less c.place-other.result c.index-2.result.now place c.index-2.ensures in
+    let view = node_at t c.args.self.now.nodes.items c.args.self.now.sent.items c.args.self.now.line_nodes.items steps standing.1 far less c.place-other.result c.index-2.result.now place c.index-2.ensures in
     let trace : c.trace.result.now ≡ reverse past = sym (reverse-reverse c.trace.result.now) ∙ ap reverse (c.trace.ensures.trace ∙ ap (λ (v : NodeView). v.trace) view) in
     let read : option_copied c.bytes_at.result ≡ packet_in past c.index.result.now c.args.link c.args.serial = c.bytes_at.ensures ∙ (ap (λ z. option_and_then (bytes_at z) c.get-place.result) trace ∙ ap (option_and_then (bytes_at (reverse past))) c.get-place.ensures) in
     go c.bytes_at.result past
-    (kept_was_sent t c.args.self.now.nodes.items c.args.self.now.sent.items c.args.self.now.places.items steps standing.0 standing.1 c.args.node c.args.link c.args.serial c.requires.own c.index.result.now there)
-    (sent_is_kept t c.args.self.now.nodes.items c.args.self.now.sent.items c.args.self.now.places.items steps standing.0 standing.1 c.args.node c.args.link c.args.serial c.requires.own c.index.result.now there)
+    (kept_was_sent t c.args.self.now.nodes.items c.args.self.now.sent.items c.args.self.now.line_nodes.items steps standing.0 standing.1 c.args.node c.args.link c.args.serial c.requires.own c.index.result.now there)
+    (sent_is_kept t c.args.self.now.nodes.items c.args.self.now.sent.items c.args.self.now.line_nodes.items steps standing.0 standing.1 c.args.node c.args.link c.args.serial c.requires.own c.index.result.now there)
     read
   where
     go : (r : Option (Bor (List ℕ))) (past : List Entry) → ((bytes : Bytes) → packet_in past c.index.result.now c.args.link c.args.serial ≡ Some bytes → WasSent c.args.self.now.tables.now steps c.args.node c.args.link c.args.serial bytes)

@@ -30,7 +30,7 @@ advance-requires c =
     let steps = c.requires.standing.0 in
     let at = c.requires.standing.1.1 in
     let placed = line_placed t c.requires.said.0 _ c.requires.said.1 in
-    let view = node_at t c.args.self.now.nodes.items c.args.self.now.sent.items c.args.self.now.places.items steps at n placed.0 c.place-place.result c.index_mut.result.now c.place-place.ensures.place c.index_mut.ensures.value in
+    let view = node_at t c.args.self.now.nodes.items c.args.self.now.sent.items c.args.self.now.line_nodes.items steps at n placed.0 c.place-place.result c.index_mut.result.now c.place-place.ensures.place c.index_mut.ensures.value in
     record { own = subst (λ (v : NodeView). NamesOwnLink v.t v.n c.in_ok-input.input) (sym view) (own_input t steps n (event_of c.args.line.now.command) c.in_ok-input.input (c.in_ok-input.ensures.input steps c.requires.standing.1) placed.1) }
 
 pub returns-in-Err-clause-fault : goal.returns-in-Err-clause-fault
@@ -39,7 +39,7 @@ returns-in-Err-clause-fault c aside steps standing =
     let n = c.args.line.now.node in
     let at = standing.1 in
     let placed = line_placed t c.requires.said.0 _ c.requires.said.1 in
-    let view = node_at t c.args.self.now.nodes.items c.args.self.now.sent.items c.args.self.now.places.items steps at n placed.0 c.place-place.result c.index_mut.result.now c.place-place.ensures.place c.index_mut.ensures.value in
+    let view = node_at t c.args.self.now.nodes.items c.args.self.now.sent.items c.args.self.now.line_nodes.items steps at n placed.0 c.place-place.result c.index_mut.result.now c.place-place.ensures.place c.index_mut.ensures.value in
     subst (IsSaidFault t steps c.args.number (said c.args.line.now)) (sym c.step_fault.ensures)
     (refused t steps c.args.number (said c.args.line.now) c.in_ok-input.input c.in-Err.fault (λ e. aside (c.step_fault.ensures ∙ e)) (c.in_ok-input.ensures.input steps standing)
     (subst (λ (v : NodeView). (c.in-Err.fault ≡ NoMemory) ⊎ (step_refusal v.t v.n v.trace c.in_ok-input.input ≡ Some c.in-Err.fault)) view c.in-Err.ensures.fault))
@@ -55,9 +55,9 @@ returns-clause-made c steps standing =
     let placed = line_placed t c.requires.said.0 _ c.requires.said.1 in
     let es : List Entry = entries_at n steps in
     let e : Entry = record { input = c.in_ok-input.input; outputs = step_outputs t n es c.in_ok-input.input } in
-    let view = node_at t c.args.self.now.nodes.items c.args.self.now.sent.items c.args.self.now.places.items steps at n placed.0 c.place-place.result c.index_mut.result.now c.place-place.ensures.place c.index_mut.ensures.value in
-    let first = node_at t c.args.self.now.nodes.items c.args.self.now.sent.items c.args.self.now.places.items steps at n placed.0 c.place-place.result c.index.result.now c.place-place.ensures.place c.index.ensures in
-    let links = links_at t c.args.self.now.nodes.items c.args.self.now.sent.items c.args.self.now.places.items steps at n placed.0 c.place-place.result c.index_mut-2.result.now c.place-place.ensures.place c.index_mut-2.ensures.value in
+    let view = node_at t c.args.self.now.nodes.items c.args.self.now.sent.items c.args.self.now.line_nodes.items steps at n placed.0 c.place-place.result c.index_mut.result.now c.place-place.ensures.place c.index_mut.ensures.value in
+    let first = node_at t c.args.self.now.nodes.items c.args.self.now.sent.items c.args.self.now.line_nodes.items steps at n placed.0 c.place-place.result c.index.result.now c.place-place.ensures.place c.index.ensures in
+    let links = links_at t c.args.self.now.nodes.items c.args.self.now.sent.items c.args.self.now.line_nodes.items steps at n placed.0 c.place-place.result c.index_mut-2.result.now c.place-place.ensures.place c.index_mut-2.ensures.value in
     let input = c.in_ok-input.ensures.input steps standing in
     let step : IsStep t n es e = record {
       own = own_input t steps n (event_of c.args.line.now.command) c.in_ok-input.input input placed.1;
@@ -72,5 +72,5 @@ returns-clause-made c steps standing =
     let entry : c.in-Ok.entry ≡ length es = c.in-Ok.ensures.1 ∙ len in
     let sent : c.put_all.new.self ≡ put_all c.index_mut-2.result.now (length es) 0 e.outputs = c.in_ok-put_all.ensures ∙ (ap (λ k. put_all c.index_mut-2.result.now k 0 c.newest_outputs-outputs.result.now) entry ∙ ap (put_all c.index_mut-2.result.now (length es) 0) outs) in
     let ok : is_ok c.push.result ≡ true = c.is_err.ensures.negation ∙ ap not c.if-is_err.false in
-    let pushed : c.push.new.self.items ≡ c.args.self.now.places.items ++ (record { node = n; entry = length es }) ∷ [] = c.push.ensures.items ∙ rw ok (ap (λ z. c.args.self.now.places.items ++ (record { node = n; entry = z }) ∷ []) entry) in
-    (record { node = n; entry = e }, record { node = refl; input = input; step = step }, (standing.0, rw (c.place-place.ensures.place, now, sent, pushed) (one_more t c.args.self.now.nodes.items c.args.self.now.sent.items c.args.self.now.places.items steps at n placed.0 e step c.index_mut-2.result.now links)))
+    let pushed : c.push.new.self.items ≡ c.args.self.now.line_nodes.items ++ n ∷ [] = c.push.ensures.items ∙ rw ok refl in
+    (record { node = n; entry = e }, record { node = refl; input = input; step = step }, (standing.0, rw (c.place-place.ensures.place, now, sent, pushed) (one_more t c.args.self.now.nodes.items c.args.self.now.sent.items c.args.self.now.line_nodes.items steps at n placed.0 e step c.index_mut-2.result.now links)))
