@@ -30,7 +30,19 @@ pub enum OperateFault {
     Memory,
 }
 
-/// Makes the steps of the plan's loans; one that its node refuses is dropped.
+/// Makes the step of a loan at its lender's station. One that the node refuses is dropped.
+fn lend<R: Wait>(
+    rt: &R,
+    alloc: Global,
+    station: &Mutex<Station<'_>>,
+    loan: &Loan,
+) -> Result<(), AllocError> {
+    let case = Case::lend(alloc, loan.order)?;
+    let _ = station.lock(rt).apply(Input::new(case));
+    Ok(())
+}
+
+/// Makes the steps of the plan's loans.
 fn lend_all<R: Wait>(
     rt: &R,
     alloc: Global,
@@ -39,8 +51,7 @@ fn lend_all<R: Wait>(
 ) -> Result<(), AllocError> {
     for loan in loans {
         if let Some(station) = stations.get(loan.lender.place()) {
-            let case = Case::lend(alloc, loan.order)?;
-            let _ = station.lock(rt).apply(Input::new(case));
+            lend(rt, alloc, station, loan)?;
         }
     }
     Ok(())
