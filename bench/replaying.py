@@ -3,9 +3,11 @@
 
 usage: replaying.py [PROG [MIB..]]      (default: ./card_switch, at the top of the repository, and 1 4 16)
 
-Three kinds of script on two nodes: requests that are answered one after another; the same with 30,000 requests pending
-besides; and requests whose link goes down while they are under way, with their reversals and acknowledgements. A line of the
-table has the bytes and lines of the script, the seconds, lines a second, and the most memory by bytes of input.
+Three kinds of script: on two nodes requests that are answered one after another, and the same with 30,000 requests pending
+besides; and at each of four acquirers in turn requests whose link goes down while they are under way, with their reversals and
+acknowledgements. Four, since a node's history is full after 1,000,000 entries. A line of the table has the bytes and lines of the
+script, the seconds, lines a second, the most memory by bytes of input, and the same without what the program has for an empty script:
+its own code and libraries, and tables.
 """
 import os
 import subprocess
@@ -17,42 +19,84 @@ TOP = os.path.dirname(os.path.dirname(os.path.abspath(__file__)))
 MIB = 1 << 20
 
 
+ACQUIRERS = "ABCD"
+
+
 def part(name):
     with open(os.path.join(TOP, "examples", "first", name), encoding="ascii") as file:
         return file.read()
 
 
-def request(number):
-    return "enter A 0100722000010000800016411111111111111100000000000000100003140915%02d%06d06400001840" % (number // 1000000, number % 1000000)
+def two_nodes():
+    """The tables and ranks of one acquirer and one host."""
+    return part("tables.toml") + "%%\n" + part("ranks.txt") + "%%\n"
+
+
+def four_acquirers():
+    """The same tables with four acquirers instead of one, and their ranks."""
+    lines = ['[network]', 'currency = "840"', 'date = "0314"', 'host_ticks = 100', 'advice_ticks = 50']
+    for place, node in enumerate(ACQUIRERS + "H"):
+        lines += ['[[node]]', 'name = "%s"' % node, 'id = "%d"' % (1001 + place)]
+    for node in ACQUIRERS:
+        lines += ['[[link]]', 'name = "%sH"' % node, 'ends = ["%s", "H"]' % node, 'ticks = 3']
+    for node in ACQUIRERS:
+        lines += ['[[acquirer]]', 'id = "%s"' % acquirer(node), 'node = "%s"' % node]
+    lines += ['[[issuer]]', 'name = "I"', 'prefix = "4"', 'home = "H"', 'named = []', 'ceiling = 0']
+    for node in ACQUIRERS:
+        lines += ['[[route]]', 'node = "%s"' % node, 'prefix = "4"', 'links = ["%sH"]' % node]
+    ranks = ["RANKS 1"] + ["%s 4 1" % node for node in ACQUIRERS] + ["H 4 0", "END"]
+    return "\n".join(lines + ["%%"] + ranks + ["%%"]) + "\n"
+
+
+def acquirer(node):
+    """The acquirer's number (element 32) at a node."""
+    return "%d" % (400001 + ACQUIRERS.index(node))
+
+
+def request(number, node="A"):
+    trace = (number // 1000000, number % 1000000)
+    return "enter %s 0100722000010000800016411111111111111100000000000000100003140915%02d%06d06%s840" % ((node,) + trace + (acquirer(node),))
 
 
 def answered(number, serials):
     """A request to the host and back: four lines."""
-    serials["A"] += 1
-    serials["H"] += 1
-    serials["asks"] += 1
-    return [request(number), "take AH H %d" % serials["A"], "host H %d 00" % serials["asks"], "take AH A %d" % serials["H"]]
+    put = serials.put("A", "AH")
+    ask = serials.put("H", "asks")
+    return [request(number), "take AH H %d" % put, "host H %d 00" % ask, "take AH A %d" % serials.put("H", "AH")]
 
 
 def failed(number, serials):
-    """A request whose link goes down, and its reversal, which is acknowledged: six lines."""
-    serials["A"] += 1
-    lines = [request(number), "down AH A", "up AH A"]
+    """A request whose link goes down, and its reversal, which is acknowledged."""
+    node = ACQUIRERS[number % len(ACQUIRERS)]
+    link = node + "H"
+    serials.put(node, link)
+    lines = [request(number, node), "down %s %s" % (link, node), "up %s %s" % (link, node)]
     # The reversal is stored while the link is down, and goes out when it is due, fifty ticks later.
-    lines += ["tick A"] * 50
-    serials["A"] += 1
-    serials["H"] += 1
-    return lines + ["take AH H %d" % serials["A"], "take AH A %d" % serials["H"]]
+    lines += ["tick " + node] * 50
+    lines += ["take %s H %d" % (link, serials.put(node, link))]
+    return lines + ["take %s %s %d" % (link, node, serials.put("H", link))]
+
+
+class Serials:
+    """The serials that each node counts on each link, and its asks."""
+
+    def __init__(self):
+        self.counts = {}
+
+    def put(self, node, what):
+        """The next one."""
+        self.counts[node, what] = self.counts.get((node, what), 0) + 1
+        return self.counts[node, what]
 
 
 def script(kind, size):
-    serials = {"A": 0, "H": 0, "asks": 0}
+    serials = Serials()
     lines, length, number = [], 0, 0
     if kind == "pending":
         for number in range(1, 30001):
             if length > size // 2:
                 break
-            serials["A"] += 1
+            serials.put("A", "AH")
             lines.append(request(number))
             length += len(lines[-1]) + 1
     cycle = failed if kind == "failing" else answered
@@ -74,8 +118,8 @@ def most_memory(process):
     return int(peaks[0]) * 1024 if peaks else 0
 
 
-def measured(program, text):
-    """Seconds, the most memory and the status of a run. The kernel counts the memory of whoever starts a process as the process's too, until
+def measured(program, text, pause=0.001):
+    """Seconds, the most memory and the status of a run, whose memory is read again after each pause. The kernel counts the memory of whoever starts a process as the process's too, until
     it runs its own program, so what it says at the end would be that of this script for short inputs."""
     with tempfile.NamedTemporaryFile("w", encoding="ascii") as file:
         file.write(text)
@@ -86,7 +130,7 @@ def measured(program, text):
             memory = 0
             while process.poll() is None:
                 memory = max(memory, most_memory(process))
-                time.sleep(0.001)
+                time.sleep(pause)
             seconds = time.monotonic() - began
     return seconds, memory, process.returncode
 
@@ -94,13 +138,15 @@ def measured(program, text):
 def main():
     program = os.path.abspath(sys.argv[1]) if sys.argv[1:] else os.path.join(TOP, "card_switch")
     sizes = [int(word) for word in sys.argv[2:]] or [1, 4, 16]
-    front = part("tables.toml") + "%%\n" + part("ranks.txt") + "%%\n"
     for kind in ("answered", "pending", "failing"):
+        front = four_acquirers() if kind == "failing" else two_nodes()
+        # Such a run takes some milliseconds, so few of them are seen shortly before their end.
+        empty = max(measured(program, front, 0)[1] for _ in range(100))
         for size in sizes:
             text, lines = script(kind, size * MIB - len(front) - 4096)
             seconds, memory, status = measured(program, front + text)
             note = "" if status == 0 else "  status %d" % status
-            print("%-9s %8d bytes %7d lines %7.2f s %9d lines/s %5.1f times the input%s" % (kind, len(text), lines, seconds, lines / seconds, memory / len(text), note), flush=True)
+            print("%-9s %8d bytes %7d lines %7.2f s %9d lines/s %5.1f times the input %5.1f without its own%s" % (kind, len(text), lines, seconds, lines / seconds, memory / len(text), (memory - empty) / len(text), note), flush=True)
 
 
 main()
