@@ -1,6 +1,8 @@
-//! Tests of the codec against the format's table and messages that are written out.
+//! Tests of the codec against the format's table and messages that are written out, and of the text that says what was decoded.
 #![tactic(auto)]
 
+#[cfg(test)]
+mod blocks;
 #[cfg(test)]
 mod changed;
 #[cfg(test)]

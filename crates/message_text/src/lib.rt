@@ -10,6 +10,3 @@ mod sending;
 pub use answer::{decode_frames, decode_lines};
 pub use fault::PrintFault;
 pub use sending::{MOST_WAITING, add_text, send};
-
-#[cfg(test)]
-mod tests;

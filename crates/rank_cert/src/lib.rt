@@ -7,8 +7,6 @@ mod kept;
 mod read;
 mod row;
 mod runs;
-#[cfg(test)]
-mod tests;
 mod write;
 
 pub use cert::{Cert, Rank};

@@ -4,8 +4,6 @@
 mod command;
 mod line;
 mod script;
-#[cfg(test)]
-mod tests;
 mod words;
 
 pub use command::{Command, Loan, ScriptLine};

@@ -1,4 +1,3 @@
 //! The text of plans.
 mod lines;
 mod malformed;
-mod network;

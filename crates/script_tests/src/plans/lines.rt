@@ -1,5 +1,5 @@
 //! What plans say.
-use crate::plans::network::{in_a_line, with_acquirers};
+use crate::networks::{in_a_line, with_acquirers};
 use net_tables::Tables;
 use run_plan::{Delay, LinkFaults, Plan, PlanFault, read_plan};
 use std::alloc::Global;

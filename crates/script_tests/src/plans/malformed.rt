@@ -1,5 +1,5 @@
 //! Texts that are no plans.
-use crate::plans::network::in_a_line;
+use crate::networks::in_a_line;
 use net_tables::Tables;
 use run_plan::{PlanFault, read_plan};
 use std::alloc::Global;

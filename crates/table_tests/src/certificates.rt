@@ -1,5 +1,6 @@
-use crate::{Cert, CertFault, read_cert, write_cert};
+//! Certificates that are read, added to and written.
 use card_digits::{Name, Prefix};
+use rank_cert::{Cert, CertFault, read_cert, write_cert};
 use std::alloc::{AllocError, Global};
 use std::test::Fail;
 

@@ -1,74 +1,8 @@
-ghost use Rattle.std.specs.Prelude.{◌≡◌, length, IfOk};
-ghost use Rattle.std.specs.List.{AllByRecursion};
-ghost use Rattle.card_digits.specs.Digits.{IsId};
-ghost use Rattle.net_rows.specs.Sound.{AreEnds};
-
-use crate::{Command, MalformedLine, Script, read_line};
-use card_digits::{DateLabel, Id, Name, NodeNo, ShortBytes};
-use net_rows::{Link, Node, Settings, Tables};
-use std::alloc::Global;
+//! The lines of scripts.
+use crate::networks::all_linked;
+use net_rows::Tables;
+use replay_script::{Command, MalformedLine, Script, read_line};
 use std::test::Fail;
-
-fn name(text: &[u8]) -> Result<Name, Fail> {
-    Ok(Name::read(text).ok_or("name")?)
-}
-
-fn node(text: &[u8]) -> Result<Node, Fail>
-    ensures { IfOk result (λ n. IsId n.id) }
-{
-    let Some(id) = Id::read(b"1001") else {
-        return Err("id")?;
-    };
-    let name = name(text)?;
-    Ok(Node { name, id })
-}
-
-fn nodes(alloc: Global) -> Result<Vec<Node>, Fail>
-    ensures three { IfOk result (λ v. length v.items ≡ 3) }
-    ensures ids { IfOk result (λ v. AllByRecursion (λ n. IsId n.id) v.items) }
-{
-    let mut nodes = Vec::new(alloc);
-    nodes.push(node(b"A")?)?;
-    nodes.push(node(b"B")?)?;
-    nodes.push(node(b"H")?)?;
-    Ok(nodes)
-}
-
-/// One link, from A to H.
-fn links(alloc: Global) -> Result<Vec<Link>, Fail>
-    ensures one { IfOk result (λ v. length v.items ≡ 1) }
-    ensures ends { IfOk result (λ v. AreEnds 3 v.items) }
-{
-    let mut links = Vec::new(alloc);
-    links.push(Link {
-        name: name(b"AH")?,
-        from: NodeNo::new(0),
-        to: NodeNo::new(2),
-        ticks: 3,
-    })?;
-    Ok(links)
-}
-
-fn tables(alloc: Global) -> Result<Tables, Fail> {
-    let settings = Settings {
-        currency: ShortBytes::from_slice(b"840"),
-        date: DateLabel::read(b"0314").ok().ok_or("date")?,
-        host_ticks: 100,
-        advice_ticks: 50,
-    };
-    let (nodes, links) = (nodes(alloc)?, links(alloc)?);
-    let tables = Tables::new(
-        alloc,
-        settings,
-        nodes,
-        links,
-        Vec::new(alloc),
-        Vec::new(alloc),
-        Vec::new(alloc),
-        Vec::new(alloc),
-    )?;
-    Ok(tables)
-}
 
 /// The message that is entered, or the word of another command.
 fn word_of<'a>(command: &Command<'a>) -> &'a [u8] {
@@ -94,7 +28,7 @@ fn says(tables: &Tables, text: &[u8], node: usize, word: &[u8]) -> bool {
 
 #[test]
 fn reads_each_command(rt: HostRuntime) -> Result<(), Fail> {
-    let tables = tables(rt.alloc())?;
+    let tables = all_linked(rt.alloc())?;
     let cases: [(&[u8], usize, &[u8]); 12] = [
         (b"enter A 0100 rest", 0, b"0100 rest"),
         (b"enter B ", 1, b""),
@@ -117,7 +51,7 @@ fn reads_each_command(rt: HostRuntime) -> Result<(), Fail> {
 
 #[test]
 fn refuses_what_is_no_line(rt: HostRuntime) -> Result<(), Fail> {
-    let tables = tables(rt.alloc())?;
+    let tables = all_linked(rt.alloc())?;
     let cases: [&[u8]; 40] = [
         b"",
         b" ",
@@ -166,22 +100,22 @@ fn refuses_what_is_no_line(rt: HostRuntime) -> Result<(), Fail> {
     Ok(())
 }
 
-/// How many lines are read before the first that is malformed, and the number of that, 0 where there is none.
+/// How many of a few lines are read before the first that is malformed, and the number of that, 0 where there is none.
 fn first_malformed(tables: &Tables, text: &[u8]) -> (usize, usize) {
     let mut script = Script::new(text);
-    let mut read: usize = 0;
-    while let Some(line) = script.next_line(tables) {
-        match line {
-            Ok(_) => read = read.saturating_add(1),
-            Err(MalformedLine(number)) => return (read, number),
+    for read in 0..9 {
+        match script.next_line(tables) {
+            Some(Ok(_)) => {}
+            Some(Err(MalformedLine(number))) => return (read, number),
+            None => return (read, 0),
         }
     }
-    (read, 0)
+    (9, 0)
 }
 
 #[test]
 fn numbers_the_lines(rt: HostRuntime) -> Result<(), Fail> {
-    let tables = tables(rt.alloc())?;
+    let tables = all_linked(rt.alloc())?;
     assert!(rt; first_malformed(&tables, b"") == (0, 0));
     assert!(rt; first_malformed(&tables, b"tick A\ntick B") == (2, 0));
     assert!(rt; first_malformed(&tables, b"tick A\ntick B\n") == (2, 0));

@@ -1,4 +1,4 @@
-//! The tables that the plans of the tests are for.
+//! The tables that lines and plans of the tests are for.
 use net_tables::{Tables, read_tables};
 use sample_networks::Sample;
 use std::alloc::Global;
@@ -18,4 +18,10 @@ pub(crate) fn with_acquirers(alloc: Global, more: &str) -> Result<Tables, Fail> 
 /// A gate, a node and the home in a line. The one acquirer is 400001.
 pub(crate) fn in_a_line(alloc: Global) -> Result<Tables, Fail> {
     with_acquirers(alloc, "")
+}
+
+/// The gate A, B and H, each linked with the other two.
+pub(crate) fn all_linked(alloc: Global) -> Result<Tables, Fail> {
+    let text = Sample::SharedLimits.tables(alloc)?;
+    read(alloc, text.as_bytes())
 }

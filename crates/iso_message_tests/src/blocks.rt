@@ -1,6 +1,7 @@
-use super::*;
+//! The text of decoded messages.
 use card_digits::Counted;
-use std::test::*;
+use message_text::{decode_frames, decode_lines};
+use std::test::Fail;
 
 /// Whether the input's lines are answered so.
 fn answers(rt: &HostRuntime, input: &str, text: &str, good: bool) -> Result<bool, Fail> {
