@@ -50,17 +50,19 @@ fn kept_message_is_read_again(rt: HostRuntime) -> Result<(), Fail> {
     let message = kept.decode()?;
     assert!(rt; message.get(11) == Some(b"000001".as_slice()));
     assert!(rt; message.get(15) == Some(b"0314".as_slice()));
+    let mut room = Message::new(rt.alloc(), Kind::K0400);
+    kept.decode_into(&mut room)?;
+    assert!(rt; room.kind() == Kind::K0110);
+    assert!(rt; room.get(11) == Some(b"000001".as_slice()));
     Ok(())
 }
 
 #[test]
 fn bytes_at_hand_serve_for_the_same_alone(rt: HostRuntime) -> Result<(), Fail> {
-    let held = SharedBytes::from_slice(rt.alloc(), APPROVAL)?;
-    let same = SharedBytes::same_or_copy(rt.alloc(), Some(&held), APPROVAL)?;
-    assert!(rt; same.as_slice() == APPROVAL);
-    let other = SharedBytes::same_or_copy(rt.alloc(), Some(&held), b"0110")?;
-    assert!(rt; other.as_slice() == b"0110".as_slice());
-    let first = SharedBytes::same_or_copy(rt.alloc(), None, b"0110")?;
-    assert!(rt; first.as_slice() == b"0110".as_slice());
+    let mut at_hand = None;
+    for wanted in [APPROVAL, APPROVAL, b"0110"] {
+        let bytes = SharedBytes::at_hand_or_copy(rt.alloc(), &mut at_hand, wanted)?;
+        assert!(rt; bytes.as_slice() == wanted);
+    }
     Ok(())
 }

@@ -1,5 +1,5 @@
 //! Messages as the books keep them.
-ghost use Rattle.std.specs.Prelude.{◌≡◌, bytes_eq, IfOk};
+ghost use Rattle.std.specs.Prelude.{◌≡◌, bytes_eq, IfOk, OnOk};
 ghost use Rattle.iso_message.specs.Codes.{code_of};
 ghost use Rattle.iso_message.specs.Spelling.{spelling};
 
@@ -67,6 +67,17 @@ impl KeptMessage {
     {
         match decode(self.bytes.alloc(), self.bytes.as_slice()) {
             Ok(message) => Ok(message),
+            // The bytes spell a message, so nothing but memory can be wanting.
+            Err(_) => Err(AllocError),
+        }
+    }
+
+    /// Reads the message again of its bytes, in the place and the memory of another.
+    pub fn decode_into(&self, message: &mut Message) -> Result<(), AllocError>
+        ensures { OnOk result (message.new ≡ self.now) }
+    {
+        match message.read_again(self.bytes.as_slice()) {
+            Ok(()) => Ok(()),
             // The bytes spell a message, so nothing but memory can be wanting.
             Err(_) => Err(AllocError),
         }

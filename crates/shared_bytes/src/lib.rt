@@ -1,7 +1,7 @@
 //! Bytes that several owners hold.
 #![tactic(auto)]
 
-ghost use Rattle.std.specs.Prelude.{◌≡◌, IfOk};
+ghost use Rattle.std.specs.Prelude.{◌≡◌, Some, IfOk};
 
 use std::alloc::{AllocError, Global};
 use std::marker::Model;
@@ -53,18 +53,24 @@ impl SharedBytes {
         })
     }
 
-    /// These bytes: with one owner more where they are the same as those that are at hand, and else in memory of their own.
-    pub fn same_or_copy(
+    /// These bytes, which are at hand afterwards: with one owner more where they were at hand before, and else in memory of their own.
+    pub fn at_hand_or_copy(
         alloc: Global,
-        at_hand: Option<&SharedBytes>,
+        at_hand: &mut Option<SharedBytes>,
         bytes: &[u8],
     ) -> Result<SharedBytes, AllocError>
-        ensures { IfOk result (λ b. b ≡ bytes.now) }
+        ensures bytes { IfOk result (λ b. b ≡ bytes.now) }
+        ensures at_hand { IfOk result (λ b. at_hand.new ≡ Some b) }
     {
-        match at_hand {
-            Some(held) if held.as_slice() == bytes => held.share(),
-            _ => SharedBytes::from_slice(alloc, bytes),
+        if let Some(held) = at_hand {
+            if held.as_slice() == bytes {
+                return held.share();
+            }
         }
+        let copy = SharedBytes::from_slice(alloc, bytes)?;
+        let held = copy.share()?;
+        *at_hand = Some(held);
+        Ok(copy)
     }
 
     /// The bytes.

@@ -53,19 +53,19 @@ impl Model for Draft {
     ghost invariant = { λ d. (d.outs.items ≡ spelled_in d.effects) × AreLateUses d.books.lists.marks d.effects d.late_uses.amounts.entries };
 }
 
-/// The bytes that spell a message: those at hand, where they are the same, and else a copy. The message is spelled in a buffer whose
-/// memory serves again.
+/// The bytes that spell a message: those at hand, where they are the same, and else a copy, which is at hand then. The message is spelled
+/// in a buffer whose memory serves again.
 fn spelled(
     alloc: Global,
     room: &mut Vec<u8>,
-    at_hand: Option<&SharedBytes>,
+    at_hand: &mut Option<SharedBytes>,
     message: &Message,
 ) -> Result<SharedBytes, AllocError>
     ensures { IfOk result (λ bytes. bytes ≡ spelling message.now) }
 {
     room.clear();
     encode_into(room, message)?;
-    SharedBytes::same_or_copy(alloc, at_hand, room)
+    SharedBytes::at_hand_or_copy(alloc, at_hand, room)
 }
 
 /// An output with the bytes of its message.
@@ -135,13 +135,7 @@ impl Draft {
         ensures same { self.new ≡ self.old }
         ensures kept { IfOk result (λ k. k ≡ message.now) }
     {
-        let bytes = spelled(
-            self.alloc,
-            &mut self.spelling,
-            self.at_hand.as_ref(),
-            message,
-        )?;
-        self.hold(&bytes)?;
+        let bytes = spelled(self.alloc, &mut self.spelling, &mut self.at_hand, message)?;
         Ok(KeptMessage::new(message, bytes))
     }
 
@@ -249,7 +243,7 @@ impl Draft {
             self.rollback();
             return Err(AllocError);
         };
-        let Ok(outputs) = self.no_outputs.kept(self.alloc, &mut self.outs) else {
+        let Ok(outputs) = self.no_outputs.entry_outputs(self.alloc, &mut self.outs) else {
             self.effects.clear();
             self.late_uses = Sums::new(self.alloc);
             return Err(AllocError);

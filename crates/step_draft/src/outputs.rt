@@ -170,12 +170,12 @@ impl NoOutputs {
     }
 
     /// What an entry with these outputs holds. The list is empty afterwards, also where memory is refused.
-    pub(crate) fn kept(
+    pub(crate) fn entry_outputs(
         &self,
         alloc: Global,
         outputs: &mut Vec<Output>,
     ) -> Result<SharedOutputs, AllocError>
-        ensures kept { IfOk result (λ s. s ≡ outputs.old.items) }
+        ensures outputs { IfOk result (λ s. s ≡ outputs.old.items) }
         ensures empty { outputs.new.items ≡ [] }
     {
         if outputs.is_empty() {

@@ -1,5 +1,5 @@
 -- What a message does as it comes.
-use Rattle.std.specs.Prelude.{◌≡◌, ⊤, [], Option, Some, None, Bool, true, ◌&&◌}
+use Rattle.std.specs.Prelude.{[], Some, Bool, true, ◌&&◌}
 use Rattle.iso_message.specs.declared.kind.Group.{Group}
 use Rattle.iso_message.specs.declared.kind.Group.TheVariants as groups
 use Rattle.iso_message.specs.Fields.{Fields, has}

@@ -38,7 +38,7 @@ fn take_back(
 }
 
 /// An answer with this code for a key closes its request, or takes back what is approved too late. A code that tells of a duplicate
-/// becomes another.
+/// becomes another. The request is read into the room.
 #[tactic(auto, using(step_draft::proofs::Messages::response_key, step_draft::proofs::Messages::response_plain, crate::proofs::Parts::code_pending, crate::proofs::Parts::code_late, crate::proofs::Parts::code_other))]
 pub(crate) fn on_code(
     draft: &mut Draft,
@@ -47,6 +47,7 @@ pub(crate) fn on_code(
     key: Key,
     code: Code,
     other: Code,
+    room: &mut Message,
 ) -> Result<(), AllocError>
     ensures base { draft.new.base ≡ draft.old.base }
     ensures ok { OnOk result (progress draft.new ≡ on_code tables.now node (view tables.now node draft.old.base) key code other ((view tables.now node draft.old.base).opening key) (progress draft.old)) }
@@ -57,31 +58,32 @@ pub(crate) fn on_code(
     let own = row.key();
     if row.is_open() {
         let source = row.source();
-        let request = row.message().decode()?;
-        let response = request.response(as_code(other, code))?;
+        row.message().decode_into(room)?;
+        let response = room.response(as_code(other, code))?;
         return draft.reply(source, own, &response);
     }
     let late = code.as_slice() == b"00".as_slice() && comes_late(draft.books(), tables, node, key);
     if !late {
         return Ok(());
     }
-    let request = row.message().decode()?;
-    take_back(draft, tables, node, own, &request)
+    row.message().decode_into(room)?;
+    take_back(draft, tables, node, own, room)
 }
 
-/// The host's code for an ask.
+/// The host's code for an ask, whose request is read into the room.
 pub(crate) fn on_host(
     draft: &mut Draft,
     tables: &Tables,
     node: NodeNo,
     ask: u64,
     code: Code,
+    room: &mut Message,
 ) -> Result<(), AllocError>
     ensures base { draft.new.base ≡ draft.old.base }
     ensures ok { OnOk result (progress draft.new ≡ on_host tables.now node (view tables.now node draft.old.base) code ((view tables.now node draft.old.base).ask_key ask) (progress draft.old)) }
 {
     match draft.books().ask(ask) {
-        Some(key) => on_code(draft, tables, node, key, code, Code::new(*b"05")),
+        Some(key) => on_code(draft, tables, node, key, code, Code::new(*b"05"), room),
         None => Ok(()),
     }
 }

@@ -79,18 +79,17 @@ fn identity(m: &Message) -> AdviceId
     }
 }
 
-/// A message as its gate handles it: without the forwarding institution, and a request with the settlement date.
-fn handled(draft: &Draft, m: Message) -> Result<Message, AllocError>
-    ensures { IfOk result (λ h. h ≡ dated draft.now.base.date (without_forwarder m)) }
+/// Makes of a message what its gate handles: without the forwarding institution, and a request with the settlement date.
+fn prepare(draft: &Draft, m: &mut Message) -> Result<(), AllocError>
+    ensures { OnOk result (m.new ≡ dated draft.now.base.date (without_forwarder m.old)) }
 {
-    let mut handled = m;
-    handled.remove(33);
-    if !is_request(handled.kind()) {
-        return Ok(handled);
+    m.remove(33);
+    if !is_request(m.kind()) {
+        return Ok(());
     }
     let text = date_text(&draft.books().date());
-    match handled.set(15, &text) {
-        Ok(()) => Ok(handled),
+    match m.set(15, &text) {
+        Ok(()) => Ok(()),
         Err(fault) => match fault {
             DecodeFault::Memory => Err(AllocError),
             // Element 15 takes the four digits of a date.
@@ -142,13 +141,13 @@ fn on_answer(
     draft: &mut Draft,
     tables: &Tables,
     node: NodeNo,
-    m: &Message,
+    m: &mut Message,
     link: LinkNo,
 ) -> Result<(), AllocError>
-    requires key { has_key m.now ≡ true }
-    requires code { has m.now 39 ≡ true }
+    requires key { has_key m.old ≡ true }
+    requires code { has m.old 39 ≡ true }
     ensures base { draft.new.base ≡ draft.old.base }
-    ensures ok { OnOk result (progress draft.new ≡ on_answer tables.now node (view tables.now node draft.old.base) m.now (ByLink link) (progress draft.old)) }
+    ensures ok { OnOk result (progress draft.new ≡ on_answer tables.now node (view tables.now node draft.old.base) m.old (ByLink link) (progress draft.old)) }
 {
     let Some(key) = key_of(m) else {
         unreachable!();
@@ -159,26 +158,26 @@ fn on_answer(
     if !was_put_on(draft, key, link) {
         return Ok(());
     }
-    on_code(draft, tables, node, key, code, Code::new(*b"96"))
+    on_code(draft, tables, node, key, code, Code::new(*b"96"), m)
 }
 
 fn on_keyed_request(
     draft: &mut Draft,
     tables: &Tables,
     node: NodeNo,
-    m: Message,
+    m: &Message,
     kept: Option<KeptMessage>,
     source: Option<LinkNo>,
 ) -> Result<(), AllocError>
-    requires request { is_request m.kind ≡ true }
-    requires key { has_key m ≡ true }
-    requires kept { IfSome kept (λ k. k ≡ m) }
+    requires request { is_request m.now.kind ≡ true }
+    requires key { has_key m.now ≡ true }
+    requires kept { IfSome kept (λ k. k ≡ m.now) }
     requires quiet { IsQuiet draft.old.base (progress draft.old).lists }
     requires left { LeftAsMarked draft.old.base.marks draft.old.base.takes }
     ensures base { draft.new.base ≡ draft.old.base }
-    ensures ok { OnOk result (progress draft.new ≡ on_request tables.now node (view tables.now node draft.old.base) m (source_of source) ((view tables.now node draft.old.base).opening (key_of m)) (progress draft.old)) }
+    ensures ok { OnOk result (progress draft.new ≡ on_request tables.now node (view tables.now node draft.old.base) m.now (source_of source) ((view tables.now node draft.old.base).opening (key_of m.now)) (progress draft.old)) }
 {
-    let key = request_key(&m);
+    let key = request_key(m);
     on_request(draft, tables, node, key, m, kept, source)
 }
 
@@ -210,25 +209,25 @@ fn on_message(
     draft: &mut Draft,
     tables: &Tables,
     node: NodeNo,
-    m: Message,
+    m: &mut Message,
     kept: Option<KeptMessage>,
     source: Option<LinkNo>,
 ) -> Result<(), AllocError>
-    requires complete { is_complete (group m.kind) m ≡ true }
-    requires kept { IfSome kept (λ k. k ≡ m) }
+    requires complete { is_complete (group m.old.kind) m.old ≡ true }
+    requires kept { IfSome kept (λ k. k ≡ m.old) }
     requires quiet { IsQuiet draft.old.base (progress draft.old).lists }
     requires left { LeftAsMarked draft.old.base.marks draft.old.base.takes }
     ensures base { draft.new.base ≡ draft.old.base }
-    ensures ok { OnOk result (progress draft.new ≡ on_group tables.now node (view tables.now node draft.old.base) m (source_of source) (group m.kind) (progress draft.old)) }
+    ensures ok { OnOk result (progress draft.new ≡ on_group tables.now node (view tables.now node draft.old.base) m.old (source_of source) (group m.old.kind) (progress draft.old)) }
 {
     match m.kind().group() {
         Group::AuthorizationRequest => on_keyed_request(draft, tables, node, m, kept, source),
         Group::AuthorizationResponse => match source {
-            Some(link) => on_answer(draft, tables, node, &m, link),
+            Some(link) => on_answer(draft, tables, node, m, link),
             None => Ok(()),
         },
-        Group::Advice => on_identified(draft, tables, node, &m, source, false),
-        Group::Reversal => on_identified(draft, tables, node, &m, source, true),
+        Group::Advice => on_identified(draft, tables, node, m, source, false),
+        Group::Reversal => on_identified(draft, tables, node, m, source, true),
         Group::AdviceResponse => Ok(()),
         Group::ReversalResponse => Ok(()),
     }
@@ -239,17 +238,17 @@ pub(crate) fn enter(
     draft: &mut Draft,
     tables: &Tables,
     node: NodeNo,
-    m: Message,
+    m: &mut Message,
 ) -> Result<(), AllocError>
     requires empty { draft.old.effects ≡ [] }
-    requires complete { is_complete (group m.kind) m ≡ true }
+    requires complete { is_complete (group m.old.kind) m.old ≡ true }
     requires left { LeftAsMarked draft.old.base.marks draft.old.base.takes }
     ensures base { draft.new.base ≡ draft.old.base }
-    ensures ok { OnOk result (progress draft.new ≡ step tables.now node draft.old.base (Enter m)) }
+    ensures ok { OnOk result (progress draft.new ≡ step tables.now node draft.old.base (Enter m.old)) }
 {
-    let handled = handled(draft, m)?;
-    let kept = open(draft, &handled, None)?;
-    on_message(draft, tables, node, handled, kept, None)
+    prepare(draft, m)?;
+    let kept = open(draft, m, None)?;
+    on_message(draft, tables, node, m, kept, None)
 }
 
 /// What a message acknowledges leaves the store.
@@ -270,17 +269,17 @@ pub(crate) fn take_message(
     tables: &Tables,
     node: NodeNo,
     link: LinkNo,
-    m: Message,
+    m: &mut Message,
 ) -> Result<(), AllocError>
     requires empty { draft.old.effects ≡ [] }
-    requires complete { is_complete (group m.kind) m ≡ true }
+    requires complete { is_complete (group m.old.kind) m.old ≡ true }
     requires left { LeftAsMarked draft.old.base.marks draft.old.base.takes }
     ensures base { draft.new.base ≡ draft.old.base }
-    ensures ok { OnOk result ((serial : ℕ) → progress draft.new ≡ step tables.now node draft.old.base (Take link serial m)) }
+    ensures ok { OnOk result ((serial : ℕ) → progress draft.new ≡ step tables.now node draft.old.base (Take link serial m.old)) }
 {
-    if is_acknowledgement(&m) {
-        return acknowledge(draft, &m);
+    if is_acknowledgement(m) {
+        return acknowledge(draft, m);
     }
-    let kept = open(draft, &m, Some(link))?;
+    let kept = open(draft, m, Some(link))?;
     on_message(draft, tables, node, m, kept, Some(link))
 }

@@ -16,7 +16,7 @@ use crate::answers::on_host;
 use crate::incoming::{enter, take_message};
 use crate::input::{Case, Input};
 use card_digits::{Amount, Card, DateLabel, LinkNo, NodeNo};
-use iso_message::{Code, DecodeFault, decode};
+use iso_message::{Code, DecodeFault, Message};
 use net_rows::Tables;
 use network_law::{Grant, GrantPacket, StepFault, read_packet};
 use node_books::{Effect, KeptGrant};
@@ -83,6 +83,7 @@ fn new_date(draft: &mut Draft, date: DateLabel) -> Result<(), AllocError>
 #[tactic(auto, using(crate::proofs::Starts::does_host, crate::proofs::Starts::faults_host))]
 fn host_answer(
     draft: &mut Draft,
+    room: &mut Message,
     tables: &Tables,
     node: NodeNo,
     ask: u64,
@@ -96,13 +97,14 @@ fn host_answer(
     if let Some(fault) = refuse_host_answer(draft.books(), ask) {
         return Err(fault);
     }
-    Ok(on_host(draft, tables, node, ask, code)?)
+    Ok(on_host(draft, tables, node, ask, code, room)?)
 }
 
 /// Bytes that an acquirer enters.
 #[tactic(auto, using(crate::proofs::Reading::does_enter, crate::proofs::Reading::faults_enter, crate::proofs::Reading::unread_enter))]
 fn enter_bytes(
     draft: &mut Draft,
+    room: &mut Message,
     tables: &Tables,
     node: NodeNo,
     bytes: &SharedBytes,
@@ -113,16 +115,15 @@ fn enter_bytes(
     ensures ok { OnOk result (Does tables.now node (entries.Enter bytes.now) draft.old draft.new) }
     ensures fault { IfErr result (λ f. (f ≡ Memory) ⊎ (fault_in tables.now node draft.old.base (read_input (entries.Enter bytes.now)) ≡ Some f)) }
 {
-    let m = match decode(draft.alloc(), bytes.as_slice()) {
-        Ok(m) => m,
-        Err(fault) => return Err(unread(fault)),
-    };
-    let refused = refuse_entered(draft.books(), tables, node, &m)?;
+    if let Err(fault) = room.read_again(bytes.as_slice()) {
+        return Err(unread(fault));
+    }
+    let refused = refuse_entered(draft.books(), tables, node, room)?;
     if let Some(fault) = refused {
         return Err(fault);
     }
     draft.hold(bytes)?;
-    Ok(enter(draft, tables, node, m)?)
+    Ok(enter(draft, tables, node, room)?)
 }
 
 /// A taken grant is acknowledged on the link that it came by.
@@ -177,6 +178,7 @@ fn take_read_packet(
 /// Bytes that come by a link, with their serial.
 fn take_bytes(
     draft: &mut Draft,
+    room: &mut Message,
     tables: &Tables,
     node: NodeNo,
     link: LinkNo,
@@ -194,7 +196,7 @@ fn take_bytes(
         Some(packet) => take_read_packet(draft, tables, node, link, serial, text, &packet),
         None => {
             draft.hold(bytes)?;
-            take_text(draft, tables, node, link, serial, text)
+            take_text(draft, room, tables, node, link, serial, text)
         }
     }
 }
@@ -203,6 +205,7 @@ fn take_bytes(
 #[tactic(auto, using(crate::proofs::Reading::does_take, crate::proofs::Reading::faults_take, crate::proofs::Reading::unread_take))]
 fn take_text(
     draft: &mut Draft,
+    room: &mut Message,
     tables: &Tables,
     node: NodeNo,
     link: LinkNo,
@@ -216,15 +219,14 @@ fn take_text(
     ensures ok { OnOk result (Does tables.now node (entries.Take link serial bytes.now) draft.old draft.new) }
     ensures fault { IfErr result (λ f. (f ≡ Memory) ⊎ (fault_in tables.now node draft.old.base (read_input (entries.Take link serial bytes.now)) ≡ Some f)) }
 {
-    let m = match decode(draft.alloc(), bytes) {
-        Ok(m) => m,
-        Err(fault) => return Err(unread(fault)),
-    };
-    let refused = refuse_taken(draft.books(), tables, node, link, &m)?;
+    if let Err(fault) = room.read_again(bytes) {
+        return Err(unread(fault));
+    }
+    let refused = refuse_taken(draft.books(), tables, node, link, room)?;
     if let Some(fault) = refused {
         return Err(fault);
     }
-    Ok(take_message(draft, tables, node, link, m)?)
+    Ok(take_message(draft, tables, node, link, room)?)
 }
 
 /// The node's next grant.
@@ -293,10 +295,11 @@ fn lend_input(
     Ok(lend(draft, tables, node, borrower, card, date, amount)?)
 }
 
-/// What the node does for an input; or part of it, and a fault.
+/// What the node does for an input; or part of it, and a fault. Messages are read into the room, whose memory serves again.
 #[tactic(auto, using(crate::proofs::Starts::does_up, crate::proofs::Starts::does_down, crate::proofs::Starts::does_tick, crate::proofs::Starts::does_dated))]
 pub(crate) fn step(
     draft: &mut Draft,
+    room: &mut Message,
     tables: &Tables,
     node: NodeNo,
     input: &Input,
@@ -312,11 +315,11 @@ pub(crate) fn step(
         Case::LinkDown(l) => Ok(link_down(draft, tables, node, *l)?),
         Case::Tick => Ok(tick(draft, tables, node)?),
         Case::NewDate(date) => Ok(new_date(draft, *date)?),
-        Case::Enter(bytes) => enter_bytes(draft, tables, node, bytes),
+        Case::Enter(bytes) => enter_bytes(draft, room, tables, node, bytes),
         Case::Take(link, serial, bytes) => {
-            take_bytes(draft, tables, node, *link, *serial, bytes)
+            take_bytes(draft, room, tables, node, *link, *serial, bytes)
         }
-        Case::HostAnswer(ask, code) => host_answer(draft, tables, node, *ask, *code),
+        Case::HostAnswer(ask, code) => host_answer(draft, room, tables, node, *ask, *code),
         Case::Lend(boxed) => {
             let order = boxed.order();
             lend_input(

@@ -13,6 +13,7 @@ use crate::entry::Entry;
 use crate::input::Input;
 use crate::inputs::step;
 use card_digits::{LinkNo, NodeNo};
+use iso_message::{Kind, Message};
 use net_rows::Tables;
 use network_law::{StepFault, every_legal_trace_is_within_limits};
 use node_books::Books;
@@ -42,6 +43,8 @@ pub struct Node<'a> {
     tables: &'a Tables,
     node: NodeNo,
     draft: Draft,
+    /// The memory in which messages are read.
+    room: Message,
     trace: Vec<Entry>,
 }
 
@@ -73,6 +76,7 @@ impl<'a> Node<'a> {
             tables,
             node,
             draft,
+            room: Message::new(alloc, Kind::K0100),
             trace: Vec::new(alloc),
         })
     }
@@ -150,7 +154,13 @@ impl<'a> Node<'a> {
             return Err(StepFault::HistoryFull);
         }
         self.trace.reserve(1)?;
-        if let Err(fault) = step(&mut self.draft, self.tables, self.node, &input) {
+        if let Err(fault) = step(
+            &mut self.draft,
+            &mut self.room,
+            self.tables,
+            self.node,
+            &input,
+        ) {
             self.draft.rollback();
             return Err(fault);
         }

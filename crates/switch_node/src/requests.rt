@@ -37,19 +37,19 @@ use step_rules::{has_good_card, is_home, issuer_of, route_links};
 fn forwarded(
     draft: &mut Draft,
     key: Key,
-    m: Message,
+    m: &Message,
     kept: Option<KeptMessage>,
 ) -> Result<KeptMessage, AllocError>
-    requires key { IsKeyOf key m }
-    requires kept { IfSome kept (λ k. k ≡ m) }
+    requires key { IsKeyOf key m.now }
+    requires kept { IfSome kept (λ k. k ≡ m.now) }
     ensures same { draft.new ≡ draft.old }
-    ensures message { IfOk result (λ f. f ≡ as_kind K0100 m) }
+    ensures message { IfOk result (λ f. f ≡ as_kind K0100 m.now) }
     ensures key { IfOk result (λ f. key ≡ key_of f) }
 {
     match kept {
         Some(same) if same.kind() == Kind::K0100 => Ok(same),
         _ => {
-            let mut forward = m;
+            let mut forward = m.copy()?;
             forward.set_kind(Kind::K0100);
             draft.kept(&forward)
         }
@@ -105,11 +105,16 @@ fn answer_again(row: &Row) -> Result<Option<KeptMessage>, AllocError>
 }
 
 /// A request goes to the host.
-fn ask(draft: &mut Draft, key: Key, m: Message, kept: Option<KeptMessage>) -> Result<(), AllocError>
-    requires key { IsKeyOf key m }
-    requires kept { IfSome kept (λ k. k ≡ m) }
+fn ask(
+    draft: &mut Draft,
+    key: Key,
+    m: &Message,
+    kept: Option<KeptMessage>,
+) -> Result<(), AllocError>
+    requires key { IsKeyOf key m.now }
+    requires kept { IfSome kept (λ k. k ≡ m.now) }
     ensures base { draft.new.base ≡ draft.old.base }
-    ensures ok { OnOk result ((t : Network) (n : ℕ) → progress draft.new ≡ emit (Ask (suc (view t n draft.old.base).ask_count) (as_kind K0100 m)) (progress draft.old)) }
+    ensures ok { OnOk result ((t : Network) (n : ℕ) → progress draft.new ≡ emit (Ask (suc (view t n draft.old.base).ask_count) (as_kind K0100 m.now)) (progress draft.old)) }
 {
     let ask = draft.books().ask_count() as u64 + 1;
     let forward = forwarded(draft, key, m, kept)?;
@@ -137,23 +142,23 @@ fn forward(
     tables: &Tables,
     node: NodeNo,
     key: Key,
-    m: Message,
+    m: &Message,
     kept: Option<KeptMessage>,
     source: Option<LinkNo>,
 ) -> Result<(), AllocError>
-    requires key { IsKeyOf key m }
-    requires kept { IfSome kept (λ k. k ≡ m) }
+    requires key { IsKeyOf key m.now }
+    requires kept { IfSome kept (λ k. k ≡ m.now) }
     requires quiet { IsQuiet draft.old.base (progress draft.old).lists }
     requires left { LeftAsMarked draft.old.base.marks draft.old.base.takes }
     ensures base { draft.new.base ≡ draft.old.base }
-    ensures ok { OnOk result (progress draft.new ≡ on_forward tables.now node (view tables.now node draft.old.base) m (source_of source) (find (view tables.now node draft.old.base).is_up (route_links tables.now node (card_of m))) (progress draft.old)) }
+    ensures ok { OnOk result (progress draft.new ≡ on_forward tables.now node (view tables.now node draft.old.base) m.now (source_of source) (find (view tables.now node draft.old.base).is_up (route_links tables.now node (card_of m.now))) (progress draft.old)) }
 {
-    match way_of(draft, tables, node, &m) {
+    match way_of(draft, tables, node, m) {
         Some(link) => {
             let forward = forwarded(draft, key, m, kept)?;
             draft.put_kept(link, key, forward)
         }
-        None => draft.stand_in(tables, node, key, &m, source),
+        None => draft.stand_in(tables, node, key, m, source),
     }
 }
 
@@ -163,23 +168,23 @@ fn take_request(
     tables: &Tables,
     node: NodeNo,
     key: Key,
-    m: Message,
+    m: &Message,
     kept: Option<KeptMessage>,
     source: Option<LinkNo>,
 ) -> Result<(), AllocError>
-    requires key { IsKeyOf key m }
-    requires kept { IfSome kept (λ k. k ≡ m) }
+    requires key { IsKeyOf key m.now }
+    requires kept { IfSome kept (λ k. k ≡ m.now) }
     requires quiet { IsQuiet draft.old.base (progress draft.old).lists }
     requires left { LeftAsMarked draft.old.base.marks draft.old.base.takes }
     ensures base { draft.new.base ≡ draft.old.base }
-    ensures ok { OnOk result (progress draft.new ≡ on_issuer tables.now node (view tables.now node draft.old.base) m (source_of source) (issuer tables.now (card_of m)) (progress draft.old)) }
+    ensures ok { OnOk result (progress draft.new ≡ on_issuer tables.now node (view tables.now node draft.old.base) m.now (source_of source) (issuer tables.now (card_of m.now)) (progress draft.old)) }
 {
-    let Some(issuer) = issuer_of(tables, &m) else {
-        return draft.respond(source, key, &m, Code::new(*b"92"));
+    let Some(issuer) = issuer_of(tables, m) else {
+        return draft.respond(source, key, m, Code::new(*b"92"));
     };
     let home = is_home(issuer, node);
     if is_full(draft) {
-        return draft.respond(source, key, &m, Code::new(*b"96"));
+        return draft.respond(source, key, m, Code::new(*b"96"));
     }
     if home {
         return ask(draft, key, m, kept);
@@ -193,22 +198,22 @@ fn on_new_request(
     tables: &Tables,
     node: NodeNo,
     key: Key,
-    m: Message,
+    m: &Message,
     kept: Option<KeptMessage>,
     source: Option<LinkNo>,
 ) -> Result<(), AllocError>
-    requires key { IsKeyOf key m }
-    requires kept { IfSome kept (λ k. k ≡ m) }
+    requires key { IsKeyOf key m.now }
+    requires kept { IfSome kept (λ k. k ≡ m.now) }
     requires quiet { IsQuiet draft.old.base (progress draft.old).lists }
     requires left { LeftAsMarked draft.old.base.marks draft.old.base.takes }
     ensures base { draft.new.base ≡ draft.old.base }
-    ensures ok { OnOk result (progress draft.new ≡ on_request tables.now node (view tables.now node draft.old.base) m (source_of source) None (progress draft.old)) }
+    ensures ok { OnOk result (progress draft.new ≡ on_request tables.now node (view tables.now node draft.old.base) m.now (source_of source) None (progress draft.old)) }
 {
     if draft.books().is_marked(key) {
-        return draft.respond(source, key, &m, Code::new(*b"68"));
+        return draft.respond(source, key, m, Code::new(*b"68"));
     }
-    if !has_good_card(&m) {
-        return draft.respond(source, key, &m, Code::new(*b"14"));
+    if !has_good_card(m) {
+        return draft.respond(source, key, m, Code::new(*b"14"));
     }
     take_request(draft, tables, node, key, m, kept, source)
 }
@@ -267,19 +272,19 @@ pub(crate) fn on_request(
     tables: &Tables,
     node: NodeNo,
     key: Key,
-    m: Message,
+    m: &Message,
     kept: Option<KeptMessage>,
     source: Option<LinkNo>,
 ) -> Result<(), AllocError>
-    requires key { IsKeyOf key m }
-    requires kept { IfSome kept (λ k. k ≡ m) }
+    requires key { IsKeyOf key m.now }
+    requires kept { IfSome kept (λ k. k ≡ m.now) }
     requires quiet { IsQuiet draft.old.base (progress draft.old).lists }
     requires left { LeftAsMarked draft.old.base.marks draft.old.base.takes }
     ensures base { draft.new.base ≡ draft.old.base }
-    ensures ok { OnOk result (progress draft.new ≡ on_request tables.now node (view tables.now node draft.old.base) m (source_of source) ((view tables.now node draft.old.base).opening (key_of m)) (progress draft.old)) }
+    ensures ok { OnOk result (progress draft.new ≡ on_request tables.now node (view tables.now node draft.old.base) m.now (source_of source) ((view tables.now node draft.old.base).opening (key_of m.now)) (progress draft.old)) }
 {
     if draft.books().has_key(key) {
-        on_repeat(draft, tables, node, key, &m, source)
+        on_repeat(draft, tables, node, key, m, source)
     } else {
         on_new_request(draft, tables, node, key, m, kept, source)
     }

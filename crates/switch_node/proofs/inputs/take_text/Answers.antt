@@ -9,15 +9,15 @@ use Rattle.switch_node.proofs.inputs.take_text.Goals as goal
 pub returns-in-Some-clause-fault : goal.returns-in-Some-clause-fault
 returns-in-Some-clause-fault c =
     let packet = c.requires.packet in
-    inr (rw (← c.books.ensures) (faults_take c.args.tables.now c.args.node c.books.result.now.lists c.args.link c.args.serial c.args.bytes.now c.in-Ok.m c.in-Some.fault packet c.in-Ok.ensures.exact (sym c.in-Some.is ∙ c.in_ok-refused.ensures c.args.serial)))
+    inr (rw (← c.books.ensures) (faults_take c.args.tables.now c.args.node c.books.result.now.lists c.args.link c.args.serial c.args.bytes.now c.read_again.new.self c.in-Some.fault packet c.in_default.ensures.exact (sym c.in-Some.is ∙ c.in_ok-refused.ensures c.args.serial)))
 
 pub returns-clause-ok : goal.returns-clause-ok
 returns-clause-ok c =
     let t = c.args.tables.now in
     let n = c.args.node in
     let packet = c.requires.packet in
-    let accepted = sym c.in_default.is ∙ c.in_ok-refused.ensures c.args.serial ∙ ap (λ (y : Lists). refuse t n (view t n y) (Take c.args.link c.args.serial c.in-Ok.m)) c.books.ensures in
-    does_take t n c.args.link c.args.serial c.args.bytes.now c.in-Ok.m c.args.draft.now c.take_message.new.draft packet c.in-Ok.ensures.exact accepted (c.in_ok-take_message.ensures.ok c.args.serial)
+    let accepted = sym c.in_default-refused.is ∙ c.in_ok-refused.ensures c.args.serial ∙ ap (λ (y : Lists). refuse t n (view t n y) (Take c.args.link c.args.serial c.read_again.new.self)) c.books.ensures in
+    does_take t n c.args.link c.args.serial c.args.bytes.now c.read_again.new.self c.args.draft.now c.take_message.new.draft packet c.in_default.ensures.exact accepted (c.in_ok-take_message.ensures.ok c.args.serial)
 
 pub take_message-requires-clause-complete : goal.take_message-requires-clause-complete
-take_message-requires-clause-complete c = taken_complete c.args.tables.now c.args.node (view c.args.tables.now c.args.node c.books.result.now.lists) c.args.link c.args.serial c.in-Ok.m (sym c.in_default.is ∙ c.in_ok-refused.ensures c.args.serial)
+take_message-requires-clause-complete c = taken_complete c.args.tables.now c.args.node (view c.args.tables.now c.args.node c.books.result.now.lists) c.args.link c.args.serial c.read_again.new.self (sym c.in_default-refused.is ∙ c.in_ok-refused.ensures c.args.serial)

@@ -1,5 +1,5 @@
 use Rattle.switch_node.proofs.Few.{date_refused}
-use Rattle.switch_node.proofs.incoming.handled.Goals as goal
+use Rattle.switch_node.proofs.incoming.prepare.Goals as goal
 
 pub unreachable-requires : goal.unreachable-requires
 unreachable-requires c =
