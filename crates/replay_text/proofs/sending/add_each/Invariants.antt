@@ -1,7 +1,7 @@
 use Rattle.std.proofs.Common.{◌≡◌, ◌++◌, List, ℕ, map, drop, Bor}
 use Rattle.std.specs.List.{concat}
 use Rattle.message_text.specs.Printed.{Sends}
-use Rattle.replay_text.proofs.sending.add_pieces.Given as goal
+use Rattle.replay_text.proofs.sending.add_each.Given as goal
 
 abbrev pub invariant-loop-piece : goal.invariant-loop-piece
 invariant-loop-piece g l = record {

@@ -2,7 +2,7 @@ use Rattle.std.proofs.Common.{◌++◌, ◌+◌, ℕ, List, map, drop, Bor, refl
 use Rattle.std.specs.List.{concat}
 use Rattle.iso_message.proofs.SpansMore.{on_err}
 use Rattle.replay_text.proofs.SentTexts.{both_sent, front_sent, next_text}
-use Rattle.replay_text.proofs.sending.add_pieces.Goals as goal
+use Rattle.replay_text.proofs.sending.add_each.Goals as goal
 
 abbrev pub texts : List (Bor (List ℕ)) → List ℕ
 texts ps = concat (map (λ (p : Bor (List ℕ)). p.now) ps)
