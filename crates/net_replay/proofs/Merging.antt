@@ -1,13 +1,14 @@
 -- What is merged from the traces are the steps, in the order of their lines.
-use Rattle.std.proofs.Common.{◌≡◌, ℕ, zero, suc, ◌<◌, ◌≤◌, List, [], ◌∷◌, ◌++◌, length, map, reverse, set, get_or, Bor, Option, Some, None, Bool, true, false, eqb, eqb-true, eq-eqb, refl, sym, ap, ◌∙◌, subst, arith}
+use Rattle.std.proofs.Common.{◌≡◌, ℕ, suc, ◌<◌, ◌≤◌, List, [], ◌∷◌, ◌++◌, length, map, reverse, set, get_or, Bor, Option, Some, None, Bool, true, false, eqb, eqb-true, eq-eqb, refl, sym, ap, ◌∙◌, subst, arith}
 use Rattle.std.specs.Prelude.{slice_get}
-use Rattle.std.proofs.lemmas.List.{append-nil, map-append, map-set, reverse-append}
-use Rattle.std.proofs.lemmas.Option.{slice_get_within, slice_get_read}
+use Rattle.std.proofs.lemmas.List.{append-nil, map-set, reverse-append}
+use Rattle.std.specs.Option.{option_map}
+use Rattle.std.proofs.lemmas.Option.{slice_get-map, slice_get_within, slice_get_read}
 use Rattle.net_rows.specs.Network.{Network}
 use Rattle.network_law.specs.Entries.{Entry}
 use Rattle.switch_node.specs.Node.{NodeView}
 use Rattle.net_replay.specs.Steps.{Step, entries_at}
-use Rattle.net_replay.specs.Traces.{TracesView, AreTraces, AreThere, nodes_of}
+use Rattle.net_replay.specs.Traces.{TracesView, AreTraces, AreThere}
 use Rattle.net_replay.specs.Merged.{first_and, merged}
 use Rattle.net_replay.proofs.Standing.{get_same, get_other, differ}
 
@@ -31,10 +32,6 @@ entries_reverse n (s ∷ steps) = sym (ap (entries_at n) (reverse-append (s ∷ 
 
 abbrev node_of : Step → ℕ
 node_of s = s.node
-
-nodes_reverse : (steps : List Step) → nodes_of steps ≡ map node_of (reverse steps)
-nodes_reverse [] = refl
-nodes_reverse (s ∷ steps) = ap (λ z. z ++ s.node ∷ []) (nodes_reverse steps) ∙ (sym (map-append node_of (reverse steps) (s ∷ [])) ∙ ap (map node_of) (sym (reverse-append (s ∷ []) steps)))
 
 there_both : (t : Network) (xs ys : List Step) → AreThere t xs → AreThere t ys → AreThere t (xs ++ ys)
 there_both t [] ys p q = q
@@ -66,26 +63,15 @@ left_is t (s ∷ steps) rests there left =
         (get_same rests s.node (entries_at s.node steps) (slice_get_within rests s.node (entries_at s.node (s ∷ steps)) (left s.node there.0)))
     next m less false other = get_other rests s.node m (entries_at s.node steps) (differ s.node m other) ∙ (left m less ∙ ap Some (other_is m other))
 
-get_map : {X Y : Type 0} (f : X → Y) (xs : List X) (n : ℕ) (x : X) → slice_get xs n ≡ Some x → slice_get (map f xs) n ≡ Some (f x)
-get_map f [] n x e = absurd (no x e)
-  where
-    no : {Z : Type 0} (z : Z) → ◌≡◌ {A = Option Z} None (Some z) → ⊥
-    no z q = cc
-get_map f (y ∷ ys) zero x e = ap (λ z. Some (f z)) (same y x e)
-  where
-    same : {Z : Type 0} (a b : Z) → Some a ≡ Some b → a ≡ b
-    same a b q = cc
-get_map f (y ∷ ys) (suc n) x e = get_map f ys n x e
-
 -- what is left of each node's trace before the first line
 abbrev pub rests_of : List NodeView → List (List Entry)
 rests_of nodes = map (λ (a : NodeView). reverse a.trace) nodes
 
 pub merged_is : (t : Network) (steps : List Step) (v : TracesView) → AreTraces t steps v → merged (rests_of v.nodes) v.line_nodes ≡ reverse steps
 merged_is t steps v are =
-    ap (merged (rests_of v.nodes)) (are.line_nodes ∙ nodes_reverse steps)
+    ap (merged (rests_of v.nodes)) are.line_nodes
     ∙ left_is t (reverse steps) (rests_of v.nodes) (there_reverse t steps are.there)
-    (λ n less. get_map (λ (a : NodeView). reverse a.trace) v.nodes n (record { t = t; n = n; trace = entries_at n steps }) (are.nodes.1 n less) ∙ ap Some (entries_reverse n steps))
+    (λ n less. slice_get-map (λ (a : NodeView). reverse a.trace) v.nodes n ∙ (ap (option_map (λ (a : NodeView). reverse a.trace)) (are.nodes.1 n less) ∙ ap Some (entries_reverse n steps)))
 
 -- one step is taken
 
@@ -94,7 +80,7 @@ pub first_taken : (rests : List (Bor (List Entry))) (ns left : List ℕ) (n i : 
     → merged (map (λ (r : Bor (List Entry)). r.now) rests) ns ≡ record { node = n; entry = e } ∷ merged (map (λ (r : Bor (List Entry)). r.now) (set rests i later)) left
 first_taken rests ns left n i rest later e lines place less read is =
     ap (merged seen) (lines ∙ ap (λ z. z ∷ left) (sym place))
-    ∙ (ap (λ o. first_and seen i o (λ z. merged z left)) (get_map (λ (r : Bor (List Entry)). r.now) rests i rest (slice_get_read rests (length rests) i rest refl less read) ∙ ap Some is)
+    ∙ (ap (λ o. first_and seen i o (λ z. merged z left)) (slice_get-map (λ (r : Bor (List Entry)). r.now) rests i ∙ (ap (option_map (λ (r : Bor (List Entry)). r.now)) (slice_get_read rests (length rests) i rest refl less read) ∙ ap Some is))
     ∙ (ap (λ z. record { node = z; entry = e } ∷ merged (set seen i later.now) left) place
     ∙ ap (λ z. record { node = n; entry = e } ∷ merged z left) (sym (map-set (λ (r : Bor (List Entry)). r.now) rests i later))))
   where

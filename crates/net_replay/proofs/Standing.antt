@@ -20,6 +20,7 @@ use Rattle.step_draft.specs.Outputs.{bytes_of}
 use Rattle.net_replay.specs.declared.packets.PacketPlace.{PacketPlace}
 use Rattle.net_replay.specs.Packets.{bytes_at, put_at, put_all}
 use Rattle.net_replay.specs.Running.{IsAt, ArePackets, ArePlaces}
+use Rattle.net_replay.specs.Traces.{nodes_of}
 use Rattle.net_replay.proofs.Serials.{get_left}
 
 -- an element of a list is replaced
@@ -165,13 +166,19 @@ entries_same n e steps = rw (eq-eqb n n refl) refl
 entries_other : (n m : ℕ) (e : Entry) (steps : List Step) → eqb n m ≡ false → entries_at m (record { node = n; entry = e } ∷ steps) ≡ entries_at m steps
 entries_other n m e steps other = rw other refl
 
+nodes_more : (steps : List Step) (s : Step) → nodes_of steps ++ s.node ∷ [] ≡ nodes_of (s ∷ steps)
+nodes_more steps s = sym (ap (map node_of) (reverse-append (s ∷ []) steps) ∙ map-append node_of (reverse steps) (s ∷ []))
+  where
+    node_of : Step → ℕ
+    node_of x = x.node
+
 pub one_more : (t : Network) (nodes : List NodeView) (sent : List (List (List PacketPlace))) (line_nodes : List ℕ) (steps : List Step) → IsAt t nodes sent line_nodes steps
     → (n : ℕ) → n < length t.nodes → (e : Entry) → IsStep t n (entries_at n steps) e → (links : List (List PacketPlace)) → slice_get sent n ≡ Some links
     → IsAt t (set nodes n (record { t = t; n = n; trace = e ∷ entries_at n steps })) (set sent n (put_all links (length (entries_at n steps)) 0 e.outputs)) (line_nodes ++ n ∷ []) (record { node = n; entry = e } ∷ steps)
 one_more t nodes sent line_nodes steps at n less e step links there = record {
   nodes_are = (length-set nodes n now ∙ at.nodes_are.0, λ m lm. node m (eqb n m) refl lm);
   sent_are = (length-set sent n (put_all links (length (entries_at n steps)) 0 e.outputs) ∙ at.sent_are.0, λ m lm. put m (eqb n m) refl lm);
-  line_nodes_are = ap (λ z. z ++ n ∷ []) at.line_nodes_are;
+  line_nodes_are = ap (λ z. z ++ n ∷ []) at.line_nodes_are ∙ nodes_more steps (record { node = n; entry = e });
   there = (less, at.there);
   legal = λ m lm. right m (eqb n m) refl lm;
 }

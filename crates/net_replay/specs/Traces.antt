@@ -1,5 +1,5 @@
 -- Traces as contracts see them.
-use Rattle.std.specs.Prelude.{ℕ, ◌≡◌, ◌<◌, List, [], ◌∷◌, ◌++◌, length, Option, Some, None, slice_get, ⊤}
+use Rattle.std.specs.Prelude.{ℕ, ◌≡◌, ◌<◌, List, [], ◌∷◌, length, map, reverse, Option, Some, None, slice_get, ⊤}
 use Rattle.network_law.specs.Entries.{Entry}
 use Rattle.net_rows.specs.Network.{Network}
 use Rattle.switch_node.specs.Node.{NodeView}
@@ -21,10 +21,9 @@ trace_of v n = trace_or_none (slice_get v.nodes n)
 abbrev pub AreNodes : Network → List Step → List NodeView → Type 0
 AreNodes t steps nodes = (length nodes ≡ length t.nodes) × ((n : ℕ) → n < length t.nodes → slice_get nodes n ≡ Some (record { t = t; n = n; trace = entries_at n steps }))
 
--- the nodes of steps; the newest step stands first, and its node last
+-- the node of each line, where the newest step stands first
 abbrev pub nodes_of : List Step → List ℕ
-nodes_of [] = []
-nodes_of (s ∷ steps) = nodes_of steps ++ s.node ∷ []
+nodes_of steps = map (λ s. s.node) (reverse steps)
 
 -- each step is that of a node of the tables
 abbrev pub AreThere : Network → List Step → Type 0

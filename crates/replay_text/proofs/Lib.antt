@@ -1,4 +1,3 @@
 pub mod Parts
 pub mod SentTexts
 pub mod StepPieces
-pub mod Texts

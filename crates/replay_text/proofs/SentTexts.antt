@@ -3,8 +3,7 @@ use Rattle.std.proofs.Common.{◌≡◌, ℕ, suc, ◌+◌, ◌<◌, arith, List
 use Rattle.std.proofs.lemmas.List.{at_drop_more}
 use Rattle.net_rows.specs.Network.{Network}
 use Rattle.net_replay.specs.Steps.{Step}
-use Rattle.replay_text.specs.Lines.{step_text}
-use Rattle.replay_text.specs.Ordered.{ordered_text}
+use Rattle.replay_text.specs.Lines.{ordered_text, step_text}
 use Rattle.replay_text.specs.Fronts.{SendsFront}
 use Rattle.std.specs.Io.KnownBytes.{Appends}
 use Rattle.std.proofs.KnownBytes.{Appends-trans}

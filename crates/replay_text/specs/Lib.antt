@@ -1,4 +1,3 @@
 pub mod Lines
-pub mod Ordered
 pub mod Fronts
 pub mod Answers

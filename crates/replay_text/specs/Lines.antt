@@ -1,5 +1,5 @@
 -- The printed lines of a script's faults and steps.
-use Rattle.std.specs.Prelude.{ℕ, suc, List, [], ◌∷◌, ◌++◌, length, codes}
+use Rattle.std.specs.Prelude.{ℕ, suc, List, [], ◌∷◌, ◌++◌, reverse, codes}
 use Rattle.std.specs.Fmt.{decimal}
 use Rattle.std.specs.List.{concat, flat_map}
 use Rattle.iso_message.specs.declared.fault.DecodeFault.{DecodeFault}
@@ -65,7 +65,11 @@ output_text t o = way_text t o ++ bytes_of o ++ line_feed
 abbrev pub step_text : Network → ℕ → Step → Text
 step_text t number s = decimal number ++ 32 ∷ node_name t s.node ++ line_feed ++ flat_map (output_text t) s.entry.outputs
 
--- the text of steps, of which the newest stands first, in the order of their lines
+-- the lines of steps of which the oldest stands first, and its line has this number
+abbrev pub ordered_text : Network → ℕ → List Step → Text
+ordered_text t number [] = []
+ordered_text t number (s ∷ steps) = step_text t number s ++ ordered_text t (suc number) steps
+
+-- the lines of a script's steps, of which the newest stands first
 abbrev pub steps_text : Network → List Step → Text
-steps_text t [] = []
-steps_text t (s ∷ steps) = steps_text t steps ++ step_text t (suc (length steps)) s
+steps_text t steps = ordered_text t 1 (reverse steps)

@@ -7,8 +7,7 @@ ghost use Rattle.message_text.specs.Printed.{Sends};
 ghost use Rattle.net_replay.specs.Steps.{Step};
 ghost use Rattle.net_replay.specs.Traces.{AreTraces};
 ghost use Rattle.replay_text.specs.Fronts.{SendsFront};
-ghost use Rattle.replay_text.specs.Lines.{output_text, step_text, steps_text};
-ghost use Rattle.replay_text.specs.Ordered.{ordered_text};
+ghost use Rattle.replay_text.specs.Lines.{ordered_text, output_text, step_text, steps_text};
 
 use crate::sending::add_pieces;
 use bundle_text::{MOST_WAITING, PrintFault, link_name, node_name, send};

@@ -3,8 +3,7 @@ use Rattle.std.proofs.lemmas.Result.{on_err_weaker}
 use Rattle.card_digits.specs.Stream.{AppendsFront}
 use Rattle.iso_message.proofs.SpansMore.{on_err}
 use Rattle.net_replay.specs.Steps.{Step}
-use Rattle.replay_text.specs.Lines.{step_text}
-use Rattle.replay_text.specs.Ordered.{ordered_text}
+use Rattle.replay_text.specs.Lines.{ordered_text, step_text}
 use Rattle.replay_text.specs.Fronts.{SendsFront}
 use Rattle.replay_text.proofs.SentTexts.{both_sent, front_sent, front_all, next_ordered}
 use Rattle.replay_text.proofs.steps.write_steps.Goals as goal

@@ -1,6 +1,6 @@
 use Rattle.std.proofs.Common.{◌≡◌, ◌<◌, ◌+◌, ◌^◌, ◌++◌, List, ℕ, [], length}
 use Rattle.message_text.specs.Printed.{Sends}
-use Rattle.replay_text.specs.Ordered.{ordered_text}
+use Rattle.replay_text.specs.Lines.{ordered_text}
 use Rattle.replay_text.proofs.steps.write_steps.Given as goal
 
 abbrev pub invariant-loop-step : goal.invariant-loop-step
