@@ -11,3 +11,5 @@ mod kept;
 mod looks;
 #[cfg(test)]
 mod packets;
+#[cfg(test)]
+mod samples;

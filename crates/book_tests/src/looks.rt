@@ -1,30 +1,13 @@
 //! Looks at links, requests, advices and ticks after few changes and after many.
 ghost use Rattle.std.specs.Prelude.{◌≡◌, ◌≤◌, ◌+◌, ◌^◌, [], IfOk, OnOk, length};
 
-use card_digits::{DateLabel, Key, LinkNo};
+use crate::samples::{KEY, REVERSAL, STAND_IN};
+use card_digits::{DateLabel, LinkNo};
 use entry_changes::{AdviceState, Changes, Forwarding, LinkAfter};
-use iso_message::{AdviceId, AdviceKind};
+use iso_message::AdviceId;
 use node_books::{Books, Effect};
 use std::alloc::{AllocError, Global};
 use std::test::*;
-
-const KEY: Key = Key {
-    acquirer: *b"00000001001",
-    trace: *b"000001",
-    time: *b"0314091530",
-};
-
-const ID: AdviceId = AdviceId {
-    kind: AdviceKind::Reversal,
-    key: KEY,
-    forwarder: *b"00000001001",
-};
-
-const OTHER: AdviceId = AdviceId {
-    kind: AdviceKind::StandIn,
-    key: KEY,
-    forwarder: *b"00000001001",
-};
 
 const STORED: AdviceState = AdviceState {
     known: true,
@@ -46,7 +29,7 @@ fn changed(alloc: Global, ticks: usize) -> Result<Changes, Fail>
         changes.push(Effect::Ticked)?;
     }
     changes.push(Effect::LinkIs(LinkNo::new(1), false))?;
-    changes.push(Effect::Acknowledged(ID))?;
+    changes.push(Effect::Acknowledged(REVERSAL))?;
     Ok(changes)
 }
 
@@ -77,7 +60,7 @@ fn one_link_is_down(changes: &Changes) -> bool {
 
 /// Whether one advice is acknowledged and the other is still stored.
 fn one_is_stored(changes: &Changes) -> bool {
-    !stored_still(changes, ID) && stored_still(changes, OTHER)
+    !stored_still(changes, REVERSAL) && stored_still(changes, STAND_IN)
 }
 
 fn has_no_link(changes: &Changes) -> bool {

@@ -1,28 +1,10 @@
 //! Identities that are known.
 
+use crate::samples::{REVERSAL, STAND_IN};
 use advice_store::AdviceStore;
-use card_digits::Key;
-use iso_message::{AdviceId, AdviceKind};
+use iso_message::AdviceId;
 use std::alloc::{AllocError, Global};
 use std::test::*;
-
-const KEY: Key = Key {
-    acquirer: *b"00000001001",
-    trace: *b"000001",
-    time: *b"0314091530",
-};
-
-const ID: AdviceId = AdviceId {
-    kind: AdviceKind::Reversal,
-    key: KEY,
-    forwarder: *b"00000001001",
-};
-
-const OTHER: AdviceId = AdviceId {
-    kind: AdviceKind::StandIn,
-    key: KEY,
-    forwarder: *b"00000001001",
-};
 
 fn note(store: &mut AdviceStore, id: AdviceId) -> Result<(), AllocError> {
     store.reserve(1)?;
@@ -36,8 +18,8 @@ fn is_only_known(store: &AdviceStore, id: AdviceId) -> bool {
 }
 
 fn notes(store: &mut AdviceStore) -> Result<bool, AllocError> {
-    note(store, ID)?;
-    Ok(is_only_known(store, ID) && !store.is_known(OTHER) && store.len() == 0)
+    note(store, REVERSAL)?;
+    Ok(is_only_known(store, REVERSAL) && !store.is_known(STAND_IN) && store.len() == 0)
 }
 
 fn notes_in_new_store(alloc: Global) -> Result<bool, AllocError> {
@@ -52,9 +34,9 @@ fn noted_where_nothing_is_stored(rt: HostRuntime) -> Result<(), Fail> {
 }
 
 fn knows_what_is_acknowledged(store: &mut AdviceStore) -> Result<bool, AllocError> {
-    note(store, ID)?;
-    store.ack(ID);
-    Ok(is_only_known(store, ID))
+    note(store, REVERSAL)?;
+    store.ack(REVERSAL);
+    Ok(is_only_known(store, REVERSAL))
 }
 
 fn knows_in_new_store(alloc: Global) -> Result<bool, AllocError> {
