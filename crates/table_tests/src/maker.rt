@@ -42,10 +42,16 @@ fn is_found(alloc: Global, tables: &Tables, class: Prefix, wanted: &[NodeNo]) ->
 
 /// Fails where the first circle that is found is not this one, by the names of its nodes.
 fn finds(alloc: Global, rows: &'static str, class: &str, names: &str) -> Result<(), Fail> {
+    match tables(alloc, rows) {
+        Ok(tables) => finds_in(alloc, &tables, class, names),
+        Err(fail) => Err(fail),
+    }
+}
+
+fn finds_in(alloc: Global, tables: &Tables, class: &str, names: &str) -> Result<(), Fail> {
     let class = prefix(class)?;
-    let tables = tables(alloc, rows)?;
-    let wanted = places(alloc, &tables, names)?;
-    if !is_found(alloc, &tables, class, wanted.as_slice()) {
+    let wanted = places(alloc, tables, names)?;
+    if !is_found(alloc, tables, class, wanted.as_slice()) {
         return Err("another circle, or none".into());
     }
     Ok(())
@@ -243,9 +249,15 @@ fn tells(alloc: Global, tables: &Tables, line: &str) -> Result<bool, Fail> {
 
 /// Fails at the first line of which the answer is another.
 fn tell(alloc: Global, lines: &'static str, wanted: bool) -> Result<(), Fail> {
-    let tables = tables(alloc, ROUND)?;
+    match tables(alloc, ROUND) {
+        Ok(tables) => tell_in(alloc, &tables, lines, wanted),
+        Err(fail) => Err(fail),
+    }
+}
+
+fn tell_in(alloc: Global, tables: &Tables, lines: &'static str, wanted: bool) -> Result<(), Fail> {
     for line in lines.lines() {
-        if tells(alloc, &tables, line)? != wanted {
+        if tells(alloc, tables, line)? != wanted {
             return Err(Fail::new(line));
         }
     }
