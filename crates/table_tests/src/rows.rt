@@ -1,90 +1,22 @@
 //! Nodes and links of tables that were read.
 use crate::lines::words;
-use card_digits::{Card, LinkNo, NodeNo, Prefix};
-use net_tables::{Tables, read_tables};
+use crate::networks::{prefix, tables};
+use card_digits::{Card, LinkNo, NodeNo};
+use net_rows::Tables;
 use std::alloc::Global;
 use std::test::Fail;
 
-/// Three nodes, each linked to the other two.
-const TABLES: &str = r#"
-[network]
-currency = "840"
-date = "0314"
-host_ticks = 100
-advice_ticks = 50
-[[node]]
-name = "A"
-id = "1001"
-[[node]]
-name = "B"
-id = "1003"
-[[node]]
-name = "H"
-id = "1002"
-[[link]]
-name = "AB"
-ends = ["A", "B"]
-ticks = 3
-[[link]]
-name = "BH"
-ends = ["B", "H"]
-ticks = 3
-[[link]]
-name = "AH"
-ends = ["A", "H"]
-ticks = 3
-[[acquirer]]
-id = "400001"
-node = "A"
-[[issuer]]
-name = "I"
-prefix = "4"
-home = "H"
-named = ["A", "B"]
-ceiling = 500
-[[issuer]]
-name = "J"
-prefix = "411111"
-home = "B"
-named = []
-ceiling = 0
-[[route]]
-node = "A"
-prefix = "4"
-links = ["AH", "AB"]
-[[route]]
-node = "A"
-prefix = "411111"
-links = ["AB"]
-[[route]]
-node = "B"
-prefix = "4"
-links = ["BH"]
-[[stand_in]]
-node = "A"
-prefix = "4"
-day = 300
-single = 50
-[[stand_in]]
-node = "B"
-prefix = "4"
-day = 200
-single = 40
-[[stand_in]]
-node = "A"
-prefix = "411111"
-day = 0
-single = 0
-[[stand_in]]
-node = "B"
-prefix = "411111"
-day = 0
-single = 0
-"#;
-
-fn tables(alloc: Global) -> Result<Tables, Fail> {
-    Ok(read_tables(alloc, TABLES.as_bytes()).ok().ok_or("tables")?)
-}
+const ROWS: &str = "\
+acquirer 400001 A
+issuer 4 H 500 A B
+issuer 411111 B 0
+route A 4 AH AB
+route A 411111 AB
+route B 4 BH
+stand_in A 4 300
+stand_in B 4 200
+stand_in A 411111 0
+";
 
 fn node(tables: &Tables, name: &str) -> Result<NodeNo, Fail> {
     Ok(tables.node_of(name.as_bytes()).ok_or("node")?)
@@ -101,10 +33,6 @@ fn is_other_end(tables: &Tables, name: &str, link: usize, wanted: &str) -> Resul
 
 fn card(text: &str) -> Result<Card, Fail> {
     Ok(Card::read(text.as_bytes()).ok().ok_or("card")?)
-}
-
-fn class(text: &str) -> Result<Prefix, Fail> {
-    Ok(Prefix::read(text.as_bytes()).ok().ok_or("prefix")?)
 }
 
 /// The number of digits of the prefix of a card's issuer row, 0 where there is none.
@@ -124,7 +52,7 @@ fn route_links(tables: &Tables, node: NodeNo, card: &Card) -> usize {
 }
 
 fn day(tables: &Tables, name: &str, text: &str) -> Result<u64, Fail> {
-    Ok(tables.day_at(node(tables, name)?, &class(text)?).value())
+    Ok(tables.day_at(node(tables, name)?, &prefix(text)?).value())
 }
 
 fn is_so(tables: &Tables, words: &[&'static str]) -> Result<bool, Fail> {
@@ -152,9 +80,15 @@ fn holds(alloc: Global, tables: &Tables, line: &'static str) -> Result<bool, Fai
 /// Fails at the first line that does not hold: `node NAME PLACE`, `no_node NAME`, `other_end NODE LINK NODE`,
 /// `issuer_digits CARD COUNT`, `route_links NODE CARD COUNT` or `day NODE CLASS AMOUNT`.
 fn all_hold(alloc: Global, lines: &'static str) -> Result<(), Fail> {
-    let tables = tables(alloc)?;
+    match tables(alloc, ROWS) {
+        Ok(tables) => all_hold_in(alloc, &tables, lines),
+        Err(fail) => Err(fail),
+    }
+}
+
+fn all_hold_in(alloc: Global, tables: &Tables, lines: &'static str) -> Result<(), Fail> {
     for line in lines.lines() {
-        if !holds(alloc, &tables, line)? {
+        if !holds(alloc, tables, line)? {
             return Err(Fail::new(line));
         }
     }
@@ -168,7 +102,7 @@ fn places_of_nodes(rt: HostRuntime) -> Result<(), Fail> {
         "
             node A 0
             node B 1
-            no_node C
+            no_node D
         ",
     )
 }
