@@ -65,11 +65,11 @@ output_text t o = way_text t o ++ bytes_of o ++ line_feed
 abbrev pub step_text : Network → ℕ → Step → Text
 step_text t number s = decimal number ++ 32 ∷ node_name t s.node ++ line_feed ++ flat_map (output_text t) s.entry.outputs
 
--- the lines of steps of which the oldest stands first, and its line has this number
+-- the text of steps that stand in the order of their lines, from the line of this number on
 abbrev pub ordered_text : Network → ℕ → List Step → Text
 ordered_text t number [] = []
 ordered_text t number (s ∷ steps) = step_text t number s ++ ordered_text t (suc number) steps
 
--- the lines of a script's steps, of which the newest stands first
+-- the text of a script's steps, line by line; among the steps the newest stands first
 abbrev pub steps_text : Network → List Step → Text
 steps_text t steps = ordered_text t 1 (reverse steps)
