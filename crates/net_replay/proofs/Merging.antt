@@ -1,5 +1,6 @@
 -- What is merged from the traces are the steps, in the order of their lines.
 use Rattle.std.proofs.Common.{◌≡◌, ℕ, suc, ◌<◌, ◌≤◌, List, [], ◌∷◌, ◌++◌, length, map, reverse, set, get_or, Bor, Option, Some, None, Bool, true, false, eqb, eqb-true, eq-eqb, refl, sym, ap, ◌∙◌, subst, arith}
+use Rattle.std.proofs.lemmas.Bool.{eqb-false}
 use Rattle.std.specs.Prelude.{slice_get}
 use Rattle.std.proofs.lemmas.List.{append-nil, map-set, reverse-append}
 use Rattle.std.specs.Option.{option_map}
@@ -10,7 +11,7 @@ use Rattle.switch_node.specs.Node.{NodeView}
 use Rattle.net_replay.specs.Steps.{Step, entries_at}
 use Rattle.net_replay.specs.Traces.{TracesView, AreTraces, AreThere}
 use Rattle.net_replay.specs.Merged.{first_and, merged}
-use Rattle.net_replay.proofs.Standing.{get_same, get_other, differ}
+use Rattle.net_replay.proofs.Standing.{get_same, get_other}
 
 -- steps the other way round
 
@@ -61,7 +62,7 @@ left_is t (s ∷ steps) rests there left =
     next : (m : ℕ) → m < length t.nodes → (b : Bool) → eqb s.node m ≡ b → slice_get (set rests s.node (entries_at s.node steps)) m ≡ Some (entries_at m steps)
     next m less true same = subst (λ z. slice_get (set rests s.node (entries_at s.node steps)) z ≡ Some (entries_at z steps)) (eqb-true s.node m same)
         (get_same rests s.node (entries_at s.node steps) (slice_get_within rests s.node (entries_at s.node (s ∷ steps)) (left s.node there.0)))
-    next m less false other = get_other rests s.node m (entries_at s.node steps) (differ s.node m other) ∙ (left m less ∙ ap Some (other_is m other))
+    next m less false other = get_other rests s.node m (entries_at s.node steps) (eqb-false s.node m other) ∙ (left m less ∙ ap Some (other_is m other))
 
 -- what is left of each node's trace before the first line
 abbrev pub rests_of : List NodeView → List (List Entry)

@@ -2,6 +2,7 @@
 use Rattle.std.proofs.Common.{◌≡◌, ℕ, zero, suc, ◌<◌, ◌==◌, List, [], ◌∷◌, ◌++◌, length, map, reverse, set, get_or, Option, Some, None, Bool, true, false, cond, eqb, eqb-true, eq-eqb, refl, sym, ap, ◌∙◌, subst, arith, append_assoc, length-append, length-set, replicate, inl, inr, ◌⊎◌, if◌then◌else◌}
 use Rattle.std.specs.Prelude.{slice_get, option_and_then}
 use Rattle.std.specs.Option.{option_map}
+use Rattle.std.proofs.lemmas.Bool.{eqb-false}
 use Rattle.std.proofs.lemmas.List.{append-nil, map-append, reverse-append, length-reverse}
 use Rattle.std.proofs.lemmas.Option.{get_or_from_slice_get, slice_get_within}
 use Rattle.net_rows.specs.Network.{Network}
@@ -37,15 +38,6 @@ get_other (x ∷ xs) zero (suc j) v ne = refl
 get_other (x ∷ xs) (suc i) zero v ne = refl
 get_other (x ∷ xs) (suc i) (suc j) v ne = get_other xs i j v (λ e. ne (ap suc e))
 
-pub get_or_set : {X : Type 0} (xs : List X) (i : ℕ) (v w : X) → i < length xs → get_or (set xs i v) i w ≡ v
-get_or_set xs i v w less = get_or_from_slice_get (set xs i v) i v w (get_same xs i v less)
-
-pub differ : (i j : ℕ) → eqb i j ≡ false → i ≡ j → ⊥
-differ i j f e = no (sym f ∙ eq-eqb i j e)
-  where
-    no : false ≡ true → ⊥
-    no p = cc
-
 -- the packets of outputs are added
 
 -- the places of those on a link, of the outputs from the k-th on
@@ -72,7 +64,7 @@ put_all_gets entry k (Put m s b ∷ os) links l xs e = go (eqb m l) refl (put_al
         let here : slice_get links m ≡ Some xs = ap (slice_get links) on ∙ e in
         let put : slice_get (put_at links m p) m ≡ Some (xs ++ p ∷ []) = get_same links m (get_or links m [] ++ p ∷ []) (slice_get_within links m xs here) ∙ ap (λ z. Some (z ++ p ∷ [])) (get_or_from_slice_get links m xs [] here) in
         rw same (ih (xs ++ p ∷ []) (ap (slice_get (put_at links m p)) (sym on) ∙ put) ∙ ap Some (append_assoc xs (p ∷ []) rest))
-    go false other ih = rw other (ih xs (get_other links m l (get_or links m [] ++ p ∷ []) (differ m l other) ∙ e))
+    go false other ih = rw other (ih xs (get_other links m l (get_or links m [] ++ p ∷ []) (eqb-false m l other) ∙ e))
 put_all_gets entry k (Answer b ∷ os) links l xs e = put_all_gets entry (suc k) os links l xs e
 put_all_gets entry k (Ask a b ∷ os) links l xs e = put_all_gets entry (suc k) os links l xs e
 put_all_gets entry k (Post b ∷ os) links l xs e = put_all_gets entry (suc k) os links l xs e
@@ -195,7 +187,7 @@ one_more t nodes sent line_nodes steps at n less e step links there = record {
     node : (m : ℕ) (b : Bool) → eqb n m ≡ b → m < length t.nodes → slice_get (set nodes n now) m ≡ Some (record { t = t; n = m; trace = entries_at m next })
     node m true same lm = subst (λ z. slice_get (set nodes n now) z ≡ Some (record { t = t; n = z; trace = entries_at z next })) (eqb-true n m same)
         (get_same nodes n now (omega (arith, less, at.nodes_are.0)) ∙ ap (λ z. Some (record { t = t; n = n; trace = z })) (sym (entries_same n e steps)))
-    node m false other lm = get_other nodes n m now (differ n m other) ∙ (at.nodes_are.1 m lm ∙ ap (λ z. Some (record { t = t; n = m; trace = z })) (sym (entries_other n m e steps other)))
+    node m false other lm = get_other nodes n m now (eqb-false n m other) ∙ (at.nodes_are.1 m lm ∙ ap (λ z. Some (record { t = t; n = m; trace = z })) (sym (entries_other n m e steps other)))
 
     now_sent : List (List PacketPlace)
     now_sent = put_all links (length (entries_at n steps)) 0 e.outputs
@@ -215,7 +207,7 @@ one_more t nodes sent line_nodes steps at n less e step links there = record {
         (now_sent, get_same sent n now_sent (omega (arith, less, at.sent_are.0)), subst (λ z. ArePackets (length t.links) z now_sent) (sym (entries_same n e steps)) packed)
     put m false other lm =
         let k = at.sent_are.1 m lm in
-        (k.0, get_other sent n m now_sent (differ n m other) ∙ k.1, subst (λ z. ArePackets (length t.links) z k.0) (sym (entries_other n m e steps other)) k.2)
+        (k.0, get_other sent n m now_sent (eqb-false n m other) ∙ k.1, subst (λ z. ArePackets (length t.links) z k.0) (sym (entries_other n m e steps other)) k.2)
 
     right : (m : ℕ) (b : Bool) → eqb n m ≡ b → m < length t.nodes → IsLegal t m (entries_at m next)
     right m true same lm = subst (λ z. IsLegal t z (entries_at z next)) (eqb-true n m same) (subst (IsLegal t n) (sym (entries_same n e steps)) (at.legal n less, step))

@@ -1,5 +1,5 @@
 //! Messages as the books keep them.
-ghost use Rattle.std.specs.Prelude.{◌≡◌, bytes_eq, IfOk, OnOk};
+ghost use Rattle.std.specs.Prelude.{◌≡◌, bytes_eq, [], IfOk, OnOk, OnErr};
 ghost use Rattle.iso_message.specs.Codes.{code_of};
 ghost use Rattle.iso_message.specs.Spelling.{spelling};
 
@@ -72,9 +72,11 @@ impl KeptMessage {
         }
     }
 
-    /// Reads the message again of its bytes, in the place and the memory of another.
+    /// Reads the message again of its bytes, in the place and the memory of another, which is left without elements where memory is
+    /// refused.
     pub fn decode_into(&self, message: &mut Message) -> Result<(), AllocError>
-        ensures { OnOk result (message.new ≡ self.now) }
+        ensures read { OnOk result (message.new ≡ self.now) }
+        ensures refused { OnErr result (message.new ≡ record { kind = message.old.kind; elements = [] }) }
     {
         match message.read_again(self.bytes.as_slice()) {
             Ok(()) => Ok(()),

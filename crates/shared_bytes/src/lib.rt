@@ -1,7 +1,7 @@
 //! Bytes that several owners hold.
 #![tactic(auto)]
 
-ghost use Rattle.std.specs.Prelude.{◌≡◌, Some, IfOk};
+ghost use Rattle.std.specs.Prelude.{◌≡◌, Some, IfOk, OnErr};
 
 use std::alloc::{AllocError, Global};
 use std::marker::Model;
@@ -54,6 +54,7 @@ impl SharedBytes {
     }
 
     /// These bytes, which are at hand afterwards: with one owner more where they were at hand before, and else in memory of their own.
+    /// Where that is refused, what was at hand still is.
     pub fn at_hand_or_copy(
         alloc: Global,
         at_hand: &mut Option<SharedBytes>,
@@ -61,6 +62,7 @@ impl SharedBytes {
     ) -> Result<SharedBytes, AllocError>
         ensures bytes { IfOk result (λ b. b ≡ bytes.now) }
         ensures at_hand { IfOk result (λ b. at_hand.new ≡ Some b) }
+        ensures refused { OnErr result (at_hand.new ≡ at_hand.old) }
     {
         if let Some(held) = at_hand {
             if held.as_slice() == bytes {
@@ -79,6 +81,7 @@ impl SharedBytes {
     {
         self.items.as_slice()
     }
+
     /// What their memory comes from.
     pub fn alloc(&self) -> Global {
         self.alloc

@@ -203,7 +203,7 @@ fn on_identified(
     }
 }
 
-/// A message, as it is handled, with what is kept of a request.
+/// A message, as it is handled, with what is kept of a request. An answer's request is read into the message's place.
 #[tactic(auto, using(crate::proofs::Messages::request_group))]
 fn on_message(
     draft: &mut Draft,

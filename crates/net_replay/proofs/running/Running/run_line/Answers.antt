@@ -1,4 +1,4 @@
-use Rattle.std.proofs.Common.{◌≡◌, ℕ, ◌++◌, ◌∷◌, [], List, length, Some, None, refl, sym, ap, ◌∙◌, subst, arith, ◌⊎◌, true, not}
+use Rattle.std.proofs.Common.{◌≡◌, ℕ, ◌++◌, ◌∷◌, [], List, length, Some, None, get_or-set_same, refl, sym, ap, ◌∙◌, subst, arith, ◌⊎◌, true, not}
 use Rattle.std.specs.Result.{is_ok}
 use Rattle.std.proofs.lemmas.List.{length-reverse}
 use Rattle.network_law.specs.Entries.{Entry}
@@ -11,7 +11,7 @@ use Rattle.switch_node.specs.Node.{NodeView, newest_outputs}
 use Rattle.net_replay.specs.Steps.{entries_at}
 use Rattle.net_replay.specs.Packets.{put_all}
 use Rattle.net_replay.proofs.Reading.{line_placed, own_input}
-use Rattle.net_replay.proofs.Standing.{one_more, view_is, refused, node_at, links_at, get_or_set}
+use Rattle.net_replay.proofs.Standing.{one_more, view_is, refused, node_at, links_at}
 use Rattle.net_replay.proofs.running.Running.run_line.Goals as goal
 
 pub index-requires : goal.index-requires
@@ -66,7 +66,7 @@ returns-clause-made c steps standing =
       outputs = refl;
     } in
     let now = view_is c.advance.new.self t n (e ∷ es) (c.in_default-advance.ensures.same.0 ∙ ap (λ (v : NodeView). v.t) view) (c.in_default-advance.ensures.same.1 ∙ ap (λ (v : NodeView). v.n) view) (c.in_default-advance.ensures.entry ∙ ap (λ (v : NodeView). (record { input = c.in_ok-input.input; outputs = step_outputs v.t v.n v.trace c.in_ok-input.input }) ∷ v.trace) view) in
-    let newest : c.index-2.result.now ≡ c.advance.new.self = c.index-2.ensures ∙ get_or_set c.args.self.now.nodes.items c.place-place.result c.advance.new.self c.index-2.result.now (omega (arith, c.place-place.ensures.place, placed.0, at.nodes_are.0)) in
+    let newest : c.index-2.result.now ≡ c.advance.new.self = c.index-2.ensures ∙ get_or-set_same c.args.self.now.nodes.items c.place-place.result c.advance.new.self c.index-2.result.now (omega (arith, c.place-place.ensures.place, placed.0, at.nodes_are.0)) in
     let outs : c.newest_outputs-outputs.result.now ≡ e.outputs = c.newest_outputs-outputs.ensures ∙ ap (λ (v : NodeView). newest_outputs v.trace) (newest ∙ now) in
     let len : length c.trace-count.result.now ≡ length es = sym (length-reverse c.trace-count.result.now) ∙ ap length (c.trace-count.ensures.trace ∙ ap (λ (v : NodeView). v.trace) first) in
     let entry : c.in-Ok.entry ≡ length es = c.in-Ok.ensures.1 ∙ len in
