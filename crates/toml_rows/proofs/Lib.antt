@@ -1,0 +1,5 @@
+pub mod Keys
+pub mod Members
+pub mod Documents
+pub mod Pairs
+pub mod Found

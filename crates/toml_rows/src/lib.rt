@@ -1,0 +1,9 @@
+//! Rows of a TOML document, one after the other, without the tree of the whole. What is read here is a part of what the crate `toml`
+//! reads, and gives the same members; of any other text nothing is said, and it is for `toml` to read.
+#![tactic(auto)]
+
+mod line;
+mod row;
+mod value;
+
+pub use row::{first_table, is_over, next_row, start};

@@ -1,0 +1,91 @@
+//! Lines of a document.
+ghost use Rattle.std.specs.Prelude.{◌≡◌, ◌==◌, ◌<◌, ◌≤◌, [], true, false, length, string_bytes, Some, IfSome};
+ghost use Rattle.toml.specs.Parse as spec;
+ghost use Rattle.toml.specs.Tables.{key_value};
+ghost use Rattle.toml.specs.View.{view};
+ghost use Rattle.toml_parser.specs.Lexical as lexical;
+ghost use Rattle.toml_rows.specs.Rows.{IsLine, table_line, row_line};
+
+use crate::value::value;
+use std::alloc::Global;
+use toml::Value;
+use toml_parser::dotted_key;
+use toml_parser::text::{byte_at, first, skip, skip_blank, skip_ws};
+
+fn ends_line(s: &str) -> bool
+    ensures { result ≡ spec.ends_line (lexical.skip_ws s.now) }
+{
+    let end = skip_ws(s);
+    end.is_empty() || matches!(first(end), b'#' | b'\n' | b'\r')
+}
+
+/// A key without dots, and its value, alone on their line.
+#[tactic(auto, unfolding(toml::specs::Parse::line, toml::specs::Parse::expression, toml::specs::Parse::key_equals))]
+pub(crate) fn pair(alloc: Global, s: &str) -> Option<((String, Value), &str)>
+    requires { (lexical.first s.now == lexical.left_bracket) ≡ false }
+    ensures value { IfSome result (λ p. spec.line s.now ≡ Some ((([], string_bytes p.0.0), key_value (view p.0.1)), p.1.now)) }
+    ensures shorter { IfSome result (λ p. length p.1.now < length s.now) }
+{
+    let Ok((key, rest)) = dotted_key(alloc, s) else {
+        return None;
+    };
+    if !key.path.is_empty() || first(rest) != b'=' {
+        return None;
+    }
+    let (value, rest) = value(alloc, skip_ws(skip(rest, 1)))?;
+    if !ends_line(rest) {
+        return None;
+    }
+    Some(((key.last, value), rest))
+}
+
+/// What follows the word of a header and its closing bracket.
+#[tactic(auto, unfolding(toml::specs::Parse::header_key))]
+fn after_word<'a>(alloc: Global, s: &'a str, word: &str) -> Option<&'a str>
+    ensures value { IfSome result (λ rest. spec.header_key s.now ≡ Some (([], word.now), rest.now)) }
+    ensures shorter { IfSome result (λ rest. length rest.now < length s.now) }
+{
+    let Ok((key, rest)) = dotted_key(alloc, skip_ws(s)) else {
+        return None;
+    };
+    if !key.path.is_empty() || key.last.as_str() != word || first(rest) != b']' {
+        return None;
+    }
+    Some(skip(rest, 1))
+}
+
+/// What follows the line `[word]`, where it comes next.
+#[tactic(auto, unfolding(toml::specs::Parse::line, toml::specs::Parse::expression))]
+pub(crate) fn after_table_header<'a>(alloc: Global, s: &'a str, word: &str) -> Option<&'a str>
+    ensures { IfSome result (λ rest. IsLine (table_line word.now) s.now rest.now) }
+{
+    let start = skip_blank(s, true);
+    if first(start) != b'[' || byte_at(start, 1) == b'[' {
+        return None;
+    }
+    let rest = after_word(alloc, skip(start, 1), word)?;
+    if !ends_line(rest) {
+        return None;
+    }
+    Some(rest)
+}
+
+/// What follows the line `[[word]]`, where it comes next.
+#[tactic(auto, unfolding(toml::specs::Parse::line, toml::specs::Parse::expression))]
+pub(crate) fn after_row_header<'a>(alloc: Global, s: &'a str, word: &str) -> Option<&'a str>
+    ensures { IfSome result (λ rest. IsLine (row_line word.now) s.now rest.now) }
+{
+    let start = skip_blank(s, true);
+    if first(start) != b'[' || byte_at(start, 1) != b'[' {
+        return None;
+    }
+    let rest = after_word(alloc, skip(start, 2), word)?;
+    if first(rest) != b']' {
+        return None;
+    }
+    let rest = skip(rest, 1);
+    if !ends_line(rest) {
+        return None;
+    }
+    Some(rest)
+}
