@@ -1,16 +1,17 @@
 //! The table `[[route]]`.
-ghost use Rattle.std.specs.Prelude.{IfOk};
+ghost use Rattle.std.specs.Prelude.{IfOk, IfSome};
 ghost use Rattle.net_rows.specs.Sound.{AreOwnLinks};
 ghost use Rattle.toml.specs.View.{table_view};
 ghost use Rattle.table_fields.specs.Faults.{Gives};
 ghost use Rattle.net_tables.specs.AllRows.{all_rows};
 ghost use Rattle.net_tables.specs.Rows.{node_names};
 ghost use Rattle.net_tables.specs.Reading.{route_of};
+ghost use Rattle.net_tables.specs.InOrder.{AreNext};
 ghost use Rattle.table_fields.specs.declared.place.Table.TheVariants as table;
 
 use crate::named_rows::NamedRows;
 use crate::node_prefixes::{NodePrefixes, new_prefix_at};
-use crate::rows::{RowReader, read_rows};
+use crate::rows::{RowReader, next_rows, read_rows};
 use crate::several::links_at;
 use net_rows::{Link, Node, Route};
 use std::alloc::Global;
@@ -76,4 +77,26 @@ pub(crate) fn routes(
     };
     let (rows, _taken) = read_rows(alloc, root, Table::Route, &reader, taken)?;
     Ok(rows)
+}
+
+/// The routes where they come next in a text, and what follows them.
+pub(crate) fn next_routes<'a>(
+    alloc: Global,
+    text: &'a str,
+    nodes: &NamedRows<Node>,
+    links: &NamedRows<Link>,
+) -> Option<(Vec<Route>, &'a str)>
+    ensures value { IfSome result (λ p. AreNext table.Route (route_of (node_names nodes.now) links.now) p.0.items text.now p.1.now) }
+    ensures own { IfSome result (λ p. AreOwnLinks links.now p.0.items) }
+{
+    let Ok(taken) = NodePrefixes::new(alloc, nodes.as_slice().len()) else {
+        return None;
+    };
+    let reader = RouteReader {
+        alloc,
+        nodes,
+        links,
+    };
+    let ((rows, _taken), rest) = next_rows(alloc, text, Table::Route, &reader, taken)?;
+    Some((rows, rest))
 }

@@ -1,13 +1,15 @@
 //! The rows of a table, each read after those before it.
-ghost use Rattle.std.specs.Prelude.{[], IfOk};
+ghost use Rattle.std.specs.Prelude.{[], IfOk, IfSome};
 ghost use Rattle.std.specs.List.{AllByRecursion};
 ghost use Rattle.toml.specs.View.{table_view};
 ghost use Rattle.table_fields.specs.Faults.{Gives};
 ghost use Rattle.table_fields.specs.Shapes.{tables_view};
 ghost use Rattle.net_tables.specs.AllRows.{each, numbered, all_rows};
+ghost use Rattle.net_tables.specs.InOrder.{AreNext};
 
 use std::alloc::Global;
 use table_fields::{Row, Table, TableFault, rows_at};
+use toml_rows::next_row;
 
 /// How a table's rows are read.
 pub(crate) trait RowReader {
@@ -85,4 +87,40 @@ pub(crate) fn read_rows<R: RowReader>(
 {
     let rows = rows_at(alloc, root, table)?;
     each_row(alloc, &rows, table, reader, taken)
+}
+
+/// The rows of a table that come next in a text, what they have taken, and what follows them. None where a row has a fault or memory was
+/// refused.
+pub(crate) fn next_rows<'a, R: RowReader>(
+    alloc: Global,
+    text: &'a str,
+    table: Table,
+    reader: &R,
+    taken: R::Taken,
+) -> Option<((Vec<R::Read>, R::Taken), &'a str)>
+    requires { R.knows reader.now taken [] }
+    ensures value { IfSome result (λ p. AreNext table (R.reads reader.now) p.0.0.items text.now p.1.now) }
+    ensures taken { IfSome result (λ p. R.knows reader.now p.0.1 p.0.0.items) }
+    ensures fits { IfSome result (λ p. AllByRecursion (R.fits reader.now) p.0.0.items) }
+{
+    let mut taken = taken;
+    let mut done = Vec::new(alloc);
+    let mut rest = text;
+    'rows: loop {
+        let Some((members, after)) = next_row(alloc, rest, table.word()) else {
+            return Some(((done, taken), rest));
+        };
+        let row = Row {
+            members: &members,
+            table,
+            number: done.len() + 1,
+        };
+        let Ok(read) = reader.read(&mut taken, &done, &row) else {
+            return None;
+        };
+        let Ok(()) = done.push(read) else {
+            return None;
+        };
+        rest = after;
+    }
 }

@@ -1,14 +1,16 @@
 //! The table `[[stand_in]]`.
+ghost use Rattle.std.specs.Prelude.{IfSome};
 ghost use Rattle.toml.specs.View.{table_view};
 ghost use Rattle.table_fields.specs.Faults.{Gives};
 ghost use Rattle.net_tables.specs.AllRows.{all_rows};
 ghost use Rattle.net_tables.specs.Rows.{node_names};
 ghost use Rattle.net_tables.specs.Reading.{stand_in_of};
+ghost use Rattle.net_tables.specs.InOrder.{AreNext};
 ghost use Rattle.table_fields.specs.declared.place.Table.TheVariants as table;
 
 use crate::named_rows::NamedRows;
 use crate::node_prefixes::{NodePrefixes, new_prefix_at};
-use crate::rows::{RowReader, read_rows};
+use crate::rows::{RowReader, next_rows, read_rows};
 use net_rows::{Node, StandIn};
 use std::alloc::Global;
 use table_fields::{Key, Row, Table, TableFault};
@@ -65,4 +67,20 @@ pub(crate) fn stand_ins(
     let reader = StandInReader { nodes };
     let (rows, _taken) = read_rows(alloc, root, Table::StandIn, &reader, taken)?;
     Ok(rows)
+}
+
+/// The stand-in rows where they come next in a text, and what follows them.
+pub(crate) fn next_stand_ins<'a>(
+    alloc: Global,
+    text: &'a str,
+    nodes: &NamedRows<Node>,
+) -> Option<(Vec<StandIn>, &'a str)>
+    ensures { IfSome result (λ p. AreNext table.StandIn (stand_in_of (node_names nodes.now)) p.0.items text.now p.1.now) }
+{
+    let Ok(taken) = NodePrefixes::new(alloc, nodes.as_slice().len()) else {
+        return None;
+    };
+    let reader = StandInReader { nodes };
+    let ((rows, _taken), rest) = next_rows(alloc, text, Table::StandIn, &reader, taken)?;
+    Some((rows, rest))
 }

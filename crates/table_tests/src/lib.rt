@@ -1,4 +1,4 @@
-//! Tests of digits, rows, tries, certificates, and the making and checking of ranks, by the calls that a program makes.
+//! Tests of digits, plain rows, tables, tries, certificates, and the making and checking of ranks, by the calls that a program makes.
 #![tactic(auto)]
 
 #[cfg(test)]
@@ -13,6 +13,8 @@ mod lines;
 mod maker;
 #[cfg(test)]
 mod networks;
+#[cfg(test)]
+mod plain_rows;
 #[cfg(test)]
 mod rows;
 #[cfg(test)]

@@ -18,6 +18,19 @@ stand_in B 4 200
 stand_in A 411111 0
 ";
 
+/// The same rows, each table's in the same order, and the tables in another.
+const OTHER_ORDER: &str = "\
+stand_in A 4 300
+stand_in B 4 200
+stand_in A 411111 0
+route A 4 AH AB
+route A 411111 AB
+route B 4 BH
+issuer 4 H 500 A B
+issuer 411111 B 0
+acquirer 400001 A
+";
+
 fn node(tables: &Tables, name: &str) -> Result<NodeNo, Fail> {
     Ok(tables.node_of(name.as_bytes()).ok_or("node")?)
 }
@@ -80,7 +93,12 @@ fn holds(alloc: Global, tables: &Tables, line: &'static str) -> Result<bool, Fai
 /// Fails at the first line that does not hold: `node NAME PLACE`, `no_node NAME`, `other_end NODE LINK NODE`,
 /// `issuer_digits CARD COUNT`, `route_links NODE CARD COUNT` or `day NODE CLASS AMOUNT`.
 fn all_hold(alloc: Global, lines: &'static str) -> Result<(), Fail> {
-    match tables(alloc, ROWS) {
+    all_hold_of(alloc, ROWS, lines)?;
+    all_hold_of(alloc, OTHER_ORDER, lines)
+}
+
+fn all_hold_of(alloc: Global, rows: &'static str, lines: &'static str) -> Result<(), Fail> {
+    match tables(alloc, rows) {
         Ok(tables) => all_hold_in(alloc, &tables, lines),
         Err(fail) => Err(fail),
     }
