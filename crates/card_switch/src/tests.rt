@@ -14,7 +14,6 @@ mod made;
 mod networks;
 mod planned;
 mod replayed;
-mod rows;
 mod worked;
 
 /// What is printed for an input of a job that needs no threads, and the status.

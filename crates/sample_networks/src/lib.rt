@@ -2,6 +2,8 @@
 #![tactic(auto)]
 
 mod pieces;
+mod rows;
 mod sample;
 
+pub use rows::{SETTINGS, push_lines, push_rows, ranks_of, words};
 pub use sample::Sample;

@@ -1,9 +1,9 @@
 //! Which of several refusals is told.
-use crate::lines::words;
 use crate::networks::{prefix, tables};
 use card_digits::{Id, LinkNo, NodeNo};
 use net_tables::Tables;
 use rank_cert::{Cert, read_cert};
+use sample_networks::words;
 use std::alloc::Global;
 use std::test::Fail;
 use table_checker::{Refusal, check};
@@ -79,8 +79,8 @@ fn says(alloc: Global, rows: &'static str, ranks: &str, text: &'static str) -> R
 #[test]
 fn accepts_two_classes(rt: HostRuntime) -> Result<(), Fail> {
     let rows = "\
-issuer 5 H 0
-issuer 4 H 0
+issuer I5 5 H 0
+issuer I4 4 H 0
 route A 4 AH
 route A 5 AH
 ";
@@ -96,8 +96,8 @@ H 5 3
 #[test]
 fn a_missing_rank_of_a_later_class_comes_first(rt: HostRuntime) -> Result<(), Fail> {
     let rows = "\
-issuer 5 H 0
-issuer 4 H 0
+issuer I5 5 H 0
+issuer I4 4 H 0
 route A 4 AH
 route A 5 AH
 ";
@@ -112,8 +112,8 @@ A 5 1
 #[test]
 fn the_rank_of_another_class_does_not_count(rt: HostRuntime) -> Result<(), Fail> {
     let rows = "\
-issuer 5 H 0
-issuer 4 H 0
+issuer I5 5 H 0
+issuer I4 4 H 0
 route A 4 AH
 route A 41 AH
 ";
@@ -128,8 +128,8 @@ H 41 0
 #[test]
 fn the_first_node_and_its_first_link_are_told(rt: HostRuntime) -> Result<(), Fail> {
     let rows = "\
-issuer 5 H 0
-issuer 4 H 0
+issuer I5 5 H 0
+issuer I4 4 H 0
 route B 4 BH
 route A 4 AH AC AB
 route C 4 CH
@@ -147,8 +147,8 @@ H 4 0
 #[test]
 fn an_own_row_stands_for_that_of_a_shorter_prefix(rt: HostRuntime) -> Result<(), Fail> {
     let rows = "\
-issuer 5 H 0
-issuer 4 H 0
+issuer I5 5 H 0
+issuer I4 4 H 0
 route A 4 AB
 route B 4 BH
 route B 41 AB
@@ -167,10 +167,10 @@ H 41 0
 #[test]
 fn ranks_come_before_names(rt: HostRuntime) -> Result<(), Fail> {
     let rows = "\
-issuer 4 H 0
-issuer 5 H 0
+issuer I4 4 H 0
+issuer I5 5 H 0
 route A 5 AH
-stand_in C 4 7
+stand_in C 4 7 0
 ";
     let ranks = "\
 A 5 0
@@ -182,11 +182,11 @@ H 5 0
 #[test]
 fn names_come_before_ceilings(rt: HostRuntime) -> Result<(), Fail> {
     let rows = "\
-issuer 4 H 9 A B
-issuer 5 H 0
-stand_in A 4 4
-stand_in B 4 6
-stand_in C 5 1
+issuer I4 4 H 9 A B
+issuer I5 5 H 0
+stand_in A 4 4 0
+stand_in B 4 6 0
+stand_in C 5 1 0
 ";
     says(rt.alloc(), rows, "", "not_named C 5")
 }
@@ -194,10 +194,10 @@ stand_in C 5 1
 #[test]
 fn ceilings_come_before_rows_of_no_issuer(rt: HostRuntime) -> Result<(), Fail> {
     let rows = "\
-issuer 4 H 9 A B
+issuer I4 4 H 9 A B
 route B 3 BH
-stand_in A 4 4
-stand_in B 42 6
+stand_in A 4 4 0
+stand_in B 42 6 0
 ";
     says(rt.alloc(), rows, "", "over_ceiling 42 10 9")
 }
@@ -205,10 +205,10 @@ stand_in B 42 6
 #[test]
 fn rows_of_no_issuer_come_before_acquirers(rt: HostRuntime) -> Result<(), Fail> {
     let rows = "\
-issuer 4 H 0
+issuer I4 4 H 0
 route C 6 CH
 route B 6 BH
-stand_in A 7 0
+stand_in A 7 0 0
 acquirer 77 A
 acquirer 0077 B
 ";
@@ -219,7 +219,7 @@ acquirer 0077 B
 #[test]
 fn an_acquirer_that_stands_twice_is_told(rt: HostRuntime) -> Result<(), Fail> {
     let rows = "\
-issuer 4 H 0
+issuer I4 4 H 0
 acquirer 77 A
 acquirer 0077 B
 ";

@@ -8,8 +8,6 @@ mod checker;
 #[cfg(test)]
 mod digits;
 #[cfg(test)]
-mod lines;
-#[cfg(test)]
 mod maker;
 #[cfg(test)]
 mod networks;

@@ -73,7 +73,7 @@ fn places(alloc: Global, tables: &Tables, names: &str) -> Result<Vec<NodeNo>, Fa
 fn ranks_a_chain(rt: HostRuntime) -> Result<(), Fail> {
     // The home's own route back to A isn't followed.
     let rows = "\
-issuer 4 H 0
+issuer I4 4 H 0
 route A 4 AH
 route H 4 AH
 ";
@@ -91,7 +91,7 @@ END
 #[test]
 fn ranks_the_longest_way(rt: HostRuntime) -> Result<(), Fail> {
     let rows = "\
-issuer 4 H 0
+issuer I4 4 H 0
 route A 4 AC AB
 route B 4 BH BC
 route C 4 CH
@@ -111,13 +111,13 @@ END
 fn ranks_each_class_with_an_issuer(rt: HostRuntime) -> Result<(), Fail> {
     // The stand-in row makes a class of its own.
     let rows = "\
-issuer 41 B 0
-issuer 4 H 0
+issuer I41 41 B 0
+issuer I4 4 H 0
 route A 5 AH
 route A 41 AB
 route A 4 AH
 route B 4 BH
-stand_in A 42 0
+stand_in A 42 0 0
 ";
     let wanted = "\
 RANKS 1
@@ -142,7 +142,7 @@ END
 fn ranks_by_the_row_in_force(rt: HostRuntime) -> Result<(), Fail> {
     // The rows of 41 and 4155 don't count at 42, and the row of B at 4 does at both.
     let rows = "\
-issuer 4 H 0
+issuer I4 4 H 0
 route B 42 BC
 route A 4155 AH
 route A 41 AB
@@ -176,7 +176,7 @@ END
 #[test]
 fn finds_a_circle_of_two(rt: HostRuntime) -> Result<(), Fail> {
     let rows = "\
-issuer 4 H 0
+issuer I4 4 H 0
 route A 4 AB
 route B 4 BH AB
 ";
@@ -186,7 +186,7 @@ route B 4 BH AB
 #[test]
 fn finds_a_circle_of_three(rt: HostRuntime) -> Result<(), Fail> {
     let rows = "\
-issuer 4 H 0
+issuer I4 4 H 0
 route A 4 AH AC
 route B 4 AB
 route C 4 BC
@@ -197,7 +197,7 @@ route C 4 BC
 #[test]
 fn finds_a_circle_behind_a_path(rt: HostRuntime) -> Result<(), Fail> {
     let rows = "\
-issuer 4 H 0
+issuer I4 4 H 0
 route A 4 AC
 route B 4 BC
 route C 4 BC
@@ -208,8 +208,8 @@ route C 4 BC
 #[test]
 fn finds_the_circle_of_the_first_class(rt: HostRuntime) -> Result<(), Fail> {
     let rows = "\
-issuer 5 H 0
-issuer 4 H 0
+issuer I5 5 H 0
+issuer I4 4 H 0
 route A 5 AB
 route B 5 AB
 route B 4 BC
@@ -221,7 +221,7 @@ route C 4 BC
 #[test]
 fn finds_a_circle_at_an_extension(rt: HostRuntime) -> Result<(), Fail> {
     let rows = "\
-issuer 4 H 0
+issuer I4 4 H 0
 route A 4 AH
 route B 4 BH
 route A 41 AB
@@ -232,7 +232,7 @@ route B 41 AB
 
 /// Nobody issues cards of class 5.
 const ROUND: &str = "\
-issuer 4 H 0
+issuer I4 4 H 0
 route A 4 AB
 route B 4 BH AB
 route H 4 BH

@@ -1,33 +1,33 @@
 //! Nodes and links of tables that were read.
-use crate::lines::words;
 use crate::networks::{prefix, tables};
 use card_digits::{Card, LinkNo, NodeNo};
 use net_rows::Tables;
+use sample_networks::words;
 use std::alloc::Global;
 use std::test::Fail;
 
 const ROWS: &str = "\
 acquirer 400001 A
-issuer 4 H 500 A B
-issuer 411111 B 0
+issuer I4 4 H 500 A B
+issuer I411111 411111 B 0
 route A 4 AH AB
 route A 411111 AB
 route B 4 BH
-stand_in A 4 300
-stand_in B 4 200
-stand_in A 411111 0
+stand_in A 4 300 0
+stand_in B 4 200 0
+stand_in A 411111 0 0
 ";
 
 /// The same rows, each table's in the same order, and the tables in another.
 const OTHER_ORDER: &str = "\
-stand_in A 4 300
-stand_in B 4 200
-stand_in A 411111 0
+stand_in A 4 300 0
+stand_in B 4 200 0
+stand_in A 411111 0 0
 route A 4 AH AB
 route A 411111 AB
 route B 4 BH
-issuer 4 H 500 A B
-issuer 411111 B 0
+issuer I4 4 H 500 A B
+issuer I411111 411111 B 0
 acquirer 400001 A
 ";
 

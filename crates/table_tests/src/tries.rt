@@ -1,7 +1,7 @@
 //! Look-ups in a trie.
-use crate::lines::words;
 use card_digits::{Card, Prefix, begins};
 use prefix_trie::{Fault, Trie};
+use sample_networks::words;
 use std::alloc::Global;
 use std::test::Fail;
 

@@ -1,7 +1,7 @@
 //! Too many rows, and other shapes of whole inputs.
-use crate::tests::rows::SETTINGS;
 use crate::tests::says;
 use command_line::Job;
+use sample_networks::SETTINGS;
 use std::alloc::{AllocError, Global};
 use std::test::Fail;
 

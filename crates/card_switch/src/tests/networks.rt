@@ -1,5 +1,5 @@
 //! Networks of the tests. One that is like another one is said by what is different.
-use crate::tests::rows::{SETTINGS, push_rows, ranks_of};
+use sample_networks::{SETTINGS, push_rows, ranks_of};
 use std::alloc::Global;
 use std::test::Fail;
 

@@ -1,8 +1,8 @@
 //! Verdicts, ranks and messages that are worked out by hand.
 use crate::tests::networks::{NESTED, NO_ROWS, SHARED_CEILING, Sample, THERE_AND_BACK, TWO_NODES};
-use crate::tests::rows::SETTINGS;
 use crate::tests::says;
 use command_line::Job;
+use sample_networks::SETTINGS;
 use std::alloc::{AllocError, Global};
 use std::test::Fail;
 

@@ -1,14 +1,15 @@
-//! Rows of the tables of a network, written as TOML. Nothing is promised of these functions, so that they are proved fast.
+//! Rows of the tables of a network, written as TOML.
 use std::alloc::{AllocError, Global};
 use std::test::Fail;
 
 /// What the tables of each network begin with.
-pub(crate) const SETTINGS: &str =
+pub const SETTINGS: &str =
     "[network]\ncurrency = \"840\"\ndate = \"0314\"\nhost_ticks = 100\nadvice_ticks = 50\n";
 
-fn words(alloc: Global, row: &'static str) -> Result<Vec<&'static str>, AllocError> {
+/// The words of a line, divided by blanks.
+pub fn words(alloc: Global, line: &'static str) -> Result<Vec<&'static str>, AllocError> {
     let mut words = Vec::new(alloc);
-    for word in row.split_whitespace() {
+    for word in line.split_whitespace() {
         words.push(word)?;
     }
     Ok(words)
@@ -107,27 +108,45 @@ fn push_words(toml: &mut String, kind: &str, words: &[&'static str]) -> Result<(
     }
 }
 
-fn push_row(alloc: Global, toml: &mut String, kind: &str, row: &'static str) -> Result<(), Fail> {
-    let words = words(alloc, row)?;
+fn push_row(toml: &mut String, kind: &str, words: &[&'static str]) -> Result<(), Fail> {
     push_all(toml, &["[[", kind, "]]\n"])?;
-    push_words(toml, kind, words.as_slice())
+    push_words(toml, kind, words)
 }
 
-/// Adds rows of one kind to tables.
-pub(crate) fn push_rows(
+/// Adds rows of one kind to tables, their words in the order of the kind: `NAME ID` of a node, `NAME END END TICKS` of a link,
+/// `ID NODE` of an acquirer, `NAME PREFIX HOME CEILING NAMED..` of an issuer, `NODE PREFIX LINKS..` of a route, `NODE PREFIX DAY
+/// SINGLE` of a stand-in row.
+pub fn push_rows(
     alloc: Global,
     toml: &mut String,
     kind: &str,
     rows: &[&'static str],
 ) -> Result<(), Fail> {
     for row in rows {
-        push_row(alloc, toml, kind, row)?;
+        let words = words(alloc, row)?;
+        push_row(toml, kind, words.as_slice())?;
+    }
+    Ok(())
+}
+
+fn push_line(toml: &mut String, words: &[&'static str]) -> Result<(), Fail> {
+    match words {
+        [] => Ok(()),
+        [kind, row @ ..] => push_row(toml, kind, row),
+    }
+}
+
+/// Adds rows of any kind to tables, one a line, each with its kind before it.
+pub fn push_lines(alloc: Global, toml: &mut String, lines: &'static str) -> Result<(), Fail> {
+    for line in lines.lines() {
+        let words = words(alloc, line)?;
+        push_line(toml, words.as_slice())?;
     }
     Ok(())
 }
 
 /// The text of ranks.
-pub(crate) fn ranks_of(alloc: Global, rows: &[&'static str]) -> Result<String, AllocError> {
+pub fn ranks_of(alloc: Global, rows: &[&'static str]) -> Result<String, AllocError> {
     let mut text = String::from_str(alloc, "RANKS 1\n")?;
     for row in rows {
         push_all(&mut text, &[row, "\n"])?;
