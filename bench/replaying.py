@@ -10,10 +10,12 @@ script, the seconds, lines a second, the most memory by bytes of input, and the 
 its own code and libraries, and tables.
 """
 import os
-import subprocess
 import sys
 import tempfile
-import time
+
+sys.dont_write_bytecode = True
+
+import measuring
 
 TOP = os.path.dirname(os.path.dirname(os.path.abspath(__file__)))
 MIB = 1 << 20
@@ -108,31 +110,12 @@ def script(kind, size):
     return "\n".join(lines) + "\n", len(lines)
 
 
-def most_memory(process):
-    """The most memory that a running process has had, in bytes, and 0 once it has ended."""
-    try:
-        with open("/proc/%d/status" % process.pid, encoding="ascii") as file:
-            peaks = [line.split()[1] for line in file if line.startswith("VmHWM")]
-    except OSError:
-        peaks = []
-    return int(peaks[0]) * 1024 if peaks else 0
-
-
-def measured(program, text, pause=0.001):
-    """Seconds, the most memory and the status of a run, whose memory is read again after each pause. The kernel counts the memory of whoever starts a process as the process's too, until
-    it runs its own program, so what it says at the end would be that of this script for short inputs."""
+def of_text(program, text, pause=0.001):
+    """Seconds, the most memory and the status of a run of a script."""
     with tempfile.NamedTemporaryFile("w", encoding="ascii") as file:
         file.write(text)
         file.flush()
-        with open(file.name, "rb") as given:
-            began = time.monotonic()
-            process = subprocess.Popen([program, "replay"], stdin=given, stdout=subprocess.DEVNULL)
-            memory = 0
-            while process.poll() is None:
-                memory = max(memory, most_memory(process))
-                time.sleep(pause)
-            seconds = time.monotonic() - began
-    return seconds, memory, process.returncode
+        return measuring.measured([program, "replay"], file.name, pause)
 
 
 def main():
@@ -141,10 +124,10 @@ def main():
     for kind in ("answered", "pending", "failing"):
         front = four_acquirers() if kind == "failing" else two_nodes()
         # Such a run takes some milliseconds, so few of them are seen shortly before their end.
-        empty = max(measured(program, front, 0)[1] for _ in range(100))
+        empty = max(of_text(program, front, 0)[1] for _ in range(100))
         for size in sizes:
             text, lines = script(kind, size * MIB - len(front) - 4096)
-            seconds, memory, status = measured(program, front + text)
+            seconds, memory, status = of_text(program, front + text)
             note = "" if status == 0 else "  status %d" % status
             print("%-9s %8d bytes %7d lines %7.2f s %9d lines/s %5.1f times the input %5.1f without its own%s" % (kind, len(text), lines, seconds, lines / seconds, memory / len(text), (memory - empty) / len(text), note), flush=True)
 
