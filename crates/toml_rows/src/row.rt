@@ -48,7 +48,8 @@ fn pairs(alloc: Global, s: &str) -> Option<(Table, &str)>
     }
 }
 
-/// The table `[word]`, where it comes next, and what follows it.
+/// The table `[word]`, where it comes next, and what follows it. None where another line comes next, where a key has a dot or stands
+/// twice or a value is of another kind than those of rows, and where memory is refused.
 pub fn first_table<'a>(alloc: Global, s: &'a str, word: &str) -> Option<(Table, &'a str)>
     ensures table { IfSome result (λ p. IsHeaded (table_line word.now) (table_view p.0) s.now p.1.now) }
     ensures shorter { IfSome result (λ p. length p.1.now < length s.now) }
@@ -56,7 +57,7 @@ pub fn first_table<'a>(alloc: Global, s: &'a str, word: &str) -> Option<(Table, 
     pairs(alloc, after_table_header(alloc, s, word)?)
 }
 
-/// The row `[[word]]`, where it comes next, and what follows it.
+/// The row `[[word]]`, where it comes next, and what follows it. None as for a table.
 pub fn next_row<'a>(alloc: Global, s: &'a str, word: &str) -> Option<(Table, &'a str)>
     ensures row { IfSome result (λ p. IsHeaded (row_line word.now) (table_view p.0) s.now p.1.now) }
     ensures shorter { IfSome result (λ p. length p.1.now < length s.now) }
