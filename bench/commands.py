@@ -26,11 +26,9 @@ def main():
     with tempfile.TemporaryDirectory() as folder:
         print("bundle    parse, s  check, s  quotient  make, s  quotient  memory of check  of make")
         for name, bundle, tables in reading.bundles(folder):
-            parse, _, _ = measuring.best([reading.PROGRAM, "toml"], tables, runs)
-            check, check_memory, check_status = measuring.best([program, "check"], bundle, runs)
-            make, make_memory, make_status = measuring.best([program, "make"], tables, runs)
-            if (check_status, make_status) != (0, 0):
-                sys.exit(f"{name}: status {check_status} and {make_status}")
+            parse, _ = reading.best("toml", tables, runs)
+            check, check_memory = measuring.best([program, "check"], bundle, runs)
+            make, make_memory = measuring.best([program, "make"], tables, runs)
             print(
                 f"{name:<8}  {parse:>8.3f}  {check:>8.3f}  {check / parse:>8.2f}  {make:>7.3f}  {make / parse:>8.2f}"
                 f"  {check_memory / bundle.stat().st_size:>15.1f}  {make_memory / tables.stat().st_size:>7.1f}",

@@ -30,6 +30,8 @@ def measured(command, path, pause=0.001):
 
 
 def best(command, path, runs):
-    """The least seconds and the most memory of some runs, and the status of the last."""
+    """The least seconds and the most memory of some runs, each of which has to end with status 0."""
     done = [measured(command, path) for _ in range(runs)]
-    return min(run[0] for run in done), max(run[1] for run in done), done[-1][2]
+    if any(status != 0 for _, _, status in done):
+        raise SystemExit(f"{command} of {path}: status {[status for _, _, status in done]}")
+    return min(seconds for seconds, _, _ in done), max(memory for _, memory, _ in done)
