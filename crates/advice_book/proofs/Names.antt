@@ -6,7 +6,8 @@ use Rattle.iso_message.specs.declared.keys.AdviceId.{AdviceId}
 use Rattle.iso_message.specs.declared.keys.AdviceKind.{AdviceKind}
 use Rattle.iso_message.specs.declared.keys.AdviceKind.TheVariants as kinds
 use Rattle.book_index.specs.Keys.{same_key}
-use Rattle.book_index.proofs.Texts.{same_text, text_refl, key_refl, key_same}
+use Rattle.std.specs.Cmp.Lexicographic.{same_text}
+use Rattle.book_index.proofs.Texts.{text_refl, key_refl, key_same}
 use Rattle.advice_book.specs.Items.{id_eq, name_eq, name_in, put_on}
 use Rattle.advice_book.specs.declared.item.Item.{Item}
 use Rattle.advice_book.specs.declared.item.Item.TheVariants as items
@@ -33,7 +34,7 @@ id_same a b h =
     let q = and_parts (same_key a.key b.key) (bytes_eq a.forwarder b.forwarder) p.1 in
     let x = kind_same a.kind b.kind p.0 in
     let y = key_same a.key b.key q.0 in
-    let z = same_text a.forwarder b.forwarder q.1 in
+    let z = same_text a.forwarder b.forwarder (sym q.1) in
     let F : AdviceKind → _ → List ℕ → AdviceId = λ u v w. record { kind = u; key = v; forwarder = w } in
     ap (λ u. F u a.key a.forwarder) x ∙ (ap (λ v. F b.kind v a.forwarder) y ∙ ap (λ w. F b.kind b.key w) z)
 

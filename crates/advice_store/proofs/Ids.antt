@@ -7,7 +7,8 @@ use Rattle.iso_message.specs.declared.keys.AdviceId.{AdviceId}
 use Rattle.iso_message.specs.declared.keys.AdviceKind.{AdviceKind}
 use Rattle.iso_message.specs.declared.keys.AdviceKind.TheVariants as kinds
 use Rattle.book_index.specs.Keys.{same_key}
-use Rattle.book_index.proofs.Texts.{same_text, text_refl, key_refl, key_same, keys_again}
+use Rattle.std.specs.Cmp.Lexicographic.{same_text}
+use Rattle.book_index.proofs.Texts.{text_refl, key_refl, key_same, keys_again}
 use Rattle.advice_store.specs.Kept.{id_eq, stored_eq}
 use Rattle.advice_store.specs.declared.key.StoredKey.{StoredKey}
 use Rattle.advice_store.specs.declared.key.StoredKey.TheVariants as keys
@@ -39,7 +40,7 @@ id_same a b h =
     let q = and_parts (same_key a.key b.key) (bytes_eq a.forwarder b.forwarder) p.1 in
     let x = kind_same a.kind b.kind p.0 in
     let y = key_same a.key b.key q.0 in
-    let z = same_text a.forwarder b.forwarder q.1 in
+    let z = same_text a.forwarder b.forwarder (sym q.1) in
     let F : AdviceKind → _ → List ℕ → AdviceId = λ u v w. record { kind = u; key = v; forwarder = w } in
     ap (λ u. F u a.key a.forwarder) x ∙ (ap (λ v. F b.kind v a.forwarder) y ∙ ap (λ w. F b.kind b.key w) z)
 
@@ -60,7 +61,7 @@ pub stored_same : (a b : StoredKey) → stored_eq a b ≡ true → a ≡ b
 stored_same (keys.Advice a) (keys.Advice b) e = ap keys.Advice (id_same a b e)
 stored_same (keys.Grant a) (keys.Grant b) e =
     let p = and_parts (bytes_eq a.lender b.lender) (eqb a.number b.number) e in
-    let x = same_text a.lender b.lender p.0 in
+    let x = same_text a.lender b.lender (sym p.0) in
     let y = eqb-true a.number b.number p.1 in
     let F : List ℕ → ℕ → GrantNumber = λ u v. record { lender = u; number = v } in
     ap keys.Grant (ap (λ u. F u a.number) x ∙ ap (λ v. F b.lender v) y)

@@ -15,7 +15,7 @@ use Rattle.book_index.specs.declared.index.Place.{Place}
 use Rattle.book_index.specs.declared.index.Place.TheVariants as places
 use Rattle.book_index.proofs.Holding.{holds_push}
 use Rattle.book_index.proofs.Telling.{tells_same, tells_joined}
-use Rattle.book_index.proofs.Texts.{same_text}
+use Rattle.std.specs.Cmp.Lexicographic.{same_text}
 use Rattle.advice_store.specs.Advices.{marked_by, has_id, packet_acked}
 use Rattle.advice_store.specs.Kept.{IsIndexed, AreKnown, id_eq, stored_eq, key_of, slot_has, item_is, live, freed, marked_slot}
 use Rattle.advice_store.specs.declared.key.StoredKey.{StoredKey}
@@ -147,9 +147,9 @@ any_by_id id xs = any_same_tests (item_is (keys.Advice id)) (has_id id) xs (is_b
 
 text_flip : (a b : List ℕ) → bytes_eq a b ≡ bytes_eq b a
 text_flip a b = elim (cases_Bool (bytes_eq a b)) [
-  | inl t ↦ (let e : a ≡ b = same_text a b t in rw e refl)
+  | inl t ↦ (let e : a ≡ b = same_text a b (sym t) in rw e refl)
   | inr f ↦ elim (cases_Bool (bytes_eq b a)) [
-    | inl t ↦ (let e : b ≡ a = same_text b a t in rw e refl)
+    | inl t ↦ (let e : b ≡ a = same_text b a (sym t) in rw e refl)
     | inr g ↦ f ∙ sym g
   ]
 ]

@@ -1,22 +1,13 @@
 -- Texts and keys that compare as equal are equal.
 use Rattle.std.proofs.Common.{◌≡◌, ℕ, ◌&&◌, Bool, true, false, List, [], ◌∷◌, bytes_eq, refl, sym, ap, ◌∙◌, subst, eqb, eq-eqb, inl, inr}
 use Rattle.std.proofs.lemmas.Bool.{cases_Bool, and_parts, eqb-true}
+use Rattle.std.specs.Cmp.Lexicographic.{same_text}
+use Rattle.std.proofs.lemmas.Slice.Eq.{bytes_eq-Decides}
 use Rattle.card_digits.specs.declared.key.Key.{Key}
 use Rattle.book_index.specs.Keys.{same_key}
 
 pub text_refl : (xs : List ℕ) → bytes_eq xs xs ≡ true
-text_refl [] = refl
-text_refl (x ∷ xs) = let e : eqb x x ≡ true = eq-eqb x x refl in rw e (text_refl xs)
-
-pub same_text : (xs ys : List ℕ) → bytes_eq xs ys ≡ true → xs ≡ ys
-same_text [] [] e = refl
-same_text [] (y ∷ ys) e = absurd (cc)
-same_text (x ∷ xs) [] e = absurd (cc)
-same_text (x ∷ xs) (y ∷ ys) e =
-    let p = and_parts (eqb x y) (bytes_eq xs ys) e in
-    let h : x ≡ y = eqb-true x y p.0 in
-    let t : xs ≡ ys = same_text xs ys p.1 in
-    rw (h, t) refl
+text_refl xs = (bytes_eq-Decides xs xs).1 refl
 
 and_again : (a b c : Bool) → (a && (b && c)) ≡ ((a && b) && c)
 and_again true b c = refl
@@ -33,9 +24,9 @@ pub key_same : (a b : Key) → same_key a b ≡ true → a ≡ b
 key_same a b h =
     let p = and_parts (bytes_eq a.acquirer b.acquirer) (bytes_eq a.trace b.trace && bytes_eq a.time b.time) h in
     let q = and_parts (bytes_eq a.trace b.trace) (bytes_eq a.time b.time) p.1 in
-    let x = same_text a.acquirer b.acquirer p.0 in
-    let y = same_text a.trace b.trace q.0 in
-    let z = same_text a.time b.time q.1 in
+    let x = same_text a.acquirer b.acquirer (sym p.0) in
+    let y = same_text a.trace b.trace (sym q.0) in
+    let z = same_text a.time b.time (sym q.1) in
     let F : List ℕ → List ℕ → List ℕ → Key = λ u v w. record { acquirer = u; trace = v; time = w } in
     ap (λ u. F u a.trace a.time) x ∙ (ap (λ v. F b.acquirer v a.time) y ∙ ap (λ w. F b.acquirer b.trace w) z)
 

@@ -3,7 +3,7 @@ use Rattle.std.proofs.Common.{◌≡◌, ℕ, ◌+◌, ◌-◌, zero, suc, ◌<�
 use Rattle.std.specs.Prelude.{slice_get}
 use Rattle.std.specs.List.{filter, find, position_from, AllByRecursion}
 use Rattle.std.specs.Option.{option_eq, option_copied}
-use Rattle.std.specs.Cmp.Lexicographic.{pointwise}
+use Rattle.std.specs.Cmp.Lexicographic.{pointwise, same_text}
 use Rattle.std.proofs.lemmas.Bool.{cases_Bool, and_parts, false≢true, cases_lt, lt-ltb, le-ltb, eqb-true, eq-eqb}
 use Rattle.std.proofs.lemmas.Option.{same_Some, slice_get_past}
 use Rattle.card_digits.specs.Digits.{AreDigitsWithin}
@@ -15,14 +15,6 @@ use Rattle.net_rows.specs.Index.{is_of}
 
 abbrev pub key : Option ℕ → List ℕ → RowKey
 key n p = record { node = n; prefix = p }
-
-same_text : (xs ys : List ℕ) → pointwise ◌==◌ xs ys ≡ true → xs ≡ ys
-same_text [] [] h = refl
-same_text [] (y ∷ ys) h = cc
-same_text (x ∷ xs) [] h = cc
-same_text (x ∷ xs) (y ∷ ys) h =
-    let p = and_parts (x == y) (pointwise ◌==◌ xs ys) h in
-    rw (eqb-true x y p.0, same_text xs ys p.1) refl
 
 begins-length : (p ds : List ℕ) → begins p ds ≡ true → length p ≤ length ds
 begins-length [] ds h = omega arith
@@ -138,7 +130,7 @@ module _ {R : Type 0} (g : R → Option ℕ) (f : R → List ℕ) where
       | inl is ↦
           let same : r ≡ s = same_Some r s (rw is at found) in
           let (mine, text) = and_parts (of r) (pointwise ◌==◌ (f r) (take k c)) is in
-          let front : f r ≡ take k c = same_text (f r) (take k c) text in
+          let front : f r ≡ take k c = same_text (f r) (take k c) (sym text) in
           let long : length (f r) ≡ k = rw (front, length-take) (omega arith) in
           let does : begins (f r) c ≡ true = rw front (begins-take k c) in
           rw (← same, mine, does) (at_most k r (longest f (filter of rows) c) (λ t e. bounded k rows t h.1 e) long)
@@ -151,7 +143,7 @@ module _ {R : Type 0} (g : R → Option ℕ) (f : R → List ℕ) where
               | inr not ↦ rw (mine, not) later
               | inl does ↦
                   let text = (and_parts (of s) (pointwise ◌==◌ (f s) (take k c)) (find_passes (is_of g f (key n (take k c))) rows s rest)).1 in
-                  let long : length (f s) ≡ k = rw (same_text (f s) (take k c) text, length-take) (omega arith) in
+                  let long : length (f s) ≡ k = rw (same_text (f s) (take k c) (sym text), length-take) (omega arith) in
                   rw (mine, does, later) (shorter (h.0 mine does) long (front_of k r mine does) no')
             ]
           ]

@@ -11,7 +11,8 @@ use Rattle.std.proofs.Math.ListN.{set}
 use Rattle.card_digits.specs.Digits.{IsPrefix}
 use Rattle.card_digits.specs.Longest.{longest}
 use Rattle.prefix_trie.specs.Pairs.{pair_of, inserted, prefix_of as pair_prefix}
-use Rattle.prefix_trie.proofs.Longest.{NoFront, longest_of_front, whole_of, same_text}
+use Rattle.prefix_trie.proofs.Longest.{NoFront, longest_of_front, whole_of}
+use Rattle.std.specs.Cmp.Lexicographic.{same_text}
 use Rattle.prefix_trie.proofs.Rows.{pair_kept, pair_new}
 use Rattle.net_rows.specs.declared.prefixed.RowKey.{RowKey}
 use Rattle.net_rows.specs.Index.{is_of, slot, Places, places_at, IsIndexed}
@@ -191,7 +192,7 @@ module _ (key : RowKey) (place : ℕ) (old mid : List Places) (same : (node : Op
       present q (inl is) =
           let (node, text) = and_parts (option_eq ◌==◌ key.node q.node) (pointwise ◌==◌ key.prefix q.prefix) is in
           let n : key.node ≡ q.node = slot_same key.node q.node node in
-          let p : key.prefix ≡ q.prefix = same_text key.prefix q.prefix text in
+          let p : key.prefix ≡ q.prefix = same_text key.prefix q.prefix (sym text) in
           let here : is_some (pair_of q.prefix (places_at old q.node)) ≡ true = rw (same key.node, n, p) at there in
           ap (pair_of q.prefix) (same q.node) ∙ sym (option_or_some (pair_of q.prefix (places_at old q.node)) (if same_key key q then Some (q.prefix, place) else None) here)
 
@@ -217,7 +218,7 @@ module _ (key : RowKey) (place : ℕ) (old mid : List Places) (same : (node : Op
           = rw (← n) (ap (λ o. unwrap_or o []) (set_here mid (slot key.node) (inserted (key.prefix, place) (places_at mid key.node)) lt)) in
           elim (cases_Bool (pointwise ◌==◌ key.prefix q.prefix)) [
             | inl text ↦
-                let p : key.prefix ≡ q.prefix = same_text key.prefix q.prefix text in
+                let p : key.prefix ≡ q.prefix = same_text key.prefix q.prefix (sym text) in
                 let gone : pair_of q.prefix (places_at old q.node) ≡ None = rw (same key.node, n, p) at none in
                 let pair : pair_of q.prefix (inserted (key.prefix, place) (places_at mid key.node)) ≡ Some (key.prefix, place) = pair_new (key.prefix, place) q.prefix (places_at mid key.node) text (rw p at none) in
                 ap (pair_of q.prefix) here ∙ pair ∙ rw (gone, node, text, p) refl

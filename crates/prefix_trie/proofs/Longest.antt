@@ -2,8 +2,9 @@
 use Rattle.std.proofs.Common.{◌≡◌, ℕ, zero, suc, ◌+◌, ◌<◌, ◌≤◌, Bool, true, false, ◌==◌, ◌⊎◌, List, [], ◌∷◌, length, take, length-take, Option, Some, None, refl, sym, ap, ◌∙◌, inl, inr, arith}
 use Rattle.std.specs.Prelude.{is_some}
 use Rattle.std.specs.List.{find, AllByRecursion}
-use Rattle.std.specs.Cmp.Lexicographic.{pointwise}
-use Rattle.std.proofs.lemmas.Bool.{cases_Bool, and_parts, false≢true, cases_lt, lt-ltb, le-ltb, eqb-true, eq-eqb}
+use Rattle.std.specs.Cmp.Lexicographic.{pointwise, same_text}
+use Rattle.std.proofs.lemmas.Slice.Eq.{bytes_eq-Decides}
+use Rattle.std.proofs.lemmas.Bool.{cases_Bool, and_parts, false≢true, cases_lt, lt-ltb, le-ltb, eq-eqb}
 use Rattle.std.proofs.lemmas.Option.{same_Some}
 use Rattle.card_digits.specs.Digits.{IsPrefix}
 use Rattle.card_digits.specs.Longest.{begins, better, longest}
@@ -11,17 +12,8 @@ use Rattle.card_digits.proofs.Fronts.{begins-starts_with}
 use Rattle.card_digits.proofs.Classes.{NoneLonger, longest_at_class, some_longest}
 use Rattle.prefix_trie.specs.Pairs.{prefix_of, is_of, pair_of}
 
-pub same_text : (xs ys : List ℕ) → pointwise ◌==◌ xs ys ≡ true → xs ≡ ys
-same_text [] [] h = refl
-same_text [] (y ∷ ys) h = cc
-same_text (x ∷ xs) [] h = cc
-same_text (x ∷ xs) (y ∷ ys) h =
-    let p = and_parts (x == y) (pointwise ◌==◌ xs ys) h in
-    rw (eqb-true x y p.0, same_text xs ys p.1) refl
-
 pub text_itself : (xs : List ℕ) → pointwise ◌==◌ xs xs ≡ true
-text_itself [] = refl
-text_itself (x ∷ xs) = rw (eq-eqb x x refl) (text_itself xs)
+text_itself xs = (bytes_eq-Decides xs xs).1 refl
 
 begins-length : (p ds : List ℕ) → begins p ds ≡ true → length p ≤ length ds
 begins-length [] ds h = omega arith
@@ -119,13 +111,13 @@ module _ {T : Type 0} where
   longest_whole (p ∷ ps) c s h = elim (cases_Bool (is_of c p)) [
     | inl is ↦
         let same : p ≡ s = same_Some p s (rw is at h) in
-        let text : prefix_of p ≡ c = same_text (prefix_of p) c is in
+        let text : prefix_of p ≡ c = same_text (prefix_of p) c (sym is) in
         let does : begins (prefix_of p) c ≡ true = rw text (begins_itself c) in
         rw (← same, does) (first_best c p (longest prefix_of ps c) (λ t e. begins-length (prefix_of t) c (some_longest prefix_of ps c t e).front) text)
     | inr no' ↦
         let rest : pair_of c ps ≡ Some s = rw no' at h in
         let later = longest_whole ps c s rest in
-        let text : prefix_of s ≡ c = same_text (prefix_of s) c (find_passes (is_of c) ps s rest) in
+        let text : prefix_of s ≡ c = same_text (prefix_of s) c (sym (find_passes (is_of c) ps s rest)) in
         elim (cases_Bool (begins (prefix_of p) c)) [
           | inl does ↦ rw (does, later) (later_best c p s does no' text)
           | inr not ↦ rw not later

@@ -4,7 +4,7 @@ use Rattle.std.specs.Prelude.{option_and_then, slice_get, is_some}
 use Rattle.std.specs.List.{find, position_from, AllByRecursion}
 use Rattle.std.specs.Option.{option_or}
 use Rattle.std.specs.Ordering.{nat_cmp, is_lt}
-use Rattle.std.specs.Cmp.Lexicographic.{slice_cmp, pointwise}
+use Rattle.std.specs.Cmp.Lexicographic.{slice_cmp, pointwise, same_text}
 use Rattle.std.proofs.lemmas.Bool.{cases_Bool, false≢true, eqb-true}
 use Rattle.std.proofs.lemmas.Option.{same_Some}
 use Rattle.std.proofs.lemmas.List.Folds.{find-append}
@@ -16,7 +16,7 @@ use Rattle.prefix_trie.specs.Growth.{IsSameTo}
 use Rattle.prefix_trie.specs.Pairs.{prefix_of, is_of, pair_of, inserted, in_order}
 use Rattle.prefix_trie.specs.Index.{IsIndexed}
 use Rattle.prefix_trie.proofs.Reaching.{reach_same}
-use Rattle.prefix_trie.proofs.Longest.{same_text, text_itself}
+use Rattle.prefix_trie.proofs.Longest.{text_itself}
 
 pub found_at : {R : Type 0} (t : R → Bool) (i : ℕ) (rows : List R) (k : ℕ) → position_from t i rows ≡ Some k → (i ≤ k) × (slice_get rows (k - i) ≡ find t rows)
 found_at t i [] k h = absurd cc
@@ -148,7 +148,7 @@ module _ {T : Type 0} where
     first_new : (a : List ℕ) → place_of new a ≡ position_from (is_of a) 0 (rows ++ (p, v) ∷ [])
     first_new a = elim (cases_Bool (pointwise ◌==◌ p a)) [
       | inl is ↦
-          let text : p ≡ a = same_text p a is in
+          let text : p ≡ a = same_text p a (sym is) in
           let there : place_of new p ≡ Some (length rows) = rw (walks p, to) now in
           let last : position_from (is_of p) 0 (rows ++ (p, v) ∷ []) ≡ Some (0 + length rows) = place_last (is_of p) 0 rows (p, v) absent (text_itself p) in
           let e : 0 + length rows ≡ length rows = omega arith in
@@ -161,7 +161,7 @@ module _ {T : Type 0} where
     same_new : (a : List ℕ) → pair_of a (in_order (rows ++ (p, v) ∷ [])) ≡ pair_of a (rows ++ (p, v) ∷ [])
     same_new a = ap (pair_of a) (in_order_more rows (p, v)) ∙ elim (cases_Bool (pointwise ◌==◌ p a)) [
       | inl is ↦
-          let text : p ≡ a = same_text p a is in
+          let text : p ≡ a = same_text p a (sym is) in
           let none : pair_of a rows ≡ None = found_nowhere (is_of a) 0 rows (rw text at absent) in
           pair_new (p, v) a (in_order rows) is (h.same a ∙ none) ∙ sym (find-append (is_of a) rows ((p, v) ∷ []) ∙ rw (none, is) refl)
       | inr no' ↦

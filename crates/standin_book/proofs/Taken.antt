@@ -3,15 +3,15 @@ use Rattle.std.proofs.Common.{◌≡◌, ℕ, ◌||◌, Bool, true, false, cond,
 use Rattle.std.specs.List.{list_any}
 use Rattle.std.proofs.lemmas.Bool.{cases_Bool, eqb-true}
 use Rattle.node_machine.specs.Books.{Borrowed}
-use Rattle.book_index.proofs.Texts.{same_text}
+use Rattle.std.specs.Cmp.Lexicographic.{same_text}
 use Rattle.standin_book.specs.Lending.{number_eq, has_number}
 use Rattle.standin_book.specs.declared.lending.GrantNumber.{GrantNumber}
 
 text_flip : (a b : List ℕ) → bytes_eq a b ≡ bytes_eq b a
 text_flip a b = elim (cases_Bool (bytes_eq a b)) [
-  | inl t ↦ (let e : a ≡ b = same_text a b t in rw e refl)
+  | inl t ↦ (let e : a ≡ b = same_text a b (sym t) in rw e refl)
   | inr f ↦ elim (cases_Bool (bytes_eq b a)) [
-    | inl t ↦ (let e : b ≡ a = same_text b a t in rw e refl)
+    | inl t ↦ (let e : b ≡ a = same_text b a (sym t) in rw e refl)
     | inr g ↦ f ∙ sym g
   ]
 ]
