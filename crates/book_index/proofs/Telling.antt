@@ -1,6 +1,5 @@
 -- What an index tells after a change.
-use Rattle.std.proofs.Common.{◌≡◌, ℕ, Bool, true, false, ◌||◌, refl, sym, ap, ◌∙◌, subst, eqb, eq-eqb, eqb-true}
-use Rattle.std.proofs.lemmas.Bool.{cases_Bool}
+use Rattle.std.proofs.Common.{◌≡◌, ℕ, Bool, true, false, ◌||◌, refl, sym, ◌∙◌, eqb, eq-eqb, eqb-true}
 use Rattle.book_index.specs.declared.index.Place.{Place}
 use Rattle.book_index.specs.declared.index.Place.TheVariants as places
 use Rattle.book_index.specs.Found.{Tells, joined}
