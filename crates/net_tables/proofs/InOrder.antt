@@ -17,8 +17,8 @@ use Rattle.table_fields.specs.declared.fault.TableFault.{TableFault}
 use Rattle.table_fields.specs.declared.place.Table.{Table}
 use Rattle.table_fields.specs.declared.place.Table.TheVariants as table
 use Rattle.net_tables.specs.AllRows.{all_rows}
-use Rattle.net_tables.specs.Reading.{network_of, all_table_words, tables_of, tables_on, tables_with}
-use Rattle.net_tables.specs.InOrder.{AreNext, AreInOrder, tables_by_tree}
+use Rattle.net_tables.specs.Reading.{network_of, all_table_words, tables_of, tables_on, tables_with, tables_by_tree}
+use Rattle.net_tables.specs.InOrder.{AreNext, AreInOrder}
 
 each_a_table : (rows : List Members) → all_tables (items_of rows) ≡ Some rows
 each_a_table [] = refl

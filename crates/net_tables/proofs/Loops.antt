@@ -1,10 +1,10 @@
 -- A loop over rows reads them all.
 use Rattle.std.proofs.Common.{◌≡◌, ℕ, ◌+◌, ◌<◌, ◌≤◌, List, [], ◌∷◌, ◌++◌, map, length, get_or, drop, Result, Ok, Err, refl, sym, ◌∙◌}
+use Rattle.std.specs.List.{AllByRecursion}
 use Rattle.std.proofs.lemmas.List.{drop_more, drop_all, drop-map}
 use Rattle.card_digits.specs.Attempts.{◌>>=◌}
 use Rattle.table_fields.specs.Faults.{Fails}
-use Rattle.table_fields.proofs.Faults.{fails_from}
-use Rattle.net_tables.specs.AllRows.{each}
+use Rattle.named_rows.specs.Each.{each}
 use Rattle.table_fields.specs.declared.fault.TableFault.{TableFault}
 use Rattle.table_fields.specs.declared.fault.TableFault.TheVariants.{NotToml, MissingField, BadValue, UnknownName, Twice, TooMany, NotAtLink, Memory}
 
@@ -39,15 +39,7 @@ pub each_end : {X A R : Type 0} (seen : X → A) (read : List R → A → Result
     → each read done (drop i (map seen xs)) ≡ all → all ≡ Ok done
 each_end seen read done xs i all past same = sym same ∙ rw (drop-map seen i xs, drop_all i xs past) refl
 
--- the same of plain items
-pub entry_fails : {A R : Type 0} (read : List R → A → Result R TableFault) (done : List R) (xs : List A) (i : ℕ) (x : A) (e : TableFault) (all : Result (List R) TableFault) → i < length xs → x ≡ get_or xs i x
-    → each read done (drop i xs) ≡ all → read done x ≡ Err e → Fails e all
-entry_fails read done xs i x e all lt is same h =
-    let turned : each read done (drop i xs) ≡ (read done x >>= λ r. each read (done ++ r ∷ []) (drop (i + 1) xs)) = rw (drop_more xs i x, ← is) refl in
-    fails_from e all (sym same ∙ turned ∙ rw h)
-
-pub entry_on : {A R : Type 0} (read : List R → A → Result R TableFault) (done : List R) (xs : List A) (i : ℕ) (x : A) (r : R) (all : Result (List R) TableFault) → i < length xs → x ≡ get_or xs i x
-    → each read done (drop i xs) ≡ all → read done x ≡ Ok r → each read (done ++ r ∷ []) (drop (i + 1) xs) ≡ all
-entry_on read done xs i x r all lt is same h =
-    let turned : each read done (drop i xs) ≡ (read done x >>= λ r. each read (done ++ r ∷ []) (drop (i + 1) xs)) = rw (drop_more xs i x, ← is) refl in
-    sym (sym same ∙ turned ∙ rw h)
+-- what holds of each row holds with a row more
+pub all_pushed : {X : Type 0} (P : X → Type 0) (xs : List X) (x : X) → AllByRecursion P xs → P x → AllByRecursion P (xs ++ x ∷ [])
+all_pushed P [] x h p = (p, tt)
+all_pushed P (y ∷ xs) x h p = (h.0, all_pushed P xs x h.1 p)

@@ -7,7 +7,8 @@ use Rattle.table_fields.specs.Words.{table_word}
 use Rattle.table_fields.specs.Fields.{RowText}
 use Rattle.table_fields.specs.declared.fault.TableFault.{TableFault}
 use Rattle.table_fields.specs.declared.place.Table.{Table}
-use Rattle.net_tables.specs.AllRows.{each, row_at, numbered}
+use Rattle.named_rows.specs.Each.{each}
+use Rattle.net_tables.specs.AllRows.{row_at, numbered}
 use Rattle.net_tables.specs.InOrder.{AreNext}
 
 rows_more : (word : List ℕ) (rows : List Members) (ms : Members) (text next rest : List ℕ) → AreRows word rows text next → IsHeaded (row_line word) ms next rest → AreRows word (rows ++ ms ∷ []) text rest
@@ -35,6 +36,3 @@ next_more t read rows r members text next rest are is here = record {
   stand = rows_more (table_word t) are.members members text next rest are.stand is;
   are_read = each_more (numbered t read) [] rows are.members members r are.are_read here;
 }
-
-pub none_next : {R : Type 0} (t : Table) (read : List R → RowText → Result R TableFault) (text : List ℕ) → AreNext t read [] text text
-none_next t read text = record { members = []; stand = refl; are_read = refl }

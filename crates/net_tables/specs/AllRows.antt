@@ -1,16 +1,12 @@
 -- The rows of a table of the tree.
-use Rattle.std.specs.Prelude.{ℕ, ◌+◌, List, [], ◌∷◌, ◌++◌, length, Result, Ok}
+use Rattle.std.specs.Prelude.{ℕ, ◌+◌, List, [], length, Result}
 use Rattle.toml.specs.Data.{Members}
 use Rattle.card_digits.specs.Attempts.{◌>>=◌}
 use Rattle.table_fields.specs.Fields.{RowText}
 use Rattle.table_fields.specs.Shapes.{rows_at}
 use Rattle.table_fields.specs.declared.fault.TableFault.{TableFault}
 use Rattle.table_fields.specs.declared.place.Table.{Table}
-
--- the items in order, each read after those before it
-abbrev pub each : {A R : Type 0} → (List R → A → Result R TableFault) → List R → List A → Result (List R) TableFault
-each read done [] = Ok done
-each read done (x ∷ rest) = read done x >>= λ r. each read (done ++ r ∷ []) rest
+use Rattle.named_rows.specs.Each.{each}
 
 -- the row of a table at a number
 abbrev pub row_at : Table → ℕ → Members → RowText

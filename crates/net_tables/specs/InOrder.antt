@@ -1,7 +1,7 @@
 -- Tables whose rows stand in the text in the order in which they are read.
 use Rattle.std.specs.Prelude.{◌≡◌, ℕ, true, List, [], Result, Ok}
 use Rattle.toml.specs.Data.{Members}
-use Rattle.toml.specs.Parse.{skip_bom, parse_document}
+use Rattle.toml.specs.Parse.{skip_bom}
 use Rattle.toml_rows.specs.Rows.{IsHeaded, AreRows, table_line, is_over}
 use Rattle.net_rows.specs.Network.{Network}
 use Rattle.net_rows.specs.declared.row.Settings.{Settings}
@@ -9,17 +9,15 @@ use Rattle.net_rows.specs.declared.row.Node.{Node}
 use Rattle.net_rows.specs.declared.row.Link.{Link}
 use Rattle.net_rows.specs.declared.row.Acquirer.{Acquirer}
 use Rattle.net_rows.specs.declared.row.Issuer.{Issuer}
-use Rattle.card_digits.specs.Attempts.{◌>>=◌}
 use Rattle.table_fields.specs.Words.{table_word}
-use Rattle.table_fields.specs.Faults.{ok_or}
 use Rattle.table_fields.specs.Fields.{RowText}
 use Rattle.table_fields.specs.declared.fault.TableFault.{TableFault}
-use Rattle.table_fields.specs.declared.fault.TableFault.TheVariants.{NotToml}
 use Rattle.table_fields.specs.declared.place.Table.{Table}
 use Rattle.table_fields.specs.declared.place.Table.TheVariants as table
-use Rattle.net_tables.specs.AllRows.{each, numbered}
-use Rattle.net_tables.specs.Rows.{node_names}
-use Rattle.net_tables.specs.Reading.{settings_in, node_of, link_of, acquirer_of, issuer_of, route_of, stand_in_of, tables_of}
+use Rattle.named_rows.specs.Each.{each}
+use Rattle.named_rows.specs.Rows.{node_names}
+use Rattle.net_tables.specs.AllRows.{numbered}
+use Rattle.net_tables.specs.Reading.{settings_in, node_of, link_of, acquirer_of, issuer_of, route_of, stand_in_of}
 
 -- the next rows of a text are those of a table, and read so
 pub record AreNext {R : Type 0} (t : Table) (read : List R → RowText → Result R TableFault) (rows : List R) (text rest : List ℕ) : Type 0 where
@@ -58,7 +56,3 @@ pub record AreInOrder (n : Network) (text : List ℕ) : Type 0 where
   pub routes_next : AreNext table.Route (route_of (node_names n.nodes) n.links) n.routes after_parties after_routes
   pub stand_ins_next : AreNext table.StandIn (stand_in_of (node_names n.nodes)) n.stand_ins after_routes rest
   pub over : is_over rest ≡ true
-
--- the tables of the tree of a text, or its first fault
-abbrev pub tables_by_tree : List ℕ → Result Network TableFault
-tables_by_tree text = ok_or (parse_document text) NotToml >>= tables_of

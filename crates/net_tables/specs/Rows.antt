@@ -1,17 +1,9 @@
--- What rows are known by, and what they have taken.
-use Rattle.std.specs.Prelude.{◌≡◌, ℕ, ◌==◌, ◌<◌, ◌≤◌, List, [], ◌∷◌, ◌++◌, map, length, slice_get, slice_set, unwrap_or}
+-- What issuers, routes and stand-in rows are known by.
+use Rattle.std.specs.Prelude.{◌≡◌, ℕ, ◌==◌, List, map}
 use Rattle.std.specs.List.{filter}
-use Rattle.net_rows.specs.declared.row.Node.{Node}
-use Rattle.net_rows.specs.declared.row.Link.{Link}
 use Rattle.net_rows.specs.declared.row.Issuer.{Issuer}
 use Rattle.net_rows.specs.declared.row.Route.{Route}
 use Rattle.net_rows.specs.declared.row.StandIn.{StandIn}
-
-abbrev pub node_names : List Node → List (List ℕ)
-node_names nodes = map (λ n. n.name) nodes
-
-abbrev pub link_names : List Link → List (List ℕ)
-link_names links = map (λ l. l.name) links
 
 abbrev pub issuer_names : List Issuer → List (List ℕ)
 issuer_names issuers = map (λ i. i.name) issuers
@@ -26,30 +18,7 @@ route_prefixes routes n = map (λ r. r.prefix) (filter (λ r. r.node == n) route
 abbrev pub stand_in_prefixes : List StandIn → ℕ → List (List ℕ)
 stand_in_prefixes rows n = map (λ r. r.prefix) (filter (λ r. r.node == n) rows)
 
--- at most so many rows, and these are their names
-pub record AreNamed {R : Type 0} (most : ℕ) (name_of : R → List ℕ) (names : List (List ℕ)) (rows : List R) : Type 0 where
-  pub same : names ≡ map name_of rows
-  pub few : length rows ≤ most
-
 -- these are the names and the prefixes of the issuers
 pub record AreIssuers (names prefixes : List (List ℕ)) (issuers : List Issuer) : Type 0 where
   pub same_names : names ≡ issuer_names issuers
   pub same_prefixes : prefixes ≡ issuer_prefixes issuers
-
--- the prefixes of a node, in lists for each node
-abbrev pub prefixes_at : List (List (List ℕ)) → ℕ → List (List ℕ)
-prefixes_at lists n = unwrap_or (slice_get lists n) []
-
--- no node has any
-abbrev pub AreEmpty : List (List (List ℕ)) → Type 0
-AreEmpty lists = (n : ℕ) → prefixes_at lists n ≡ []
-
--- each of so many nodes has these prefixes
-pub record ArePrefixed (nodes : ℕ) (lists : List (List (List ℕ))) (prefixes : ℕ → List (List ℕ)) : Type 0 where
-  pub one_each : length lists ≡ nodes
-  pub same : prefixes_at lists ≡ prefixes
-
--- the node has the prefix more
-pub record IsTaken (node : ℕ) (prefix : List ℕ) (old new : List (List (List ℕ))) : Type 0 where
-  pub within : node < length old
-  pub added : new ≡ slice_set old node (prefixes_at old node ++ prefix ∷ [])

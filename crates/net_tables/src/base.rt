@@ -1,5 +1,5 @@
 //! What rows point to.
-use crate::named_rows::NamedRows;
+use named_rows::NamedRows;
 use net_rows::{Link, Node, Settings};
 
 /// The settings, and the rows that other rows name.

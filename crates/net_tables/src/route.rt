@@ -3,16 +3,14 @@ ghost use Rattle.std.specs.Prelude.{IfOk, IfSome};
 ghost use Rattle.net_rows.specs.Sound.{AreOwnLinks};
 ghost use Rattle.toml.specs.View.{table_view};
 ghost use Rattle.table_fields.specs.Faults.{Gives};
+ghost use Rattle.named_rows.specs.Rows.{node_names};
 ghost use Rattle.net_tables.specs.AllRows.{all_rows};
-ghost use Rattle.net_tables.specs.Rows.{node_names};
 ghost use Rattle.net_tables.specs.Reading.{route_of};
 ghost use Rattle.net_tables.specs.InOrder.{AreNext};
 ghost use Rattle.table_fields.specs.declared.place.Table.TheVariants as table;
 
-use crate::named_rows::NamedRows;
-use crate::node_prefixes::{NodePrefixes, new_prefix_at};
 use crate::rows::{RowReader, next_rows, read_rows};
-use crate::several::links_at;
+use named_rows::{NamedRows, NodePrefixes, links_at, new_prefix_at};
 use net_rows::{Link, Node, Route};
 use std::alloc::Global;
 use table_fields::{Key, Row, Table, TableFault};
@@ -28,8 +26,9 @@ impl<'a> RowReader for RouteReader<'a> {
     ghost use Rattle.std.specs.Prelude.{◌≡◌, true, length};
     ghost use Rattle.std.specs.List.{list_all};
     ghost use Rattle.net_rows.specs.Sound.{is_end};
+    ghost use Rattle.named_rows.specs.Rows.{ArePrefixed, node_names};
+    ghost use Rattle.net_tables.specs.Rows.{route_prefixes};
     ghost use Rattle.net_tables.specs.Reading.{route_of};
-    ghost use Rattle.net_tables.specs.Rows.{ArePrefixed, node_names, route_prefixes};
 
     type Read = Route;
 

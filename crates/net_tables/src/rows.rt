@@ -4,7 +4,8 @@ ghost use Rattle.std.specs.List.{AllByRecursion};
 ghost use Rattle.toml.specs.View.{table_view};
 ghost use Rattle.table_fields.specs.Faults.{Gives};
 ghost use Rattle.table_fields.specs.Shapes.{tables_view};
-ghost use Rattle.net_tables.specs.AllRows.{each, numbered, all_rows};
+ghost use Rattle.named_rows.specs.Each.{each};
+ghost use Rattle.net_tables.specs.AllRows.{numbered, all_rows};
 ghost use Rattle.net_tables.specs.InOrder.{AreNext};
 
 use std::alloc::Global;

@@ -2,15 +2,14 @@
 ghost use Rattle.std.specs.Prelude.{IfSome};
 ghost use Rattle.toml.specs.View.{table_view};
 ghost use Rattle.table_fields.specs.Faults.{Gives};
+ghost use Rattle.named_rows.specs.Rows.{node_names};
 ghost use Rattle.net_tables.specs.AllRows.{all_rows};
-ghost use Rattle.net_tables.specs.Rows.{node_names};
 ghost use Rattle.net_tables.specs.Reading.{stand_in_of};
 ghost use Rattle.net_tables.specs.InOrder.{AreNext};
 ghost use Rattle.table_fields.specs.declared.place.Table.TheVariants as table;
 
-use crate::named_rows::NamedRows;
-use crate::node_prefixes::{NodePrefixes, new_prefix_at};
 use crate::rows::{RowReader, next_rows, read_rows};
+use named_rows::{NamedRows, NodePrefixes, new_prefix_at};
 use net_rows::{Node, StandIn};
 use std::alloc::Global;
 use table_fields::{Key, Row, Table, TableFault};
@@ -22,8 +21,9 @@ struct StandInReader<'a> {
 
 impl<'a> RowReader for StandInReader<'a> {
     ghost use Rattle.std.specs.Prelude.{length};
+    ghost use Rattle.named_rows.specs.Rows.{ArePrefixed, node_names};
+    ghost use Rattle.net_tables.specs.Rows.{stand_in_prefixes};
     ghost use Rattle.net_tables.specs.Reading.{stand_in_of};
-    ghost use Rattle.net_tables.specs.Rows.{ArePrefixed, node_names, stand_in_prefixes};
 
     type Read = StandIn;
 

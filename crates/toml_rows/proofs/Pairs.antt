@@ -39,7 +39,3 @@ pair_more p members text next rest are is none =
       stand = lines_more are.pairs p text next rest are.stand is;
       make = rw (pairs_more are.pairs p no_nodes, made) (put_new p ns (rw same none) ∙ rw same);
     }
-
--- no pairs yet
-pub no_pairs : (text : List ℕ) (ms : Members) → ms ≡ close no_nodes → ArePairs ms text text
-no_pairs text ms none = rw none (record { pairs = []; stand = refl; make = refl })

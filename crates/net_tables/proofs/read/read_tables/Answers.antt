@@ -3,8 +3,7 @@ use Rattle.std.specs.Prelude.{IsUtf8}
 use Rattle.std.specs.Str.{is_utf8}
 use Rattle.std.proofs.lemmas.Bool.{cases_Bool}
 use Rattle.std.proofs.lemmas.Str.{IsUtf8-from_is_utf8, is_utf8-from_IsUtf8}
-use Rattle.net_tables.specs.InOrder.{tables_by_tree}
-use Rattle.net_tables.specs.Reading.{tables_in}
+use Rattle.net_tables.specs.Reading.{tables_by_tree, tables_in}
 use Rattle.net_tables.proofs.InOrder.{in_order}
 use Rattle.net_tables.proofs.read.read_tables.Goals as goal
 

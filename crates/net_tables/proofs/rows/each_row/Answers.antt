@@ -3,9 +3,10 @@ use Rattle.std.proofs.lemmas.List.{length-append}
 use Rattle.std.proofs.lemmas.Result.{err_from_is_err_and}
 use Rattle.toml.specs.View.{table_view}
 use Rattle.table_fields.specs.Shapes.{tables_view}
-use Rattle.net_tables.specs.AllRows.{each, numbered}
+use Rattle.named_rows.specs.Each.{each}
+use Rattle.net_tables.specs.AllRows.{numbered}
 use Rattle.net_tables.proofs.Loops.{each_fails_unless, each_on, each_end}
-use Rattle.net_tables.proofs.Taken.{all_pushed}
+use Rattle.net_tables.proofs.Loops.{all_pushed}
 use Rattle.net_tables.proofs.rows.each_row.Goals as goal
 
 pub loop-i-init : goal.loop-i-init

@@ -1,7 +1,8 @@
 use Rattle.std.proofs.Common.{◌≡◌, ℕ, List, [], drop, length, Result}
 use Rattle.std.specs.List.{AllByRecursion}
 use Rattle.table_fields.specs.Shapes.{tables_view}
-use Rattle.net_tables.specs.AllRows.{each, numbered}
+use Rattle.named_rows.specs.Each.{each}
+use Rattle.net_tables.specs.AllRows.{numbered}
 use Rattle.table_fields.specs.declared.fault.TableFault.{TableFault}
 use Rattle.net_tables.proofs.rows.each_row.Given as goal
 

@@ -1,7 +1,7 @@
 use Rattle.std.proofs.Common.{rules}
 use Rattle.toml.specs.View.{table_view}
 use Rattle.net_tables.proofs.NextRows.{next_more}
-use Rattle.net_tables.proofs.Taken.{all_pushed}
+use Rattle.net_tables.proofs.Loops.{all_pushed}
 use Rattle.net_tables.proofs.rows.next_rows.Goals as goal
 
 pub rows-preserved : goal.rows-preserved

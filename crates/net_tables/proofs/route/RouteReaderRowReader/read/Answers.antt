@@ -1,5 +1,5 @@
 use Rattle.net_rows.specs.declared.row.Route.{Route}
-use Rattle.net_tables.proofs.Pushed.{row_taken}
+use Rattle.named_rows.proofs.Pushed.{row_taken}
 use Rattle.net_tables.proofs.route.RouteReaderRowReader.read.Goals as goal
 
 pub returns-clause-taken : goal.returns-clause-taken

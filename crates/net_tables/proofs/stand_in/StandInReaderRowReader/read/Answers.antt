@@ -1,5 +1,5 @@
 use Rattle.net_rows.specs.declared.row.StandIn.{StandIn}
-use Rattle.net_tables.proofs.Pushed.{row_taken}
+use Rattle.named_rows.proofs.Pushed.{row_taken}
 use Rattle.net_tables.proofs.stand_in.StandInReaderRowReader.read.Goals as goal
 
 pub returns-clause-taken : goal.returns-clause-taken

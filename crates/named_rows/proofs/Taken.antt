@@ -1,15 +1,9 @@
 -- A key that was new, beside the row that took it.
 use Rattle.std.proofs.Common.{◌≡◌, ℕ, ◌<◌, ◌==◌, false, List, [], ◌∷◌, ◌++◌, length, map, sym, ap, ◌∙◌, arith}
 use Rattle.std.specs.Cmp.Lexicographic.{pointwise}
-use Rattle.std.specs.List.{AllByRecursion}
 use Rattle.std.proofs.lemmas.List.{map-append, length-append}
 use Rattle.indexmap.specs.IndexSet.{insert_key}
-use Rattle.net_tables.specs.Rows.{AreNamed}
-use Rattle.net_tables.specs.Reading.{is_among}
-
-pub all_pushed : {X : Type 0} (P : X → Type 0) (xs : List X) (x : X) → AllByRecursion P xs → P x → AllByRecursion P (xs ++ x ∷ [])
-all_pushed P [] x h p = (p, tt)
-all_pushed P (y ∷ xs) x h p = (h.0, all_pushed P xs x h.1 p)
+use Rattle.named_rows.specs.Rows.{AreNamed, is_among}
 
 -- the keys of the rows with the new row
 pub key_taken : {R : Type 0} (key_of : R → List ℕ) (keys taken : List (List ℕ)) (rows : List R) (row : R) → keys ≡ map key_of rows

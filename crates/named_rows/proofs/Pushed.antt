@@ -6,7 +6,7 @@ use Rattle.std.proofs.Math.Dec.{eqb-zero-suc, eqb-suc-zero, eqb-suc-suc}
 use Rattle.std.proofs.lemmas.List.{map-append}
 use Rattle.std.proofs.lemmas.List.Elements.{filter-append}
 use Rattle.std.proofs.Math.ListN.{length-set}
-use Rattle.net_tables.specs.Rows.{prefixes_at, AreEmpty, ArePrefixed, IsTaken}
+use Rattle.named_rows.specs.Rows.{prefixes_at, AreEmpty, ArePrefixed, IsTaken}
 
 prefixes_at-set : (lists : List (List (List ℕ))) (i n : ℕ) (x : List (List ℕ)) → i < length lists → prefixes_at (slice_set lists i x) n ≡ cond (i == n) x (prefixes_at lists n)
 prefixes_at-set [] i n x lt = absurd (omega arith)

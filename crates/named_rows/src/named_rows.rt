@@ -1,7 +1,7 @@
 //! Rows that are found by their names.
 ghost use Rattle.std.specs.Prelude.{◌≡◌, ◌<◌, length, map, IfOk};
-ghost use Rattle.net_tables.specs.Rows.{AreNamed};
-ghost use Rattle.net_tables.specs.Reading.{named};
+ghost use Rattle.named_rows.specs.Rows.{AreNamed};
+ghost use Rattle.named_rows.specs.Reading.{named};
 
 use card_digits::Name;
 use indexmap::IndexSet;
@@ -10,9 +10,10 @@ use std::marker::Model;
 use table_fields::{Place, TableFault};
 
 /// A row with a name.
-pub(crate) trait Named {
+pub trait Named {
     ghost use Rattle.std.specs.Prelude.{ℕ, List};
 
+    // its name
     ghost name_of: { Self → List ℕ };
 
     // how many rows there may be
@@ -33,14 +34,14 @@ impl Named for Link {
 
 /// Rows in the order of the text, and their names, none twice.
 #[derive(Drop)]
-pub(crate) struct NamedRows<R: Named> {
+pub struct NamedRows<R: Named> {
     rows: Vec<R>,
     names: IndexSet<Name>,
 }
 
 impl<R: Named> Model for NamedRows<R> {
     ghost use Rattle.std.specs.Prelude.{List};
-    ghost use Rattle.net_tables.specs.Rows.{AreNamed};
+    ghost use Rattle.named_rows.specs.Rows.{AreNamed};
 
     ghost Value = { List R };
 
@@ -50,6 +51,7 @@ impl<R: Named> Model for NamedRows<R> {
 }
 
 impl<R: Named> NamedRows<R> {
+    /// Rows with their names.
     pub fn new(rows: Vec<R>, names: IndexSet<Name>) -> NamedRows<R>
         requires { AreNamed R.most R.name_of names.keys rows.items }
         ensures { result ≡ rows.items }
@@ -68,6 +70,7 @@ impl<R: Named> NamedRows<R> {
             .ok_or(TableFault::UnknownName(at))
     }
 
+    /// The rows.
     pub fn as_slice(&self) -> &[R]
         ensures { result.now ≡ self.now }
     {

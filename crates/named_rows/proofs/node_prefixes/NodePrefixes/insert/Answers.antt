@@ -2,8 +2,8 @@ use Rattle.std.proofs.Common.{◌==◌, List, ℕ, map, slice_set, sym, ap, ◌�
 use Rattle.std.specs.Cmp.Lexicographic.{pointwise}
 use Rattle.std.proofs.lemmas.List.{map-set}
 use Rattle.indexmap.specs.IndexSet.{keys, insert_key}
-use Rattle.net_tables.proofs.Pushed.{set_at}
-use Rattle.net_tables.proofs.node_prefixes.NodePrefixes.insert.Goals as goal
+use Rattle.named_rows.proofs.Pushed.{set_at}
+use Rattle.named_rows.proofs.node_prefixes.NodePrefixes.insert.Goals as goal
 
 pub returns-clause-new : goal.returns-clause-new
 returns-clause-new c =

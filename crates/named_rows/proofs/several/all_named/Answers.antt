@@ -1,8 +1,8 @@
 use Rattle.std.proofs.Common.{map, sym}
 use Rattle.std.proofs.lemmas.Result.{err_from_is_err_and}
-use Rattle.net_tables.specs.Reading.{named_entry}
-use Rattle.net_tables.proofs.Loops.{entry_fails, entry_on}
-use Rattle.net_tables.proofs.several.all_named.Goals as goal
+use Rattle.named_rows.specs.Reading.{named_entry}
+use Rattle.named_rows.proofs.Entries.{entry_fails, entry_on}
+use Rattle.named_rows.proofs.several.all_named.Goals as goal
 
 pub returns-in_err-named : goal.returns-in_err-named
 returns-in_err-named g c =

@@ -1,6 +1,6 @@
 use Rattle.std.proofs.Common.{◌≡◌, ◌==◌, ◌∙◌, true, false, sym, rules}
-use Rattle.net_tables.specs.Reading.{is_twice, nodes_at}
-use Rattle.net_tables.proofs.several.nodes_at.Goals as goal
+use Rattle.named_rows.specs.Reading.{is_twice, nodes_at}
+use Rattle.named_rows.proofs.several.nodes_at.Goals as goal
 
 pub returns-then-is_twice : goal.returns-then-is_twice
 unfolding nodes_at

@@ -4,8 +4,8 @@ ghost use Rattle.indexmap.specs.IndexSet.{insert_key};
 ghost use Rattle.std.specs.Cmp.Lexicographic.{pointwise};
 ghost use Rattle.table_fields.specs.Faults.{Gives};
 ghost use Rattle.table_fields.specs.Fields.{row_view};
-ghost use Rattle.net_tables.specs.Rows.{node_names, prefixes_at, AreEmpty, IsTaken};
-ghost use Rattle.net_tables.specs.Reading.{is_among, new_prefix_at};
+ghost use Rattle.named_rows.specs.Rows.{node_names, prefixes_at, AreEmpty, IsTaken, is_among};
+ghost use Rattle.named_rows.specs.Reading.{new_prefix_at};
 
 use crate::named_rows::NamedRows;
 use crate::node::node_at;
@@ -20,7 +20,7 @@ const MOST_ROWS: usize = 4_096;
 
 /// A set of prefixes for each node, by its place.
 #[derive(Drop)]
-pub(crate) struct NodePrefixes {
+pub struct NodePrefixes {
     sets: Vec<IndexSet<Prefix>>,
 }
 
@@ -65,7 +65,7 @@ impl NodePrefixes {
 
 /// The row's node and its prefix, which is new at the node.
 #[tactic(auto, unfolding(crate::specs::Reading::new_prefix_at))]
-pub(crate) fn new_prefix_at(
+pub fn new_prefix_at(
     row: &Row,
     nodes: &NamedRows<Node>,
     taken: &mut NodePrefixes,

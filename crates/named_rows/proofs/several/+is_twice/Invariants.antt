@@ -1,5 +1,5 @@
 use Rattle.std.proofs.Common.{length}
-use Rattle.net_tables.proofs.several.+is_twice.Given as goal
+use Rattle.named_rows.proofs.several.+is_twice.Given as goal
 
 abbrev pub decreases-is_twice : goal.decreases-is_twice
 decreases-is_twice g l = length l.items.now

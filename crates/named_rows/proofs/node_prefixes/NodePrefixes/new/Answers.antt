@@ -1,8 +1,8 @@
 use Rattle.std.proofs.Common.{◌≡◌, List, [], ◌∷◌, ◌++◌, ℕ, map, ap, ◌∙◌, arith}
 use Rattle.std.proofs.lemmas.List.{map-append, length-append}
 use Rattle.indexmap.specs.IndexSet.{keys}
-use Rattle.net_tables.proofs.Pushed.{empty_added}
-use Rattle.net_tables.proofs.node_prefixes.NodePrefixes.new.Goals as goal
+use Rattle.named_rows.proofs.Pushed.{empty_added}
+use Rattle.named_rows.proofs.node_prefixes.NodePrefixes.new.Goals as goal
 
 pub loop-preserved : goal.loop-preserved
 loop-preserved c =

@@ -3,8 +3,8 @@ ghost use Rattle.std.specs.Prelude.{◌≡◌, ◌≤◌, [], map, IfOk, true};
 ghost use Rattle.std.specs.List.{list_all};
 ghost use Rattle.table_fields.specs.Faults.{Gives};
 ghost use Rattle.table_fields.specs.Fields.{row_view};
-ghost use Rattle.net_tables.specs.Rows.{node_names, link_names};
-ghost use Rattle.net_tables.specs.Reading.{all_named, nodes_at, links_at, is_twice};
+ghost use Rattle.named_rows.specs.Rows.{node_names, link_names};
+ghost use Rattle.named_rows.specs.Reading.{all_named, nodes_at, links_at, is_twice};
 ghost use Rattle.net_rows.specs.Sound.{is_end};
 
 use crate::named_rows::{Named, NamedRows};
@@ -88,7 +88,7 @@ fn is_twice<T: PartialEq>(items: &[T]) -> bool
 
 /// The nodes that a field names, none twice.
 #[tactic(auto, unfolding(crate::specs::Reading::nodes_at), using(table_fields::proofs::Faults::fails_bind))]
-pub(crate) fn nodes_at(
+pub fn nodes_at(
     alloc: Global,
     row: &Row,
     key: Key,
@@ -121,7 +121,7 @@ fn all_at(links: &[Link], node: NodeNo, found: &[LinkNo]) -> bool
 
 /// One to eight links of the node that a field names, none twice.
 #[tactic(auto, unfolding(crate::specs::Reading::links_at), using(table_fields::proofs::Faults::fails_bind))]
-pub(crate) fn links_at(
+pub fn links_at(
     alloc: Global,
     row: &Row,
     key: Key,
