@@ -1,10 +1,10 @@
 -- Names that compare as equal are one.
 use Rattle.std.proofs.Common.{◌≡◌, ◌≢◌, ℕ, ◌&&◌, true, false, List, bytes_eq, refl, ap, ◌∙◌, subst, inl, inr, eq-eqb}
 use Rattle.std.proofs.lemmas.Bool.{cases_Bool, and_parts, eqb-true}
-use Rattle.iso_message.specs.Keys.{same_kind}
-use Rattle.iso_message.specs.declared.keys.AdviceId.{AdviceId}
-use Rattle.iso_message.specs.declared.keys.AdviceKind.{AdviceKind}
-use Rattle.iso_message.specs.declared.keys.AdviceKind.TheVariants as kinds
+use Rattle.message_keys.specs.Keys.{same_kind}
+use Rattle.message_keys.specs.declared.keys.AdviceId.{AdviceId}
+use Rattle.message_keys.specs.declared.keys.AdviceKind.{AdviceKind}
+use Rattle.message_keys.specs.declared.keys.AdviceKind.TheVariants as kinds
 use Rattle.book_index.specs.Keys.{same_key}
 use Rattle.book_index.proofs.Texts.{same_text, text_refl, key_refl, key_same}
 use Rattle.advice_book.specs.Items.{id_eq, name_eq, name_in, put_on}
