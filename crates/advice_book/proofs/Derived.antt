@@ -2,10 +2,10 @@
 use Rattle.std.proofs.Common.{◌≡◌, Bool, List, [], ◌∷◌, cond, refl, ◌∙◌, sym, Option}
 use Rattle.std.specs.Map.{lookup}
 use Rattle.std.specs.List.{list_any}
-use Rattle.iso_message.specs.declared.keys.AdviceKind.{AdviceKind}
-use Rattle.iso_message.specs.declared.keys.AdviceKind.TheVariants as kinds
-use Rattle.iso_message.specs.declared.keys.AdviceId.{AdviceId}
-use Rattle.iso_message.specs.contracts.keys.AdviceIdPartialEq.TheImpl as derived_ids
+use Rattle.message_keys.specs.declared.keys.AdviceKind.{AdviceKind}
+use Rattle.message_keys.specs.declared.keys.AdviceKind.TheVariants as kinds
+use Rattle.message_keys.specs.declared.keys.AdviceId.{AdviceId}
+use Rattle.message_keys.specs.contracts.keys.AdviceIdPartialEq.TheImpl as derived_ids
 use Rattle.advice_book.specs.Items.{id_eq, name_eq}
 use Rattle.advice_book.specs.declared.places.Held.{Held}
 use Rattle.advice_book.specs.declared.item.ItemName.{ItemName}

@@ -3,7 +3,7 @@ use Rattle.std.proofs.Common.{◌≡◌, ℕ, ◌+◌, ◌-◌, ◌≤◌, ◌||
 use Rattle.std.specs.List.{list_any}
 use Rattle.std.proofs.lemmas.Bool.{cases_Bool}
 use Rattle.std.proofs.lemmas.List.{length-map}
-use Rattle.iso_message.specs.declared.keys.AdviceId.{AdviceId}
+use Rattle.message_keys.specs.declared.keys.AdviceId.{AdviceId}
 use Rattle.advice_book.specs.declared.item.ItemName.{ItemName}
 use Rattle.advice_book.specs.declared.item.ItemName.TheVariants as names
 use Rattle.advice_book.specs.Items.{Stored, id_eq, name_of, name_eq, is_named, is_held, marked}

@@ -2,7 +2,7 @@
 use Rattle.std.specs.Prelude.{ℕ, ◌+◌, ◌-◌, Bool, ◌&&◌, ◌||◌, not, nat_lt, if◌then◌else◌, List, [], ◌∷◌, ◌++◌, length, map, filter, Option, Some, None}
 use Rattle.std.specs.List.{list_any}
 use Rattle.std.specs.Option.{option_and_then}
-use Rattle.iso_message.specs.declared.keys.AdviceId.{AdviceId}
+use Rattle.message_keys.specs.declared.keys.AdviceId.{AdviceId}
 use Rattle.network_law.specs.declared.grant.Grant.{Grant}
 use Rattle.advice_book.specs.declared.item.Advice.{Advice}
 use Rattle.advice_book.specs.declared.item.Item.TheVariants as items

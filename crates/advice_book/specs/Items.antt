@@ -1,8 +1,8 @@
 -- Advices and grants in the order of their storing.
 use Rattle.std.specs.Prelude.{ℕ, Bool, true, false, ◌&&◌, ◌==◌, bytes_eq, if◌then◌else◌, List, find, Option, Some, None, is_some}
 use Rattle.book_index.specs.Keys.{same_key}
-use Rattle.iso_message.specs.Keys.{same_kind}
-use Rattle.iso_message.specs.declared.keys.AdviceId.{AdviceId}
+use Rattle.message_keys.specs.Keys.{same_kind}
+use Rattle.message_keys.specs.declared.keys.AdviceId.{AdviceId}
 use Rattle.network_law.specs.Decision.{is_due_again}
 use Rattle.network_law.specs.declared.grant.Grant.{Grant}
 use Rattle.advice_book.specs.declared.item.Advice.{Advice}

@@ -1,7 +1,7 @@
 -- How the parts of the book stand to each other.
 use Rattle.std.specs.Prelude.{◌≡◌, ℕ, ◌+◌, ◌≤◌, true, List, length}
 use Rattle.std.specs.List.{list_any}
-use Rattle.iso_message.specs.declared.keys.AdviceId.{AdviceId}
+use Rattle.message_keys.specs.declared.keys.AdviceId.{AdviceId}
 use Rattle.advice_book.specs.declared.item.ItemName.TheVariants as names
 use Rattle.advice_book.specs.Items.{Stored, id_eq, is_held}
 

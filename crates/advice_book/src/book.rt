@@ -8,7 +8,7 @@ use crate::held::HeldItems;
 use crate::item::{Advice, Item, ItemName};
 use crate::known::{is_known, know};
 use indexmap::IndexSet;
-use iso_message::AdviceId;
+use message_keys::AdviceId;
 use network_law::Grant;
 use std::alloc::{AllocError, Global};
 use std::marker::Model;

@@ -2,7 +2,8 @@
 ghost use Rattle.std.specs.Prelude.{◌≡◌};
 ghost use Rattle.advice_book.specs.Items.{name_in, put_on};
 
-use iso_message::{AdviceId, Message};
+use iso_message::Message;
+use message_keys::AdviceId;
 use network_law::Grant;
 
 /// An advice that waits for its acknowledgement.

@@ -5,7 +5,7 @@ ghost use Rattle.indexmap.specs.IndexSet.{spare};
 ghost use Rattle.advice_book.specs.Items.{id_eq};
 
 use indexmap::IndexSet;
-use iso_message::AdviceId;
+use message_keys::AdviceId;
 use std::alloc::AllocError;
 
 pub(crate) fn is_known(known: &IndexSet<AdviceId>, id: &AdviceId) -> bool

@@ -3,10 +3,10 @@ use Rattle.std.proofs.Common.{◌≡◌, Bool, List, [], ◌∷◌, cond, refl, 
 use Rattle.std.specs.Map.{lookup}
 use Rattle.book_index.specs.Found.{found}
 use Rattle.book_index.specs.declared.index.Place.{Place}
-use Rattle.iso_message.specs.declared.keys.AdviceKind.{AdviceKind}
-use Rattle.iso_message.specs.declared.keys.AdviceKind.TheVariants as kinds
-use Rattle.iso_message.specs.declared.keys.AdviceId.{AdviceId}
-use Rattle.iso_message.specs.contracts.keys.AdviceIdPartialEq.TheImpl as derived_ids
+use Rattle.message_keys.specs.declared.keys.AdviceKind.{AdviceKind}
+use Rattle.message_keys.specs.declared.keys.AdviceKind.TheVariants as kinds
+use Rattle.message_keys.specs.declared.keys.AdviceId.{AdviceId}
+use Rattle.message_keys.specs.contracts.keys.AdviceIdPartialEq.TheImpl as derived_ids
 use Rattle.std.specs.List.{list_any}
 use Rattle.advice_store.specs.Kept.{id_eq, stored_eq}
 use Rattle.advice_store.specs.declared.key.StoredKey.{StoredKey}

@@ -2,10 +2,10 @@
 use Rattle.std.proofs.Common.{◌≡◌, ℕ, ◌&&◌, ◌||◌, Bool, true, false, List, bytes_eq, refl, sym, ap, ◌∙◌, subst, inl, inr, eqb, eq-eqb}
 use Rattle.std.specs.List.{list_any}
 use Rattle.std.proofs.lemmas.Bool.{cases_Bool, and_parts, eqb-true}
-use Rattle.iso_message.specs.Keys.{identity_eq, key_eq, same_kind}
-use Rattle.iso_message.specs.declared.keys.AdviceId.{AdviceId}
-use Rattle.iso_message.specs.declared.keys.AdviceKind.{AdviceKind}
-use Rattle.iso_message.specs.declared.keys.AdviceKind.TheVariants as kinds
+use Rattle.message_keys.specs.Keys.{identity_eq, key_eq, same_kind}
+use Rattle.message_keys.specs.declared.keys.AdviceId.{AdviceId}
+use Rattle.message_keys.specs.declared.keys.AdviceKind.{AdviceKind}
+use Rattle.message_keys.specs.declared.keys.AdviceKind.TheVariants as kinds
 use Rattle.book_index.specs.Keys.{same_key}
 use Rattle.std.specs.Cmp.Lexicographic.{same_text}
 use Rattle.book_index.proofs.Texts.{text_refl, key_refl, key_same, keys_again}

@@ -7,7 +7,7 @@ use Rattle.node_machine.specs.Books.{Stored}
 use Rattle.std.proofs.Common.{ltb, ltb-true}
 use Rattle.std.proofs.lemmas.Bool.{and_parts}
 use Rattle.std.proofs.Math.Nat.{add-mul-mod_self_right, mod-add-div'}
-use Rattle.iso_message.specs.declared.keys.AdviceId.{AdviceId}
+use Rattle.message_keys.specs.declared.keys.AdviceId.{AdviceId}
 use Rattle.node_machine.specs.Books.{Advised, Granted}
 use Rattle.node_machine.specs.Machine.{is_due}
 use Rattle.advice_store.specs.declared.key.StoredKey.{StoredKey}

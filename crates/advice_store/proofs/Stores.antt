@@ -4,8 +4,8 @@ use Rattle.std.specs.List.{list_any}
 use Rattle.std.proofs.lemmas.Bool.{cases_Bool}
 use Rattle.std.proofs.lemmas.List.{length-map}
 use Rattle.std.proofs.Math.Seq.{take-append_seam}
-use Rattle.iso_message.specs.Keys.{identity_of, identity_eq}
-use Rattle.iso_message.specs.declared.keys.AdviceId.{AdviceId}
+use Rattle.message_keys.specs.Keys.{identity_of, identity_eq}
+use Rattle.message_keys.specs.declared.keys.AdviceId.{AdviceId}
 use Rattle.network_law.specs.declared.grant.GrantPacket.{GrantPacket}
 use Rattle.network_law.specs.declared.grant.GrantPacket.TheVariants as packets
 use Rattle.node_machine.specs.Books.{Stored, Advised, Granted}

@@ -1,7 +1,7 @@
 -- The store as code keeps it.
 use Rattle.std.specs.Prelude.{ℕ, List, Bool, false, ◌||◌}
-use Rattle.iso_message.specs.declared.keys.AdviceId.{AdviceId}
-use Rattle.iso_message.specs.Keys.{identity_of, identity_eq}
+use Rattle.message_keys.specs.declared.keys.AdviceId.{AdviceId}
+use Rattle.message_keys.specs.Keys.{identity_of, identity_eq}
 use Rattle.network_law.specs.declared.grant.GrantPacket.{GrantPacket}
 use Rattle.node_machine.specs.Machine.{packet_acks}
 use Rattle.node_machine.specs.Books.{Stored, Advised, Granted}

@@ -2,8 +2,8 @@
 use Rattle.std.specs.Prelude.{◌≡◌, ◌≤◌, ◌<◌, ◌+◌, ◌%◌, ℕ, zero, suc, Bool, true, false, ◌&&◌, ◌==◌, not, bytes_eq, List, [], ◌∷◌, ◌++◌, drop, filter, length, Option, Some, None, get_or, if◌then◌else◌, ⊤, is_some}
 use Rattle.std.specs.List.{list_any}
 use Rattle.std.specs.Map.{lookup}
-use Rattle.iso_message.specs.Keys.{identity_of, same_kind}
-use Rattle.iso_message.specs.declared.keys.AdviceId.{AdviceId}
+use Rattle.message_keys.specs.Keys.{identity_of, same_kind}
+use Rattle.message_keys.specs.declared.keys.AdviceId.{AdviceId}
 use Rattle.node_machine.specs.Books.{Stored, Advised, Granted}
 use Rattle.node_machine.specs.Lists.{is_among}
 use Rattle.node_machine.specs.Machine.{is_due, was_put}

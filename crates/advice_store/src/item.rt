@@ -1,6 +1,6 @@
 //! What waits for its acknowledgement.
 ghost use Rattle.std.specs.Prelude.{◌≡◌, IfOk};
-ghost use Rattle.iso_message.specs.Keys.{identity_of};
+ghost use Rattle.message_keys.specs.Keys.{identity_of};
 ghost use Rattle.node_machine.specs.Books.{Advised, Granted};
 ghost use Rattle.node_machine.specs.Machine.{is_due, was_put};
 ghost use Rattle.advice_store.specs.Advices.{marked_by, stored_of};
@@ -8,7 +8,8 @@ ghost use Rattle.advice_store.specs.Kept.{key_of, count_of};
 
 use crate::key::{GrantNumber, StoredKey};
 use card_digits::NodeNo;
-use iso_message::{AdviceId, Message, same_identity};
+use iso_message::Message;
+use message_keys::{AdviceId, same_identity};
 use network_law::Grant;
 use std::alloc::AllocError;
 use std::marker::Model;
@@ -25,7 +26,7 @@ pub struct KeptAdvice {
 
 impl Model for KeptAdvice {
     ghost use Rattle.std.specs.Prelude.{◌≡◌};
-    ghost use Rattle.iso_message.specs.Keys.{identity_of};
+    ghost use Rattle.message_keys.specs.Keys.{identity_of};
     ghost use Rattle.node_machine.specs.Books.{Kept};
 
     ghost Value = { Kept };

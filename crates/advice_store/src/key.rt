@@ -1,5 +1,5 @@
 //! What an item of the store is known by.
-use iso_message::AdviceId;
+use message_keys::AdviceId;
 
 /// A grant's lender, in eleven digits, and its number.
 #[derive(Clone, Copy, Debug, PartialEq, Eq, Hash)]

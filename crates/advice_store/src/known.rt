@@ -4,7 +4,7 @@ ghost use Rattle.std.specs.HashSet.{spare};
 ghost use Rattle.std.specs.List.{list_any};
 ghost use Rattle.advice_store.specs.Kept.{id_eq};
 
-use iso_message::AdviceId;
+use message_keys::AdviceId;
 use std::alloc::{AllocError, Global};
 use std::collections::HashSet;
 

@@ -10,7 +10,7 @@ ghost use Rattle.advice_store.specs.declared.key.StoredKey.TheVariants as keys;
 use crate::item::StoredItem;
 use crate::key::StoredKey;
 use book_index::Place;
-use iso_message::AdviceId;
+use message_keys::AdviceId;
 use std::alloc::AllocError;
 
 /// An item, or none where it was acknowledged.

@@ -1,7 +1,7 @@
 //! The store of advices.
 ghost use Rattle.std.specs.Prelude.{◌≡◌, ◌+◌, ◌-◌, ◌<◌, ◌≤◌, [], ◌∷◌, ◌++◌, map, filter, not, OnOk, IfOk, length, drop};
 ghost use Rattle.std.specs.List.{list_any};
-ghost use Rattle.iso_message.specs.Keys.{identity_of};
+ghost use Rattle.message_keys.specs.Keys.{identity_of};
 ghost use Rattle.node_machine.specs.Lists.{is_among};
 ghost use Rattle.node_machine.specs.Books.{Advised, Granted};
 ghost use Rattle.node_machine.specs.Machine.{is_due, was_put};
@@ -21,7 +21,7 @@ use crate::slots::{
     Slot, count_after, free_at, has_at, mark_at, push_all_due, push_due_at, was_put_at,
 };
 use book_index::Place;
-use iso_message::AdviceId;
+use message_keys::AdviceId;
 use network_law::GrantPacket;
 use std::alloc::{AllocError, Global};
 use std::marker::Model;

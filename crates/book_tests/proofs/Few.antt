@@ -1,7 +1,7 @@
 -- Each change adds one put at most to a link, and one tick at most.
 use Rattle.std.proofs.Common.{◌≡◌, ◌≤◌, ◌+◌, ◌^◌, ◌++◌, ℕ, length, List, [], ◌∷◌, Bool, true, false, cond, not, ◌&&◌, replicate, sym, subst, arith}
-use Rattle.iso_message.specs.Groups.{is_04xx}
-use Rattle.iso_message.specs.Keys.{key_of, identity_of}
+use Rattle.message_elements.specs.Groups.{is_04xx}
+use Rattle.message_keys.specs.Keys.{key_of, identity_of}
 use Rattle.network_law.specs.Traces.{ReadOutput, Put, Answer, Ask, Post, PutPacket}
 use Rattle.node_machine.specs.Books.{Advised}
 use Rattle.node_machine.specs.Counts.{PutsAreWithin}

@@ -1,7 +1,8 @@
 //! Bytes that several owners hold, and messages that are kept as such bytes.
 ghost use Rattle.std.specs.Prelude.{◌≡◌, IfOk};
 
-use iso_message::{Kind, Message, decode, encode};
+use iso_message::{Message, decode, encode};
+use message_elements::Kind;
 use request_book::KeptMessage;
 use shared_bytes::SharedBytes;
 use std::alloc::{AllocError, Global};

@@ -4,7 +4,7 @@ ghost use Rattle.std.specs.Prelude.{◌≡◌, ◌≤◌, ◌+◌, ◌^◌, [], 
 use crate::samples::{KEY, REVERSAL, STAND_IN};
 use card_digits::{DateLabel, LinkNo};
 use entry_changes::{AdviceState, Changes, Forwarding, LinkAfter};
-use iso_message::AdviceId;
+use message_keys::AdviceId;
 use node_books::{Books, Effect};
 use std::alloc::{AllocError, Global};
 use std::test::*;

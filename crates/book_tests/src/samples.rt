@@ -1,6 +1,6 @@
 //! The key and the advices that several tests speak of.
 use card_digits::Key;
-use iso_message::{AdviceId, AdviceKind};
+use message_keys::{AdviceId, AdviceKind};
 
 pub(crate) const KEY: Key = Key {
     acquirer: *b"00000001001",

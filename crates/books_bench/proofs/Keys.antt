@@ -2,8 +2,8 @@
 use Rattle.std.proofs.Common.{◌≡◌, ◌∙◌, Bool, true, false, Option, Some, None, refl}
 use Rattle.card_digits.specs.declared.key.Key.{Key}
 use Rattle.iso_message.specs.Fields.{Fields}
-use Rattle.iso_message.specs.Keys.{when, has_key, key_of, has_identity, identity_of}
-use Rattle.iso_message.specs.declared.keys.AdviceId.{AdviceId}
+use Rattle.message_keys.specs.Keys.{when, has_key, key_of, has_identity, identity_of}
+use Rattle.message_keys.specs.declared.keys.AdviceId.{AdviceId}
 
 when_some : {X : Type 0} (b : Bool) (x y : X) → when b x ≡ Some y → y ≡ x
 when_some true x y e = cc

@@ -2,7 +2,8 @@
 use crate::messages::advice;
 use crate::report::{report, start};
 use advice_store::{AdviceStore, KeptAdvice};
-use iso_message::{Message, advice_id};
+use iso_message::Message;
+use message_keys::advice_id;
 use std::alloc::{AllocError, Global};
 use std::io;
 

@@ -3,7 +3,8 @@ ghost use Rattle.std.specs.Prelude.{◌≡◌, IfOk};
 
 use crate::messages::{approval, request};
 use crate::report::{report, start};
-use iso_message::{Message, encode, has_own_key, key_of};
+use iso_message::{Message, encode};
+use message_keys::{has_own_key, key_of};
 use request_book::{KeptMessage, PendingBook, PreparedOutput, Row, Way, is_advice, is_request};
 use shared_bytes::SharedBytes;
 use std::alloc::{AllocError, Global};

@@ -3,9 +3,9 @@
 #![tactic(auto)]
 
 use card_digits::Counted;
-use iso_message::{
-    Code, DecodeFault, Kind, Message, decode, encode, encode_into, has_own_key, value_fault,
-};
+use iso_message::{Message, decode, encode, encode_into};
+use message_elements::{Code, DecodeFault, Kind, value_fault};
+use message_keys::has_own_key;
 use message_text::decode_lines;
 use std::alloc::{AllocError, Global};
 use std::io;

@@ -1,11 +1,11 @@
 -- The derived comparison of identities is that of the keys' definitions.
 use Rattle.std.proofs.Common.{◌≡◌, ◌&&◌, Bool, true, false, bytes_eq, List, [], ◌∷◌, refl, ◌∙◌}
 use Rattle.std.specs.Map.{lookup}
-use Rattle.iso_message.specs.Keys.{identity_eq, key_eq, same_kind}
-use Rattle.iso_message.specs.declared.keys.AdviceKind.{AdviceKind}
-use Rattle.iso_message.specs.declared.keys.AdviceKind.TheVariants as kinds
-use Rattle.iso_message.specs.declared.keys.AdviceId.{AdviceId}
-use Rattle.iso_message.specs.contracts.keys.AdviceIdPartialEq.TheImpl as derived
+use Rattle.message_keys.specs.Keys.{identity_eq, key_eq, same_kind}
+use Rattle.message_keys.specs.declared.keys.AdviceKind.{AdviceKind}
+use Rattle.message_keys.specs.declared.keys.AdviceKind.TheVariants as kinds
+use Rattle.message_keys.specs.declared.keys.AdviceId.{AdviceId}
+use Rattle.message_keys.specs.contracts.keys.AdviceIdPartialEq.TheImpl as derived
 use Rattle.book_index.specs.Found.{found}
 use Rattle.book_index.specs.Keys.{same_key}
 use Rattle.book_index.specs.declared.index.Place.{Place}

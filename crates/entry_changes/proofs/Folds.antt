@@ -1,7 +1,7 @@
 -- Changes that are gone through part by part.
 use Rattle.std.proofs.Common.{◌≡◌, ℕ, List, [], ◌∷◌, ◌++◌, take, drop, refl, sym, ap, ◌∙◌, take-append-drop}
 use Rattle.card_digits.specs.declared.key.Key.{Key}
-use Rattle.iso_message.specs.declared.keys.AdviceId.{AdviceId}
+use Rattle.message_keys.specs.declared.keys.AdviceId.{AdviceId}
 use Rattle.node_machine.specs.Lists.{LinkState}
 use Rattle.node_books.specs.declared.effect.Effect.{Effect}
 use Rattle.entry_changes.specs.SoFar.{link_step, link_from, forward_step, forward_from, advice_step, advice_from, count_step, count_from}

@@ -1,8 +1,8 @@
 -- What is kept of the changes after the first few.
 use Rattle.std.specs.Prelude.{◌≡◌, ◌≤◌, ◌+◌, ◌==◌, ℕ, suc, Bool, true, false, List, Option, Some, None, length, unwrap_or, if◌then◌else◌}
 use Rattle.std.specs.Map.{lookup}
-use Rattle.iso_message.specs.declared.keys.AdviceId.{AdviceId}
-use Rattle.iso_message.specs.Keys.{identity_of, identity_eq}
+use Rattle.message_keys.specs.declared.keys.AdviceId.{AdviceId}
+use Rattle.message_keys.specs.Keys.{identity_of, identity_eq}
 use Rattle.card_digits.specs.declared.key.Key.{Key}
 use Rattle.network_law.specs.Traces.{is_put_of}
 use Rattle.node_machine.specs.Lists.{LinkState}

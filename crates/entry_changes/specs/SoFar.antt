@@ -3,8 +3,8 @@ use Rattle.std.specs.Prelude.{ℕ, suc, ◌==◌, List, [], ◌∷◌, true, fal
 use Rattle.std.specs.Option.{option_or, option_and_then}
 use Rattle.std.specs.List.{list_any}
 use Rattle.card_digits.specs.declared.key.Key.{Key}
-use Rattle.iso_message.specs.declared.keys.AdviceId.{AdviceId}
-use Rattle.iso_message.specs.Keys.{key_eq, identity_of, identity_eq}
+use Rattle.message_keys.specs.declared.keys.AdviceId.{AdviceId}
+use Rattle.message_keys.specs.Keys.{key_eq, identity_of, identity_eq}
 use Rattle.network_law.specs.Traces.{forwards, is_put_of}
 use Rattle.node_machine.specs.Machine.{was_put}
 use Rattle.node_machine.specs.Lists.{Row, LinkState, Lists, of_key, row_key, row_link, is_among}

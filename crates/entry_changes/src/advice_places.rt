@@ -1,11 +1,11 @@
 //! The places of changes that say something of an advice.
 ghost use Rattle.std.specs.Prelude.{◌≡◌, ◌≤◌, OnOk, cond};
 ghost use Rattle.std.specs.HashMap.{spare};
-ghost use Rattle.iso_message.specs.Keys.{identity_eq};
+ghost use Rattle.message_keys.specs.Keys.{identity_eq};
 ghost use Rattle.book_index.specs.Found.{found, joined};
 
 use book_index::{Place, PlaceIndex};
-use iso_message::AdviceId;
+use message_keys::AdviceId;
 use std::alloc::{AllocError, Global};
 
 /// The places of advices, by their identities.

@@ -14,7 +14,7 @@ use crate::so_far::{
 };
 use book_index::Place;
 use card_digits::{Key, LinkNo};
-use iso_message::AdviceId;
+use message_keys::AdviceId;
 use node_books::{Books, Effect};
 use std::alloc::{AllocError, Global};
 use std::marker::Model;

@@ -1,14 +1,14 @@
 //! What is kept of the changes after the first few, so that a look goes over none of them.
 ghost use Rattle.std.specs.Prelude.{◌≡◌, ◌≤◌, ◌<◌, ◌^◌, ◌++◌, ◌∷◌, [], ℕ, List, true, OnOk, OnErr, length, drop};
 ghost use Rattle.std.specs.HashMap.{spare};
-ghost use Rattle.iso_message.specs.declared.keys.AdviceId.{AdviceId};
+ghost use Rattle.message_keys.specs.declared.keys.AdviceId.{AdviceId};
 ghost use Rattle.node_books.specs.declared.effect.Effect.{Effect};
 ghost use Rattle.node_books.specs.declared.effect.Effect.TheVariants.{Sent};
 ghost use Rattle.entry_changes.specs.Late.{ArePlain, AreLate, AreTold, few, move_at, touches, touched};
 
 use crate::advice_places::AdvicePlaces;
 use crate::link_moves::LinkMoves;
-use iso_message::AdviceId;
+use message_keys::AdviceId;
 use node_books::Effect;
 use request_book::{PreparedOutput, Way, is_request};
 use std::alloc::{AllocError, Global};

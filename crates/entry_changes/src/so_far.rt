@@ -4,7 +4,7 @@ ghost use Rattle.node_books.specs.declared.effect.Effect.{Effect};
 ghost use Rattle.entry_changes.specs.SoFar.{link_from, forward_from, advice_from, advice_step, count_from};
 
 use card_digits::{Key, LinkNo};
-use iso_message::{AdviceId, same_identity, same_key};
+use message_keys::{AdviceId, same_identity, same_key};
 use node_books::Effect;
 
 /// Whether a link is up, and its last serial.

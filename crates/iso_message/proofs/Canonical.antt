@@ -9,12 +9,12 @@ use Rattle.std.proofs.lemmas.Nat.{from_be_bytes-to_be_bytes_8}
 use Rattle.hex.specs.Hex.{encode_upper, decode_sized, IsBytes}
 use Rattle.hex.proofs.HexLemmas.{decode_of-encode_upper, decode_sized-twice, length-encode_with}
 use Rattle.hex.specs.Hex.{upper_digits}
-use Rattle.iso_message.specs.declared.kind.Kind.{Kind}
-use Rattle.iso_message.specs.declared.kind.Kind.TheVariants as kinds
-use Rattle.iso_message.specs.declared.form.Form.{Form}
-use Rattle.iso_message.specs.declared.form.Form.TheVariants as forms
-use Rattle.iso_message.specs.Types.{kind_text}
-use Rattle.iso_message.specs.Table.{form_of}
+use Rattle.message_elements.specs.declared.kind.Kind.{Kind}
+use Rattle.message_elements.specs.declared.kind.Kind.TheVariants as kinds
+use Rattle.message_elements.specs.declared.form.Form.{Form}
+use Rattle.message_elements.specs.declared.form.Form.TheVariants as forms
+use Rattle.message_elements.specs.Types.{kind_text}
+use Rattle.message_elements.specs.Table.{form_of}
 use Rattle.iso_message.specs.Fields.{Fields}
 use Rattle.iso_message.specs.Messages.{marks}
 use Rattle.iso_message.specs.Grammar.{IsPiece, ArePieces, IsMap, AreMaps, IsKind, Spells, announced, Writes}

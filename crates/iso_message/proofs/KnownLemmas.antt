@@ -5,10 +5,11 @@ use Rattle.std.proofs.lemmas.List.{take-append-drop, length-append, length-take-
 use Rattle.std.proofs.lemmas.List.Folds.{list_all-append}
 use Rattle.std.proofs.Math.Seq.{take-append-add}
 use Rattle.std.specs.List.{list_all}
-use Rattle.iso_message.specs.Elements.{fits, binary_at}
+use Rattle.message_elements.specs.Values.{fits}
+use Rattle.iso_message.specs.Elements.{binary_at}
 use Rattle.iso_message.proofs.Pieces.{binary_takes}
-use Rattle.iso_message.specs.declared.form.Class.{Class}
-use Rattle.iso_message.specs.declared.form.Class.TheVariants.{Digits, Text}
+use Rattle.message_elements.specs.declared.form.Class.{Class}
+use Rattle.message_elements.specs.declared.form.Class.TheVariants.{Digits, Text}
 use Rattle.iso_message.specs.declared.runs.Known.{Known}
 use Rattle.iso_message.specs.Known.{IsKnown}
 

@@ -8,14 +8,11 @@ pub mod Canonical
 pub mod HexDigits
 pub mod Maps
 pub mod Good
-pub mod TableLemmas
-pub mod Equality
 pub mod Changes
 pub mod MessageLemmas
-pub mod KeyLemmas
+pub mod Found
 pub mod LaneLemmas
 pub mod KnownLemmas
 pub mod PartLemmas
 pub mod Together
 pub mod RunLemmas
-pub mod AmountLemmas

@@ -2,7 +2,7 @@
 use Rattle.std.proofs.Common.{◌≡◌, ℕ, ◌+◌, ◌-◌, ◌^◌, ◌<◌, ◌≤◌, List, [], ◌∷◌, ◌++◌, map, false, eqb, append_assoc, length, get_or, drop, refl, ap, subst, ◌∙◌, add-one, drop-cons, arith}
 use Rattle.std.proofs.lemmas.Bool.{le-leb, lt-leb, lt-ltb, le-ltb, ne_eqb}
 use Rattle.std.proofs.lemmas.Nat.{pow_pos}
-use Rattle.iso_message.specs.Types.{kind_text}
+use Rattle.message_elements.specs.Types.{kind_text}
 use Rattle.iso_message.specs.Fields.{Fields}
 use Rattle.iso_message.specs.declared.elements.Span.{Span}
 use Rattle.iso_message.specs.Spans.{seen, numbers}

@@ -4,28 +4,25 @@ use Rattle.std.proofs.lemmas.List.Folds.{list_all-append}
 use Rattle.std.proofs.lemmas.List.{length-append, length-replicate}
 use Rattle.card_digits.specs.Numbers.{pad11}
 use Rattle.iso_message.specs.Fields.{Fields, get, has, el}
-use Rattle.iso_message.specs.Keys.{has_own_key}
-use Rattle.iso_message.specs.Made.{original_data}
-use Rattle.iso_message.proofs.KeyLemmas.{here, good_found, id_length}
+use Rattle.iso_message.specs.Made.{has_own_key, original_data, is_one_of, kept}
+use Rattle.iso_message.proofs.Found.{here, good_found, id_length}
 use Rattle.std.proofs.Common.{◌-◌, ◌++◌, zero, suc, replicate, Result, Ok, Err, ◌+◌, get_or, drop, ◌≡◌, ℕ, ◌<◌, ◌≤◌, Bool, true, false, not, ◌&&◌, ltb, leb, eqb, List, [], ◌∷◌, length, map, filter, Option, Some, None, refl, sym, ap, ◌∙◌, arith, inl, inr, Bor, MatchOption}
 use Rattle.std.specs.List.{list_all}
 use Rattle.std.proofs.lemmas.Bool.{and_parts, and_from, ltb-true, leb-true, eqb-true, lt-ltb, le-ltb, le-leb, eq-eqb, ne_eqb, cases_lt, cases_eq, cases_Bool}
 use Rattle.std.specs.Option.{option_copied}
 use Rattle.hex.specs.Hex.{IsBytes}
-use Rattle.iso_message.specs.declared.fault.DecodeFault.TheVariants as faults
-use Rattle.iso_message.specs.declared.kind.Kind.{Kind}
-use Rattle.iso_message.specs.declared.form.Class.{Class}
-use Rattle.iso_message.specs.declared.form.Class.TheVariants.{Digits, Text}
-use Rattle.iso_message.specs.declared.form.Form.{Form}
-use Rattle.iso_message.specs.declared.form.Form.TheVariants.{Fixed, Llvar, Lllvar, Binary}
-use Rattle.iso_message.specs.Table.{Row, table, form_in, form_of}
-use Rattle.iso_message.specs.Elements.{fits, value_fault, set_fault}
+use Rattle.message_elements.specs.declared.fault.DecodeFault.TheVariants as faults
+use Rattle.message_elements.specs.declared.kind.Kind.{Kind}
+use Rattle.message_elements.specs.declared.form.Class.{Class}
+use Rattle.message_elements.specs.declared.form.Class.TheVariants.{Digits, Text}
+use Rattle.message_elements.specs.declared.form.Form.{Form}
+use Rattle.message_elements.specs.declared.form.Form.TheVariants.{Fixed, Llvar, Lllvar, Binary}
+use Rattle.message_elements.specs.Table.{Row, table, form_in, form_of}
+use Rattle.message_elements.specs.Values.{fits, value_fault, set_fault, AreOf}
 use Rattle.iso_message.specs.Finding.{put, without}
-use Rattle.iso_message.specs.Grammar.{AreOf}
 use Rattle.iso_message.specs.Spelling.{Ascends, IsGood, AreGood, IsMessage}
 use Rattle.iso_message.specs.declared.elements.Span.{Span}
 use Rattle.iso_message.specs.Spans.{shown, seen, AreWithin}
-use Rattle.iso_message.specs.Made.{is_one_of, kept}
 use Rattle.std.proofs.lemmas.List.{drop_more}
 use Rattle.iso_message.proofs.Canonical.{weaker}
 

@@ -3,13 +3,14 @@ use Rattle.std.proofs.Common.{◌≡◌, ℕ, ◌+◌, ◌-◌, ◌/◌, ◌%◌
 use Rattle.std.specs.Prelude.{slice_range}
 use Rattle.std.proofs.lemmas.Bool.{and_parts, leb-true}
 use Rattle.std.proofs.lemmas.List.{take-append-drop, take_at, drop_at, length-take-le}
-use Rattle.iso_message.specs.declared.form.Class.{Class}
-use Rattle.iso_message.specs.declared.form.Class.TheVariants.{Digits}
-use Rattle.iso_message.specs.declared.form.Form.TheVariants as forms
+use Rattle.message_elements.specs.declared.form.Class.{Class}
+use Rattle.message_elements.specs.declared.form.Class.TheVariants.{Digits}
+use Rattle.message_elements.specs.declared.form.Form.TheVariants as forms
 use Rattle.iso_message.specs.declared.elements.Span.{Span}
-use Rattle.iso_message.specs.Elements.{fits, content_at, counted_at, binary_at}
+use Rattle.message_elements.specs.Values.{fits}
+use Rattle.iso_message.specs.Elements.{content_at, counted_at, binary_at}
 use Rattle.iso_message.specs.Grammar.{Writes}
-use Rattle.iso_message.specs.Table.{form_of}
+use Rattle.message_elements.specs.Table.{form_of}
 use Rattle.iso_message.specs.Spelling.{two_digits, three_digits, piece}
 use Rattle.iso_message.specs.Spans.{text_of, start_of, end_of, seen, AreWithin}
 use Rattle.iso_message.specs.Parts.{Body, IsEnd, IsPart}

@@ -6,16 +6,17 @@ use Rattle.std.proofs.lemmas.List.{take_at, drop_at, take-append-drop, length-ap
 use Rattle.hex.specs.Hex.{decode_sized}
 use Rattle.hex.proofs.HexLemmas.{decode_sized-ok}
 use Rattle.hex.specs.declared.error.FromHexError.{FromHexError}
-use Rattle.iso_message.specs.declared.form.Class.{Class}
-use Rattle.iso_message.specs.declared.form.Class.TheVariants.{Digits}
-use Rattle.iso_message.specs.declared.form.Form.{Form}
-use Rattle.iso_message.specs.declared.form.Form.TheVariants as forms
-use Rattle.iso_message.specs.declared.fault.DecodeFault.{DecodeFault}
-use Rattle.iso_message.specs.declared.fault.DecodeFault.TheVariants as faults
+use Rattle.message_elements.specs.declared.form.Class.{Class}
+use Rattle.message_elements.specs.declared.form.Class.TheVariants.{Digits}
+use Rattle.message_elements.specs.declared.form.Form.{Form}
+use Rattle.message_elements.specs.declared.form.Form.TheVariants as forms
+use Rattle.message_elements.specs.declared.fault.DecodeFault.{DecodeFault}
+use Rattle.message_elements.specs.declared.fault.DecodeFault.TheVariants as faults
 use Rattle.card_digits.specs.Numbers.{decimal}
 use Rattle.card_digits.specs.Attempts.{◌>>=◌}
-use Rattle.iso_message.specs.Elements.{fits, content_at, length_at, unpacked, binary_at, counted_at, field_at}
-use Rattle.iso_message.specs.Grammar.{AreOf, Writes, IsCounted, IsPiece}
+use Rattle.message_elements.specs.Values.{fits, AreOf}
+use Rattle.iso_message.specs.Elements.{content_at, length_at, unpacked, binary_at, counted_at, field_at}
+use Rattle.iso_message.specs.Grammar.{Writes, IsCounted, IsPiece}
 
 pub bind_ok : {A B : Type 0} (r : Result A DecodeFault) (f : A → Result B DecodeFault) (y : B) → (r >>= f) ≡ Ok y → (x : A) × (r ≡ Ok x) × (f x ≡ Ok y)
 bind_ok (Ok x) f y e = (x, refl, e)

@@ -7,13 +7,13 @@ use Rattle.std.proofs.lemmas.List.{take_at, drop_at, append-nil, length-append, 
 use Rattle.hex.specs.Hex.{decode_sized}
 use Rattle.hex.proofs.HexLemmas.{decode_sized-ok}
 use Rattle.hex.specs.declared.error.FromHexError.{FromHexError}
-use Rattle.iso_message.specs.declared.kind.Kind.{Kind}
-use Rattle.iso_message.specs.declared.fault.DecodeFault.{DecodeFault}
-use Rattle.iso_message.specs.declared.fault.DecodeFault.TheVariants as faults
-use Rattle.iso_message.specs.Types.{kind_of}
+use Rattle.message_elements.specs.declared.kind.Kind.{Kind}
+use Rattle.message_elements.specs.declared.fault.DecodeFault.{DecodeFault}
+use Rattle.message_elements.specs.declared.fault.DecodeFault.TheVariants as faults
+use Rattle.message_elements.specs.Types.{kind_of}
 use Rattle.card_digits.specs.Attempts.{◌>>=◌}
 use Rattle.iso_message.specs.Elements.{field_at, with_next, with_all}
-use Rattle.iso_message.specs.Table.{form_of}
+use Rattle.message_elements.specs.Table.{form_of}
 use Rattle.iso_message.specs.Fields.{Fields}
 use Rattle.iso_message.specs.Messages.{Fails, Gives, marks, typed, kind_at, mapped, map_at, second_at, read}
 use Rattle.iso_message.specs.Grammar.{ArePieces, IsMap, AreMaps, announced, Spells, IsKind, IsFault, AtKind, AtFirst, AtSecond, AtElement, AtEnd}

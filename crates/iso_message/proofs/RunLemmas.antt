@@ -4,7 +4,7 @@ use Rattle.std.specs.Prelude.{slice_range, slice_get}
 use Rattle.std.proofs.lemmas.List.{drop-drop, take-take, drop-take}
 use Rattle.iso_message.specs.declared.elements.Span.{Span}
 use Rattle.iso_message.specs.declared.elements.Run.{Run}
-use Rattle.iso_message.specs.Table.{form_of}
+use Rattle.message_elements.specs.Table.{form_of}
 use Rattle.iso_message.specs.Spelling.{piece}
 use Rattle.iso_message.specs.Spans.{text_of, start_of, end_of, shown, IsWithin, AreWithin, IsInRun, moved, moved_place, IsCopied}
 

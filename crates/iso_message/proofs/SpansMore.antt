@@ -3,9 +3,9 @@ use Rattle.std.proofs.Common.{◌≡◌, ℕ, ◌+◌, ◌-◌, ◌≤◌, ◌<�
 use Rattle.std.specs.Prelude.{slice_range, OnErr}
 use Rattle.std.proofs.lemmas.List.{take-append-le, drop-append-le, drop_at, take_all}
 use Rattle.iso_message.specs.declared.elements.Span.{Span}
-use Rattle.iso_message.specs.declared.form.Form.{Form}
-use Rattle.iso_message.specs.declared.form.Form.TheVariants as forms
-use Rattle.iso_message.specs.Table.{form_of}
+use Rattle.message_elements.specs.declared.form.Form.{Form}
+use Rattle.message_elements.specs.declared.form.Form.TheVariants as forms
+use Rattle.message_elements.specs.Table.{form_of}
 use Rattle.iso_message.specs.Spelling.{IsGood, is_binary, piece, length_text}
 use Rattle.iso_message.specs.Spans.{text_of, start_of, end_of, shown, seen, IsWithin, AreWithin}
 

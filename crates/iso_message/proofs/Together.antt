@@ -3,7 +3,7 @@ use Rattle.std.proofs.Common.{◌≡◌, ℕ, ◌+◌, ◌-◌, ◌<◌, ◌≤�
 use Rattle.std.specs.Prelude.{slice_range}
 use Rattle.std.proofs.lemmas.List.{take-append-drop, take-take, drop-take, drop-drop, drop_more}
 use Rattle.iso_message.specs.declared.elements.Span.{Span}
-use Rattle.iso_message.specs.Table.{form_of}
+use Rattle.message_elements.specs.Table.{form_of}
 use Rattle.iso_message.specs.Spans.{text_of, start_of, end_of, seen, IsWithin}
 use Rattle.iso_message.specs.Spelling.{IsGood, AreGood, is_binary, piece, pieces}
 use Rattle.iso_message.proofs.MessageLemmas.{any}

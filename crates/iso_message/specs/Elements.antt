@@ -1,22 +1,18 @@
 -- The forms of elements, and what stands in an element's place.
-use Rattle.std.specs.Prelude.{ℕ, Bool, ◌&&◌, ◌==◌, nat_lt, nat_le, List, [], ◌∷◌, ◌++◌, length, take, drop, Option, Some, None, Result, Ok, Err, if◌then◌else◌}
-use Rattle.std.specs.Char.{is_ascii_digit}
+use Rattle.std.specs.Prelude.{ℕ, ◌&&◌, nat_lt, nat_le, List, [], ◌∷◌, ◌++◌, length, take, drop, Option, Some, None, Result, Ok, Err, if◌then◌else◌}
 use Rattle.std.specs.List.{list_all}
 use Rattle.hex.specs.Hex.{decode_sized}
 use Rattle.hex.specs.declared.error.FromHexError.{FromHexError}
 use Rattle.card_digits.specs.Attempts.{◌>>=◌}
 use Rattle.card_digits.specs.Numbers.{decimal}
-use Rattle.iso_message.specs.Table.{form_of}
-use Rattle.iso_message.specs.declared.form.Class.{Class}
-use Rattle.iso_message.specs.declared.form.Class.TheVariants.{Digits, Text}
-use Rattle.iso_message.specs.declared.form.Form.{Form}
-use Rattle.iso_message.specs.declared.form.Form.TheVariants.{Fixed, Llvar, Lllvar, Binary}
-use Rattle.iso_message.specs.declared.fault.DecodeFault.{DecodeFault}
-use Rattle.iso_message.specs.declared.fault.DecodeFault.TheVariants as faults
-
-abbrev pub fits : Class → ℕ → Bool
-fits Digits b = is_ascii_digit b
-fits Text b = nat_le 32 b && nat_le b 126
+use Rattle.message_elements.specs.Table.{form_of}
+use Rattle.message_elements.specs.Values.{fits}
+use Rattle.message_elements.specs.declared.form.Class.{Class}
+use Rattle.message_elements.specs.declared.form.Class.TheVariants.{Digits}
+use Rattle.message_elements.specs.declared.form.Form.{Form}
+use Rattle.message_elements.specs.declared.form.Form.TheVariants.{Fixed, Llvar, Lllvar, Binary}
+use Rattle.message_elements.specs.declared.fault.DecodeFault.{DecodeFault}
+use Rattle.message_elements.specs.declared.fault.DecodeFault.TheVariants as faults
 
 -- a content of so many bytes, and the bytes after it
 unfoldable pub content_at : Class → ℕ → ℕ → List ℕ → Result (List ℕ × List ℕ) DecodeFault
@@ -66,15 +62,3 @@ with_all es [] bytes = Ok (es, bytes)
 with_all es (n ∷ ns) bytes = do
   x ← with_next es (form_of n) n bytes
   with_all x.0 ns x.1
-
--- what is wrong with a value of a class, of which the length is right or not
-abbrev pub value_fault : Bool → Class → ℕ → List ℕ → Option DecodeFault
-value_fault long class n value = if long then (if list_all (fits class) value then None else Some (faults.Character n)) else Some (faults.Length n)
-
--- what is wrong with a value for an element of a form
-abbrev pub set_fault : Option Form → ℕ → List ℕ → Option DecodeFault
-set_fault None n value = Some (faults.Element n)
-set_fault (Some (Fixed class size)) n value = value_fault (length value == size) class n value
-set_fault (Some (Llvar class most)) n value = value_fault (nat_le (length value) most) class n value
-set_fault (Some (Lllvar class most)) n value = value_fault (nat_le (length value) most) class n value
-set_fault (Some Binary) n value = if length value == 8 then None else Some (faults.Length n)

@@ -1,6 +1,6 @@
 -- A message as a type and its elements, and what is read of it and changed in it.
 use Rattle.std.specs.Prelude.{ℕ, Bool, List, [], Option, unwrap_or, is_some}
-use Rattle.iso_message.specs.declared.kind.Kind.{Kind}
+use Rattle.message_elements.specs.declared.kind.Kind.{Kind}
 use Rattle.iso_message.specs.Finding.{find_element, put, without}
 
 -- the elements stand in ascending order of number, each with its bytes

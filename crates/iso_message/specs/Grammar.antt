@@ -1,25 +1,21 @@
 -- Which bytes spell a message, and what is wrong with others. No place in the bytes is spoken of: a message is its pieces.
-use Rattle.std.specs.Prelude.{◌≡◌, ℕ, ◌≤◌, ◌<◌, ◌%◌, ◌^◌, true, List, [], ◌∷◌, ◌++◌, ◌⊎◌, length, map, Option, Some, None, Ok, Err}
-use Rattle.std.specs.List.{list_all}
+use Rattle.std.specs.Prelude.{◌≡◌, ℕ, ◌≤◌, ◌<◌, ◌%◌, ◌^◌, List, [], ◌∷◌, ◌++◌, ◌⊎◌, length, map, Option, Some, None, Ok, Err}
 use Rattle.std.specs.Int.{w64, from_be_bytes}
 use Rattle.hex.specs.Hex.{decode_sized}
-use Rattle.iso_message.specs.declared.form.Class.{Class}
-use Rattle.iso_message.specs.declared.form.Class.TheVariants.{Digits}
-use Rattle.iso_message.specs.declared.form.Form.{Form}
-use Rattle.iso_message.specs.declared.form.Form.TheVariants.{Fixed, Llvar, Lllvar, Binary}
-use Rattle.iso_message.specs.declared.kind.Kind.{Kind}
-use Rattle.iso_message.specs.declared.fault.DecodeFault.{DecodeFault}
-use Rattle.iso_message.specs.declared.fault.DecodeFault.TheVariants as faults
-use Rattle.iso_message.specs.Types.{kind_of}
+use Rattle.message_elements.specs.declared.form.Class.{Class}
+use Rattle.message_elements.specs.declared.form.Class.TheVariants.{Digits}
+use Rattle.message_elements.specs.declared.form.Form.{Form}
+use Rattle.message_elements.specs.declared.form.Form.TheVariants.{Fixed, Llvar, Lllvar, Binary}
+use Rattle.message_elements.specs.declared.kind.Kind.{Kind}
+use Rattle.message_elements.specs.declared.fault.DecodeFault.{DecodeFault}
+use Rattle.message_elements.specs.declared.fault.DecodeFault.TheVariants as faults
+use Rattle.message_elements.specs.Types.{kind_of}
 use Rattle.card_digits.specs.Numbers.{decimal}
-use Rattle.iso_message.specs.Elements.{fits, field_at}
-use Rattle.iso_message.specs.Table.{form_of}
+use Rattle.message_elements.specs.Values.{AreOf}
+use Rattle.iso_message.specs.Elements.{field_at}
+use Rattle.message_elements.specs.Table.{form_of}
 use Rattle.iso_message.specs.Fields.{Fields}
 use Rattle.iso_message.specs.Messages.{marks, kind_at, map_at}
-
--- of the class
-abbrev pub AreOf : Class → List ℕ → Type 0
-AreOf class bytes = list_all (fits class) bytes ≡ true
 
 -- so many digits that write the number
 abbrev pub Writes : ℕ → ℕ → List ℕ → Type 0

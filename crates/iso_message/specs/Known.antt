@@ -1,9 +1,9 @@
 -- What is known of bytes that are still to be read.
 use Rattle.std.specs.Prelude.{◌≡◌, ℕ, ◌-◌, ◌+◌, ◌≤◌, ◌<◌, true, List, length, take, Bool, slice_index, ◌==◌, if◌then◌else◌}
 use Rattle.std.specs.Int.{w64, trailing_zeros}
-use Rattle.iso_message.specs.declared.form.Class.TheVariants.{Digits, Text}
+use Rattle.message_elements.specs.declared.form.Class.TheVariants.{Digits, Text}
 use Rattle.iso_message.specs.declared.runs.Known.{Known}
-use Rattle.iso_message.specs.Grammar.{AreOf}
+use Rattle.message_elements.specs.Values.{AreOf}
 
 -- each byte from a place up to an end passes the test
 abbrev pub PassBetween : (ℕ → Bool) → List ℕ → ℕ → ℕ → Type 0

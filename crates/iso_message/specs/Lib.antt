@@ -1,6 +1,3 @@
-pub mod Types
-pub mod Groups
-pub mod Table
 pub mod Spans
 pub mod Elements
 pub mod Finding
@@ -8,9 +5,6 @@ pub mod Fields
 pub mod Messages
 pub mod Grammar
 pub mod Spelling
-pub mod Keys
-pub mod Amounts
-pub mod Codes
 pub mod Made
 pub mod Known
 pub mod Parts

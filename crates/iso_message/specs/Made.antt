@@ -1,12 +1,12 @@
 -- The response to a message, and the advices that a node makes of a request.
-use Rattle.std.specs.Prelude.{ℕ, Bool, ◌==◌, List, [], ◌∷◌, ◌++◌, replicate, codes}
+use Rattle.std.specs.Prelude.{ℕ, Bool, ◌==◌, ◌&&◌, List, [], ◌∷◌, ◌++◌, replicate, codes}
 use Rattle.std.specs.List.{filter, list_any}
 use Rattle.card_digits.specs.Numbers.{pad11}
-use Rattle.iso_message.specs.declared.kind.Kind.{Kind}
-use Rattle.iso_message.specs.declared.kind.Kind.TheVariants.{K0120, K0420}
-use Rattle.iso_message.specs.Groups.{response_kind}
-use Rattle.iso_message.specs.Fields.{Fields, el, set_element, remove_element}
-use Rattle.iso_message.specs.Codes.{code_00, code_68}
+use Rattle.message_elements.specs.declared.kind.Kind.{Kind}
+use Rattle.message_elements.specs.declared.kind.Kind.TheVariants.{K0120, K0420}
+use Rattle.message_elements.specs.Groups.{response_kind}
+use Rattle.iso_message.specs.Fields.{Fields, has, el, set_element, remove_element}
+use Rattle.message_elements.specs.Codes.{code_00, code_68}
 
 abbrev pub is_one_of : List ℕ → ℕ → Bool
 is_one_of numbers n = list_any (λ k. k == n) numbers
@@ -38,6 +38,11 @@ made_from kind m id code = with_code code (set_element (record { kind = kind; el
 unfoldable pub made_stand_in : Fields → List ℕ → Fields
 unfolding made_from
 made_stand_in m id = made_from K0120 m id code_00
+
+-- whether the elements of a request's key are there
+unfoldable pub has_own_key : Fields → Bool
+unfolding has
+has_own_key m = has m 32 && has m 11 && has m 7
 
 -- the original's type, trace number, time, acquirer and forwarder, of which the last is not known
 abbrev pub original_data : Fields → List ℕ

@@ -3,10 +3,10 @@ use Rattle.std.specs.Prelude.{◌≡◌, ℕ, zero, suc, ◌-◌, ◌%◌, ◌^�
 use Rattle.std.specs.Int.{w64, from_be_bytes}
 use Rattle.hex.specs.Hex.{decode_sized}
 use Rattle.hex.specs.declared.error.FromHexError.{FromHexError}
-use Rattle.iso_message.specs.declared.kind.Kind.{Kind}
-use Rattle.iso_message.specs.declared.fault.DecodeFault.{DecodeFault}
-use Rattle.iso_message.specs.declared.fault.DecodeFault.TheVariants as faults
-use Rattle.iso_message.specs.Types.{kind_of}
+use Rattle.message_elements.specs.declared.kind.Kind.{Kind}
+use Rattle.message_elements.specs.declared.fault.DecodeFault.{DecodeFault}
+use Rattle.message_elements.specs.declared.fault.DecodeFault.TheVariants as faults
+use Rattle.message_elements.specs.Types.{kind_of}
 use Rattle.iso_message.specs.Fields.{Fields}
 use Rattle.card_digits.specs.Attempts.{◌>>=◌}
 use Rattle.iso_message.specs.Elements.{with_all}

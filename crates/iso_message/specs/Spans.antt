@@ -3,7 +3,7 @@ use Rattle.std.specs.Prelude.{◌≡◌, ℕ, ◌+◌, ◌-◌, ◌*◌, ◌/◌
 use Rattle.std.specs.List.{AllByRecursion}
 use Rattle.iso_message.specs.declared.elements.Span.{Span}
 use Rattle.iso_message.specs.declared.elements.Run.{Run}
-use Rattle.iso_message.specs.Table.{form_of}
+use Rattle.message_elements.specs.Table.{form_of}
 use Rattle.iso_message.specs.Spelling.{is_binary, piece}
 
 -- where an element's piece begins

@@ -3,12 +3,12 @@ use Rattle.std.specs.Prelude.{◌≡◌, ℕ, ◌+◌, ◌-◌, ◌/◌, ◌%◌
 use Rattle.std.specs.List.{filter, flat_map}
 use Rattle.std.specs.Int.{w64, to_be_bytes}
 use Rattle.hex.specs.Hex.{encode_upper, IsBytes}
-use Rattle.iso_message.specs.declared.form.Form.{Form}
-use Rattle.iso_message.specs.declared.form.Form.TheVariants.{Fixed, Llvar, Lllvar, Binary}
-use Rattle.iso_message.specs.Types.{kind_text}
-use Rattle.iso_message.specs.Table.{form_of}
+use Rattle.message_elements.specs.declared.form.Form.{Form}
+use Rattle.message_elements.specs.declared.form.Form.TheVariants.{Fixed, Llvar, Lllvar, Binary}
+use Rattle.message_elements.specs.Types.{kind_text}
+use Rattle.message_elements.specs.Table.{form_of}
 use Rattle.iso_message.specs.Fields.{Fields}
-use Rattle.iso_message.specs.Grammar.{AreOf}
+use Rattle.message_elements.specs.Values.{AreOf}
 
 abbrev pub two_digits : ℕ → List ℕ
 two_digits n = (48 + n / 10) ∷ (48 + n % 10) ∷ []

@@ -4,7 +4,7 @@ ghost use Rattle.iso_message.specs.Finding.{find_element, put, without};
 ghost use Rattle.iso_message.specs.Made.{kept};
 ghost use Rattle.iso_message.specs.Carried.{carried_numbers};
 ghost use Rattle.iso_message.specs.Spelling.{Ascends, IsGood, AreGood, bits, low_numbers, high_numbers, pieces};
-ghost use Rattle.iso_message.specs.Table.{form_of};
+ghost use Rattle.message_elements.specs.Table.{form_of};
 ghost use Rattle.iso_message.specs.Spans.{text_of, span_at, start_of, end_of, seen, IsWithin, AreWithin, IsLonger, placed, numbers, IsInRun, moved, moved_place, IsCopied};
 ghost use Rattle.iso_message.specs.declared.elements.Span.{Span};
 

@@ -1,16 +1,13 @@
-//! What holds of messages, bytes and keys by their definitions alone. Each function has no body, and its contract is the law.
-ghost use Rattle.std.specs.Prelude.{◌≡◌, ◌↔◌, ℕ, List, true, Option, Some, None, Ok};
+//! What holds of messages and bytes by their definitions alone. Each function has no body, and its contract is the law.
+ghost use Rattle.std.specs.Prelude.{◌≡◌, ℕ, List, Option, Some, None, Ok};
 ghost use Rattle.hex.specs.Hex.{IsBytes};
-ghost use Rattle.card_digits.specs.declared.key.Key.{Key};
-ghost use Rattle.iso_message.specs.declared.keys.AdviceId.{AdviceId};
-ghost use Rattle.iso_message.specs.Table.{form_of};
-ghost use Rattle.iso_message.specs.Elements.{set_fault};
+ghost use Rattle.message_elements.specs.Table.{form_of};
+ghost use Rattle.message_elements.specs.Values.{set_fault};
 ghost use Rattle.iso_message.specs.Fields.{Fields};
 ghost use Rattle.iso_message.specs.Messages.{read};
 ghost use Rattle.iso_message.specs.Grammar.{Spells, IsPiece, IsFault};
-ghost use Rattle.iso_message.specs.declared.fault.DecodeFault.{DecodeFault};
+ghost use Rattle.message_elements.specs.declared.fault.DecodeFault.{DecodeFault};
 ghost use Rattle.iso_message.specs.Spelling.{spelling, IsMessage};
-ghost use Rattle.iso_message.specs.Keys.{Content, key_eq, content_eq, identity_eq};
 
 /// Bytes spell at most one message.
 pub fn one_message()
@@ -42,11 +39,4 @@ pub fn round_trip()
 pub fn settable()
     ensures may_set { (n : ℕ) (value : List ℕ) → IsBytes value → set_fault (form_of n) n value ≡ None → (text : List ℕ) × IsPiece (form_of n) value text }
     ensures only_so { (n : ℕ) (value text : List ℕ) → IsPiece (form_of n) value text → set_fault (form_of n) n value ≡ None }
-{}
-
-/// The tests of keys, contents and identities are those of equality.
-pub fn equality()
-    ensures keys { (a b : Key) → (key_eq a b ≡ true) ↔ (a ≡ b) }
-    ensures contents { (a b : Content) → (content_eq a b ≡ true) ↔ (a ≡ b) }
-    ensures identities { (a b : AdviceId) → (identity_eq a b ≡ true) ↔ (a ≡ b) }
 {}

@@ -1,17 +1,14 @@
 //! Responses, and the advices that a node makes of a request.
 ghost use Rattle.std.specs.Prelude.{◌≡◌, ◌++◌, true, None, IfOk, OnOk};
-ghost use Rattle.iso_message.specs.Table.{form_of};
-ghost use Rattle.iso_message.specs.Elements.{set_fault};
-ghost use Rattle.iso_message.specs.Keys.{has_own_key};
-ghost use Rattle.iso_message.specs.Made.{response, made_stand_in, made_reversal, made_from, kept, original_data};
+ghost use Rattle.message_elements.specs.Table.{form_of};
+ghost use Rattle.message_elements.specs.Values.{set_fault};
+ghost use Rattle.iso_message.specs.Made.{has_own_key, response, made_stand_in, made_reversal, made_from, kept, original_data};
 ghost use Rattle.iso_message.specs.Carried.{carried_numbers};
 
 use crate::carried::Carried;
-use crate::code::Code;
-use crate::keys::bytes_of;
-use crate::kind::Kind;
-use crate::message::Message;
+use crate::message::{Message, bytes_of};
 use card_digits::pad11;
+use message_elements::{Code, Kind};
 use std::alloc::AllocError;
 
 impl Message {

@@ -1,21 +1,18 @@
 //! Messages.
 ghost use Rattle.std.specs.Prelude.{◌≡◌, ◌↔◌, ◌⊎◌, ◌<◌, ◌^◌, ◌++◌, [], length, IsTrue, Some, None, Ok, IfOk, OnOk, OnErr, IfErr};
 ghost use Rattle.std.specs.Option.{option_copied};
-ghost use Rattle.iso_message.specs.declared.fault.DecodeFault.TheVariants.{Memory};
-ghost use Rattle.iso_message.specs.Elements.{set_fault};
-ghost use Rattle.iso_message.specs.Table.{form_of};
+ghost use Rattle.message_elements.specs.declared.fault.DecodeFault.TheVariants.{Memory};
+ghost use Rattle.message_elements.specs.Values.{set_fault};
+ghost use Rattle.message_elements.specs.Table.{form_of};
 ghost use Rattle.iso_message.specs.Grammar.{Spells, IsFault};
 ghost use Rattle.iso_message.specs.Messages.{read, Gives};
 ghost use Rattle.iso_message.specs.Spelling.{IsMessage, spelling, two_maps};
-ghost use Rattle.iso_message.specs.Fields.{Fields, get, has, set_element, remove_element, as_kind};
+ghost use Rattle.iso_message.specs.Fields.{Fields, get, has, el, set_element, remove_element, as_kind};
 
 use crate::elements::{ElementIter, Elements};
-use crate::fault::DecodeFault;
-use crate::form::{Form, form_at};
-use crate::kind::Kind;
 use crate::reading::read_into;
-use crate::runs::are_of;
-use crate::writing::{push_map, text_of};
+use crate::writing::push_map;
+use message_elements::{DecodeFault, Kind, value_fault};
 use std::alloc::{AllocError, Global};
 use std::marker::Model;
 
@@ -170,6 +167,18 @@ impl Message {
     }
 }
 
+/// The bytes of an element, none where it is absent.
+#[tactic(auto, unfolding(crate::specs::Fields::el))]
+#[inline]
+pub fn bytes_of(message: &Message, number: u8) -> &[u8]
+    ensures { result.now ≡ el message.now number }
+{
+    match message.get(number) {
+        Some(bytes) => bytes,
+        None => &[],
+    }
+}
+
 /// The bytes that spell the message, with hexadecimal digits in upper case and a secondary bit map only where an element
 /// above 64 is there.
 pub fn encode(alloc: Global, message: &Message) -> Result<Vec<u8>, AllocError>
@@ -189,7 +198,7 @@ pub fn encode_into(out: &mut Vec<u8>, message: &Message) -> Result<(), AllocErro
 {
     let (low, high) = message.elements.maps();
     out.reserve(message.elements.room().saturating_add(OTHER_ROOM))?;
-    out.extend_from_slice(text_of(message.kind))?;
+    out.extend_from_slice(message.kind.as_slice())?;
     push_maps(out, low, high)?;
     message.elements.push_to(out)
 }
@@ -208,29 +217,4 @@ fn push_maps(out: &mut Vec<u8>, low: u64, high: u64) -> Result<(), AllocError>
         push_map(out, high)?;
     }
     Ok(())
-}
-
-/// What is wrong with a value for an element: the fault that `set` answers, none where it sets the value.
-pub fn value_fault(number: u8, value: &[u8]) -> Option<DecodeFault>
-    ensures { result ≡ set_fault (form_of number) number value.now }
-{
-    let (class, long) = match form_at(number) {
-        None => return Some(DecodeFault::Element(number)),
-        Some(Form::Binary) => {
-            if value.len() == 8 {
-                return None;
-            }
-            return Some(DecodeFault::Length(number));
-        }
-        Some(Form::Fixed(class, size)) => (class, value.len() == size),
-        Some(Form::Llvar(class, most)) => (class, value.len() <= most),
-        Some(Form::Lllvar(class, most)) => (class, value.len() <= most),
-    };
-    if !long {
-        return Some(DecodeFault::Length(number));
-    }
-    if !are_of(class, value) {
-        return Some(DecodeFault::Character(number));
-    }
-    None
 }

@@ -1,25 +1,24 @@
 //! Reading a message.
 ghost use Rattle.std.specs.Prelude.{◌≡◌, ◌<◌, ◌≤◌, ◌⊎◌, true, [], length, IfOk, IfErr, OnErr, Ok};
 ghost use Rattle.std.specs.List.{list_all};
-ghost use Rattle.iso_message.specs.Types.{kind_of};
-ghost use Rattle.iso_message.specs.Elements.{fits, content_at, length_at, counted_at, binary_at, field_at, with_next, with_all};
-ghost use Rattle.iso_message.specs.Table.{form_of};
+ghost use Rattle.message_elements.specs.Types.{kind_of};
+ghost use Rattle.message_elements.specs.Values.{fits};
+ghost use Rattle.iso_message.specs.Elements.{content_at, length_at, counted_at, binary_at, field_at, with_next, with_all};
+ghost use Rattle.message_elements.specs.Table.{form_of};
 ghost use Rattle.iso_message.specs.Known.{IsKnown};
 ghost use Rattle.iso_message.specs.Parts.{IsEnd};
-ghost use Rattle.iso_message.specs.declared.form.Class.TheVariants.{Digits};
-ghost use Rattle.iso_message.specs.declared.fault.DecodeFault.TheVariants.{Memory};
+ghost use Rattle.message_elements.specs.declared.form.Class.TheVariants.{Digits};
+ghost use Rattle.message_elements.specs.declared.fault.DecodeFault.TheVariants.{Memory};
 ghost use Rattle.iso_message.specs.Grammar.{Spells, IsFault};
 ghost use Rattle.iso_message.specs.Spelling.{IsMessage};
 ghost use Rattle.iso_message.specs.Fields.{Fields};
 ghost use Rattle.iso_message.specs.Messages.{marks, kind_at, map_at, second_at, read, Reads, Gives};
 
 use crate::elements::{Elements, Parts};
-use crate::fault::DecodeFault;
-use crate::form::{Class, Form, form_at};
-use crate::kind::Kind;
 use crate::message::Message;
 use crate::runs::Known;
 use card_digits::decimal;
+use message_elements::{Class, DecodeFault, Form, Kind, form_at};
 use std::alloc::Global;
 
 #[tactic(auto, unfolding(crate::specs::Elements::content_at))]
@@ -174,26 +173,6 @@ fn add_all<'a>(
     Ok(rest)
 }
 
-fn named(text: &[u8]) -> Option<Kind>
-    ensures { result ≡ kind_of text.now }
-{
-    match text {
-        b"0100" => Some(Kind::K0100),
-        b"0101" => Some(Kind::K0101),
-        b"0110" => Some(Kind::K0110),
-        b"0120" => Some(Kind::K0120),
-        b"0121" => Some(Kind::K0121),
-        b"0130" => Some(Kind::K0130),
-        b"0400" => Some(Kind::K0400),
-        b"0401" => Some(Kind::K0401),
-        b"0410" => Some(Kind::K0410),
-        b"0420" => Some(Kind::K0420),
-        b"0421" => Some(Kind::K0421),
-        b"0430" => Some(Kind::K0430),
-        _ => None,
-    }
-}
-
 #[tactic(auto, unfolding(crate::specs::Messages::kind_at))]
 fn read_kind(bytes: &[u8]) -> Result<(Kind, &[u8]), DecodeFault>
     ensures { Reads (λ x. (x.0, x.1.now)) result (kind_at bytes.now) }
@@ -202,7 +181,7 @@ fn read_kind(bytes: &[u8]) -> Result<(Kind, &[u8]), DecodeFault>
         return Err(DecodeFault::Short);
     }
     let (text, rest) = bytes.split_at(4);
-    match named(text) {
+    match Kind::read(text) {
         None => Err(DecodeFault::BadType),
         Some(kind) => Ok((kind, rest)),
     }

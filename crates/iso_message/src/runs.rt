@@ -1,12 +1,11 @@
 //! How far bytes are of a class, tested sixteen at a time and once for all elements that they make up.
 ghost use Rattle.std.specs.Prelude.{◌≡◌, ◌≤◌, ◌+◌, length, take};
 ghost use Rattle.std.specs.List.{list_all};
-ghost use Rattle.iso_message.specs.Elements.{fits};
-ghost use Rattle.iso_message.specs.Grammar.{AreOf};
-ghost use Rattle.iso_message.specs.declared.form.Class.TheVariants.{Digits, Text};
+ghost use Rattle.message_elements.specs.Values.{fits, AreOf};
+ghost use Rattle.message_elements.specs.declared.form.Class.TheVariants.{Digits, Text};
 ghost use Rattle.iso_message.specs.Known.{IsKnown, PassIn, lanes_before};
 
-use crate::form::Class;
+use message_elements::{Class, are_of};
 use std::simd::prelude::*;
 
 /// How many of the last bytes may be of another class: all bytes before them are digits, or text.
@@ -17,15 +16,6 @@ pub(crate) struct Known {
 }
 
 const LANES: usize = 16;
-
-pub(crate) fn are_of(class: Class, content: &[u8]) -> bool
-    ensures { result ≡ list_all (fits class) content.now }
-{
-    match class {
-        Class::Digits => content.iter().all(|b| b.is_ascii_digit()),
-        Class::Text => content.iter().all(|b| 0x20 <= *b && *b <= 0x7E),
-    }
-}
 
 /// How many lanes, at most sixteen, come before the first that stops.
 #[inline(always)]
@@ -121,8 +111,7 @@ fn run_of(class: Class, bytes: &[u8]) -> usize
 impl Known {
     ghost use Rattle.std.specs.Prelude.{◌≡◌, ◌≤◌, ◌-◌, length, take};
     ghost use Rattle.std.specs.List.{list_all};
-    ghost use Rattle.iso_message.specs.Elements.{fits};
-    ghost use Rattle.iso_message.specs.Grammar.{AreOf};
+    ghost use Rattle.message_elements.specs.Values.{fits, AreOf};
     ghost use Rattle.iso_message.specs.Known.{IsKnown};
 
     /// What is known of the bytes before they are read: how far they are text.

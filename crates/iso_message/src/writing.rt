@@ -2,33 +2,13 @@
 ghost use Rattle.std.specs.Prelude.{◌≡◌, ◌<◌, ◌++◌, map, length, IfOk, OnOk, OnErr};
 ghost use Rattle.hex.specs.Hex.{encode_upper, IsBytes};
 ghost use Rattle.std.specs.Int.{w64, to_be_bytes};
-ghost use Rattle.iso_message.specs.Types.{kind_text};
-ghost use Rattle.iso_message.specs.Table.{form_of};
+ghost use Rattle.message_elements.specs.Types.{kind_text};
+ghost use Rattle.message_elements.specs.Table.{form_of};
 ghost use Rattle.iso_message.specs.Grammar.{Spells};
 ghost use Rattle.iso_message.specs.Spelling.{two_digits, three_digits, length_text, HasLength, is_binary, piece, map_text, IsGood, IsMessage, spelling};
 
-use crate::form::{Form, form_at};
-use crate::kind::Kind;
+use message_elements::{Form, form_at};
 use std::alloc::AllocError;
-
-pub(crate) fn text_of(kind: Kind) -> &'static [u8]
-    ensures { result.now ≡ kind_text kind }
-{
-    match kind {
-        Kind::K0100 => b"0100",
-        Kind::K0101 => b"0101",
-        Kind::K0110 => b"0110",
-        Kind::K0120 => b"0120",
-        Kind::K0121 => b"0121",
-        Kind::K0130 => b"0130",
-        Kind::K0400 => b"0400",
-        Kind::K0401 => b"0401",
-        Kind::K0410 => b"0410",
-        Kind::K0420 => b"0420",
-        Kind::K0421 => b"0421",
-        Kind::K0430 => b"0430",
-    }
-}
 
 /// Writes eight bytes as upper-case hexadecimal digits.
 #[tactic(auto, using(crate::proofs::HexDigits::in_upper_case))]

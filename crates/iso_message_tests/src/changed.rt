@@ -1,7 +1,8 @@
 //! Each front of a message, and each change of one byte.
 
 use crate::fixtures::{M, fault_of, read};
-use iso_message::{DecodeFault, encode};
+use iso_message::encode;
+use message_elements::DecodeFault;
 use std::alloc::{AllocError, Global};
 use std::test::*;
 

@@ -1,6 +1,7 @@
 //! What the tests share. Nothing is promised of these functions, so that a test is proved fast.
 
-use iso_message::{DecodeFault, Message, decode, encode};
+use iso_message::{Message, decode, encode};
+use message_elements::DecodeFault;
 use std::test::Fail;
 
 /// A request: 83 bytes, 7 elements.

@@ -2,9 +2,11 @@
 
 use crate::fixtures::{M, dated_request, is_spelled, read, set};
 use card_digits::{Amount, Key};
-use iso_message::{
-    AdviceId, AdviceKind, Code, Kind, Message, actual_amount, advice_id, code_of, has_own_key,
-    key_of, original_key, same_content, same_identity, same_key, value_fault,
+use iso_message::Message;
+use message_elements::{Code, Kind, value_fault};
+use message_keys::{
+    AdviceId, AdviceKind, actual_amount, advice_id, code_of, has_own_key, key_of, original_key,
+    same_content, same_identity, same_key,
 };
 use std::test::*;
 

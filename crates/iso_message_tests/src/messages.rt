@@ -1,7 +1,8 @@
 //! A request that is read, written and set, and first faults.
 
 use crate::fixtures::{M, dated_request, fault_of, has, is_spelled, read, set};
-use iso_message::{DecodeFault, Kind, Message, encode};
+use iso_message::{Message, encode};
+use message_elements::{DecodeFault, Kind};
 use std::test::*;
 
 #[test]

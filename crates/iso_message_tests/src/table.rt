@@ -1,7 +1,8 @@
 //! Each element of the format's table, and each fault of it.
 
 use crate::fixtures::{fault_of, is_spelled, read};
-use iso_message::{DecodeFault, Kind, Message, is_binary};
+use iso_message::{Message, is_binary};
+use message_elements::{DecodeFault, Kind};
 use std::alloc::{AllocError, Global};
 use std::test::*;
 

@@ -4,8 +4,8 @@ use Rattle.std.specs.Prelude.{decimal}
 use Rattle.std.specs.Io.KnownBytes.{Appends}
 use Rattle.std.proofs.KnownBytes.{Appends-nil}
 use Rattle.card_digits.specs.Stream.{AppendsFront}
-use Rattle.iso_message.specs.declared.fault.DecodeFault.{DecodeFault}
-use Rattle.iso_message.specs.declared.fault.DecodeFault.TheVariants.{Short, BadType, BitMap, Element, Length, Character, Trailing, Memory}
+use Rattle.message_elements.specs.declared.fault.DecodeFault.{DecodeFault}
+use Rattle.message_elements.specs.declared.fault.DecodeFault.TheVariants.{Short, BadType, BitMap, Element, Length, Character, Trailing, Memory}
 use Rattle.iso_message.specs.Messages.{Fails, read}
 use Rattle.message_text.specs.Printed.{heading, fault_line, block, IsAnswer, Sends}
 

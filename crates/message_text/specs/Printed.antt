@@ -4,12 +4,12 @@ use Rattle.std.specs.List.{flat_map}
 use Rattle.std.specs.Io.KnownBytes.{Appends}
 use Rattle.hex.specs.Hex.{encode_upper}
 use Rattle.card_digits.specs.Stream.{AppendsFront}
-use Rattle.iso_message.specs.declared.fault.DecodeFault.{DecodeFault}
-use Rattle.iso_message.specs.declared.fault.DecodeFault.TheVariants as faults
-use Rattle.iso_message.specs.Types.{kind_text}
+use Rattle.message_elements.specs.declared.fault.DecodeFault.{DecodeFault}
+use Rattle.message_elements.specs.declared.fault.DecodeFault.TheVariants as faults
+use Rattle.message_elements.specs.Types.{kind_text}
 use Rattle.iso_message.specs.Fields.{Fields}
 use Rattle.iso_message.specs.Messages.{read}
-use Rattle.iso_message.specs.Table.{form_of}
+use Rattle.message_elements.specs.Table.{form_of}
 use Rattle.iso_message.specs.Spelling.{is_binary}
 
 -- an element of eight bytes is printed as hexadecimal digits

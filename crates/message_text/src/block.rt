@@ -2,12 +2,13 @@
 ghost use Rattle.std.specs.Prelude.{◌≡◌, ◌++◌, ◌∷◌, ◌<◌, ◌^◌, [], drop, codes, decimal, is_ok, IfOk, OnOk, Some, None, Ok, Err};
 ghost use Rattle.std.specs.Option.{option_copied};
 ghost use Rattle.iso_message.specs.Fields.{Fields};
-ghost use Rattle.iso_message.specs.Types.{kind_text};
-ghost use Rattle.iso_message.specs.declared.fault.DecodeFault.{DecodeFault};
+ghost use Rattle.message_elements.specs.Types.{kind_text};
+ghost use Rattle.message_elements.specs.declared.fault.DecodeFault.{DecodeFault};
 ghost use Rattle.message_text.specs.Printed.{value_text, element_line, element_lines, message_lines, fault_line, heading, PrintsBlock};
 
-use iso_message::{DecodeFault, Kind, Message, is_binary};
+use iso_message::{Message, is_binary};
 use itoa::Buffer;
+use message_elements::{DecodeFault, Kind};
 use std::alloc::AllocError;
 
 fn push_number(out: &mut Vec<u8>, number: u64) -> Result<(), AllocError>

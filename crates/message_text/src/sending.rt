@@ -3,13 +3,14 @@ ghost use Rattle.std.specs.Prelude.{◌≡◌, ◌<◌, ◌++◌, [], OnOk, OnEr
 ghost use Rattle.std.specs.Option.{option_copied};
 ghost use Rattle.std.specs.Io.KnownBytes.{Appends};
 ghost use Rattle.card_digits.specs.Stream.{AppendsFront};
-ghost use Rattle.iso_message.specs.declared.fault.DecodeFault.TheVariants.{Memory};
+ghost use Rattle.message_elements.specs.declared.fault.DecodeFault.TheVariants.{Memory};
 ghost use Rattle.message_text.specs.Printed.{block, Sends, SendsBlock, SendsFront};
 
 use crate::block::push_item;
 use card_digits::{Sink, WriteFault, write_all};
-use iso_message::{Kind, Message};
+use iso_message::Message;
 use itoa::Buffer;
+use message_elements::Kind;
 use std::alloc::{AllocError, Global};
 
 /// From so many bytes on, what waits is written.

@@ -3,7 +3,7 @@ use Rattle.std.specs.Prelude.{◌≡◌, ℕ, List, Option, Some, option_and_the
 use Rattle.std.specs.List.{AllZip}
 use Rattle.std.specs.Result.{result_ok}
 use Rattle.card_digits.specs.declared.key.Key.{Key}
-use Rattle.iso_message.specs.Keys.{when, has_key, key_of}
+use Rattle.message_keys.specs.Keys.{when, has_key, key_of}
 use Rattle.iso_message.specs.Messages.{read}
 use Rattle.run_plan.specs.declared.plan.Session.{Session}
 use Rattle.net_threads.specs.declared.ended.LineEnd.{LineEnd}

@@ -4,7 +4,8 @@ ghost use Rattle.std.specs.List.{AllZip};
 ghost use Rattle.net_operate.specs.Sessions.{key_in, IsAnswerTo, LineFits, SessionFits};
 
 use card_digits::Key;
-use iso_message::{decode, key_of};
+use iso_message::decode;
+use message_keys::key_of;
 use net_threads::{LineEnd, SessionEnd};
 use run_plan::Session;
 use std::alloc::{AllocError, Global};

@@ -5,7 +5,8 @@ ghost use Rattle.net_operate.specs.Sessions.{SessionFits};
 
 use crate::fitting::fitted;
 use crate::threads::{Shared, run_host, run_pump, run_session};
-use iso_message::{Code, Message};
+use iso_message::Message;
+use message_elements::Code;
 use net_threads::{Ended, LineEnd, Network, Station};
 use run_plan::{Loan, Plan};
 use std::alloc::{AllocError, Global};

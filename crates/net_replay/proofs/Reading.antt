@@ -3,7 +3,7 @@ use Rattle.std.proofs.Common.{◌≡◌, ℕ, ◌<◌, List, [], ◌∷◌, leng
 use Rattle.std.specs.Prelude.{⊤, option_and_then, codes, bytes_eq}
 use Rattle.std.specs.Result.{result_ok}
 use Rattle.card_digits.specs.Reading.{read_digits}
-use Rattle.iso_message.specs.Codes.{read_code}
+use Rattle.message_elements.specs.Codes.{read_code}
 use Rattle.replay_script.specs.Words.{word_and_rest, number_of, amount_of}
 use Rattle.std.specs.List.{position}
 use Rattle.std.proofs.lemmas.List.Quantifiers.{position-Some}

@@ -1,7 +1,7 @@
 -- The serials of a legal trace count the puts on a link from 1.
 use Rattle.std.proofs.Common.{◌≡◌, ℕ, zero, suc, ◌+◌, ◌<◌, List, [], ◌∷◌, ◌++◌, map, length, Option, Some, None, Result, Ok, Err, Bool, true, false, cond, eqb, refl, sym, ap, ◌∙◌, subst, arith, inl, inr, ⊎_elim, length-append, eq-eqb, eqb-true, ◌⊎◌}
 use Rattle.std.specs.Prelude.{⊤, slice_get, nat_le}
-use Rattle.iso_message.specs.declared.fault.DecodeFault.{DecodeFault}
+use Rattle.message_elements.specs.declared.fault.DecodeFault.{DecodeFault}
 use Rattle.network_law.specs.declared.fault.StepFault.TheVariants.{Decode, HistoryFull}
 use Rattle.iso_message.specs.Fields.{Fields}
 use Rattle.net_rows.specs.Network.{Network}

@@ -6,7 +6,7 @@ use mathlib.Core.List.{reverse-cons}
 use Rattle.std.proofs.lemmas.List.Elements.{recursion_from_All}
 use Rattle.std.proofs.lemmas.Bool.{and_parts}
 use Rattle.std.proofs.lemmas.Option.{slice_get_past, same_Some}
-use Rattle.iso_message.proofs.Equality.{bytes_eq_is, bytes_eq_refl}
+use Rattle.message_keys.proofs.Equality.{bytes_eq_is, bytes_eq_refl}
 use Rattle.network_law.specs.Cards.{Bytes}
 use Rattle.network_law.specs.Traces.{IsIn}
 use Rattle.network_law.specs.Entries.{Entry, Take, Output, Put, Answer, Ask, Post}

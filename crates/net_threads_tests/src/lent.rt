@@ -1,7 +1,8 @@
 //! A part of a limit that one node lends another, over a link that repeats each packet.
 use crate::network::{pump, ranks, step, tables};
 use card_digits::LinkNo;
-use iso_message::{Code, Message};
+use iso_message::Message;
+use message_elements::Code;
 use net_operate::{Host, operate};
 use net_rows::Tables;
 use net_threads::{Network, Verdict};

@@ -1,6 +1,7 @@
 //! What runs while something else does not end.
 use crate::network::{ranks, step, tables};
-use iso_message::{Code, Message};
+use iso_message::Message;
+use message_elements::Code;
 use net_operate::{Host, operate};
 use net_rows::Tables;
 use net_threads::{Ended, LineEnd, Network, Verdict};

@@ -1,6 +1,8 @@
 //! Plans that threads run, and what their sessions ended with.
 use crate::network::{ranks, request, tables};
-use iso_message::{Code, Message, code_of, decode};
+use iso_message::{Message, decode};
+use message_elements::Code;
+use message_keys::code_of;
 use net_operate::{Host, operate};
 use net_rows::Tables;
 use net_threads::{Ended, LineEnd, Network, SessionEnd, Station, Verdict};

@@ -6,10 +6,10 @@ use Rattle.net_rows.specs.Network.{Network, issuer}
 use Rattle.network_law.specs.Traces.{ReadInput, Enter, Take, LinkUp, LinkDown, Tick, HostAnswer, NewDate, TakePacket, Lend, Advice, has_identity, add_advice, acked_by, home_is, is_at_home, IsIn}
 use Rattle.network_law.proofs.Provenance.{in_acked, any_in}
 use Rattle.network_law.proofs.Chain.{same_card}
-use Rattle.iso_message.proofs.Equality.{identity_eq_refl, identity_eq_is}
+use Rattle.message_keys.proofs.Equality.{identity_eq_refl, identity_eq_is}
 use Rattle.iso_message.specs.Fields.{Fields}
-use Rattle.iso_message.specs.Keys.{identity_of, identity_eq, content}
-use Rattle.iso_message.specs.declared.keys.AdviceId.{AdviceId}
+use Rattle.message_keys.specs.Keys.{identity_of, identity_eq, content}
+use Rattle.message_keys.specs.declared.keys.AdviceId.{AdviceId}
 use Rattle.network_law.specs.Cards.{card_of}
 
 not_both : (b : Bool) → b ≡ true → b ≡ false → ⊥

@@ -14,22 +14,22 @@ use Rattle.network_law.proofs.Elements.{reversal_kind, el_made}
 use Rattle.network_law.proofs.Late.{LateFacts, answer_when}
 use Rattle.network_law.proofs.Provenance.{as_kept_04xx, as_kept_content, as_kind_content, as_kind_key, made_stand_in_kind}
 use Rattle.network_law.proofs.Accounts.{Alike, Accounts}
-use Rattle.iso_message.proofs.Equality.{identity_eq_is}
+use Rattle.message_keys.proofs.Equality.{identity_eq_is}
 use Rattle.card_digits.specs.Numbers.{pad11}
 use Rattle.network_law.specs.Cards.{Bytes}
-use Rattle.iso_message.specs.declared.keys.AdviceKind.TheVariants.{StandIn, Reversal}
+use Rattle.message_keys.specs.declared.keys.AdviceKind.TheVariants.{StandIn, Reversal}
 use Rattle.iso_message.specs.Fields.{Fields, get, el, as_kind, set_element, remove_element}
-use Rattle.iso_message.specs.declared.kind.Kind.{Kind}
-use Rattle.iso_message.specs.declared.kind.Group.{Group}
-use Rattle.iso_message.specs.Groups.{group, is_request, is_answer, is_04xx, response_kind}
-use Rattle.iso_message.specs.declared.kind.Kind.TheVariants.{K0100, K0101, K0110, K0120, K0121, K0130, K0400, K0401, K0410, K0420, K0421, K0430}
+use Rattle.message_elements.specs.declared.kind.Kind.{Kind}
+use Rattle.message_elements.specs.declared.kind.Group.{Group}
+use Rattle.message_elements.specs.Groups.{group, is_request, is_answer, is_04xx, response_kind}
+use Rattle.message_elements.specs.declared.kind.Kind.TheVariants.{K0100, K0101, K0110, K0120, K0121, K0130, K0400, K0401, K0410, K0420, K0421, K0430}
 use Rattle.card_digits.specs.declared.key.Key.{Key}
-use Rattle.iso_message.specs.Keys.{advice_kind, key_of, key_eq, own_key, identity_of, padded_or_zeros, content}
-use Rattle.iso_message.specs.declared.keys.AdviceId.{AdviceId}
-use Rattle.iso_message.specs.Codes.{code_of, code_94, code_00}
+use Rattle.message_keys.specs.Keys.{advice_kind, key_of, key_eq, own_key, identity_of, padded_or_zeros, content, code_of}
+use Rattle.message_keys.specs.declared.keys.AdviceId.{AdviceId}
+use Rattle.message_elements.specs.Codes.{code_94, code_00}
 use Rattle.iso_message.specs.Made.{response, made_reversal, made_stand_in, made_from}
 use Rattle.network_law.specs.Claims.{answered_by, post_count}
-use Rattle.iso_message.specs.declared.kind.Group.TheVariants as groups
+use Rattle.message_elements.specs.declared.kind.Group.TheVariants as groups
 
 pub not_both : (b : Bool) → b ≡ true → b ≡ false → ⊥
 not_both b p q = cc

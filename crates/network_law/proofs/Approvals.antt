@@ -18,11 +18,11 @@ use Rattle.network_law.proofs.Chain.{rank, forward_falls}
 use Rattle.network_law.proofs.Ends.{legal_at, histories}
 use Rattle.network_law.specs.Cards.{Bytes, card_of}
 use Rattle.iso_message.specs.Fields.{Fields, as_kind}
-use Rattle.iso_message.specs.declared.kind.Kind.TheVariants.{K0100}
-use Rattle.iso_message.specs.Groups.{is_request, is_answer, is_04xx}
+use Rattle.message_elements.specs.declared.kind.Kind.TheVariants.{K0100}
+use Rattle.message_elements.specs.Groups.{is_request, is_answer, is_04xx}
 use Rattle.card_digits.specs.declared.key.Key.{Key}
-use Rattle.iso_message.specs.Keys.{key_of, key_eq}
-use Rattle.iso_message.specs.Codes.{code_of, code_94, code_00}
+use Rattle.message_keys.specs.Keys.{key_of, key_eq, code_of}
+use Rattle.message_elements.specs.Codes.{code_94, code_00}
 use Rattle.iso_message.specs.Made.{response}
 
 not_both : (b : Bool) → b ≡ true → b ≡ false → ⊥

@@ -8,8 +8,8 @@ use Rattle.network_law.proofs.Emits.{key_eq_is}
 use Rattle.network_law.proofs.Node.{answers_is}
 use Rattle.iso_message.specs.Fields.{Fields}
 use Rattle.card_digits.specs.declared.key.Key.{Key}
-use Rattle.iso_message.specs.Keys.{key_eq, key_of}
-use Rattle.iso_message.specs.Groups.{is_answer}
+use Rattle.message_keys.specs.Keys.{key_eq, key_of}
+use Rattle.message_elements.specs.Groups.{is_answer}
 
 -- what the book of pending requests is to hold
 pub pending_keys : Network → History → List Key

@@ -16,10 +16,10 @@ use Rattle.network_law.proofs.Ends.{legal_at, is_node, not_home, back, histories
 use Rattle.network_law.proofs.Emits.{decide_keeps, key_eq_refl}
 use Rattle.network_law.proofs.Node.{NodeFacts, Sent, Opened, legal_facts, keeps_issuers, forwarded_has}
 use Rattle.iso_message.specs.Fields.{Fields, get, as_kind, el}
-use Rattle.iso_message.specs.declared.kind.Kind.TheVariants.{K0100}
-use Rattle.iso_message.specs.Groups.{is_request}
+use Rattle.message_elements.specs.declared.kind.Kind.TheVariants.{K0100}
+use Rattle.message_elements.specs.Groups.{is_request}
 use Rattle.card_digits.specs.declared.key.Key.{Key}
-use Rattle.iso_message.specs.Keys.{key_of, content, Content}
+use Rattle.message_keys.specs.Keys.{key_of, content, Content}
 use Rattle.network_law.specs.Cards.{card_of}
 
 -- takes are from own links

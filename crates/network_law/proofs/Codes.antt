@@ -20,10 +20,10 @@ use Rattle.network_law.proofs.Chain.{OpenedByThatPut_holds}
 use Rattle.network_law.proofs.Ends.{legal_at, back, histories}
 use Rattle.network_law.specs.Cards.{label_of, Bytes, card_of}
 use Rattle.iso_message.specs.Fields.{Fields, el}
-use Rattle.iso_message.specs.Groups.{is_request, is_answer, is_reversal, is_04xx}
+use Rattle.message_elements.specs.Groups.{is_request, is_answer, is_reversal, is_04xx}
 use Rattle.card_digits.specs.declared.key.Key.{Key}
-use Rattle.iso_message.specs.Keys.{key_of, key_eq, content, Content, content_eq}
-use Rattle.iso_message.specs.Codes.{code_of, code_94, code_00, code_61, code_57, code_91}
+use Rattle.message_keys.specs.Keys.{key_of, key_eq, content, Content, content_eq, code_of}
+use Rattle.message_elements.specs.Codes.{code_94, code_00, code_61, code_57, code_91}
 use Rattle.iso_message.specs.Made.{response}
 
 not_both : (b : Bool) → b ≡ true → b ≡ false → ⊥

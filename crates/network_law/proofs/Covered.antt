@@ -23,10 +23,10 @@ use Rattle.network_law.proofs.Posts.{legal_acc, post_has, post_counted, put_is_s
 use Rattle.network_law.proofs.AdviceMarks.{Acc, posts}
 use Rattle.network_law.proofs.Origins.{Made, TakenAs, Entered, AdviceFacts, legal_advices}
 use Rattle.iso_message.specs.Fields.{Fields}
-use Rattle.iso_message.specs.Groups.{group, is_04xx}
+use Rattle.message_elements.specs.Groups.{group, is_04xx}
 use Rattle.card_digits.specs.declared.key.Key.{Key}
-use Rattle.iso_message.specs.declared.keys.AdviceId.{AdviceId}
-use Rattle.iso_message.specs.Keys.{identity_of, content}
+use Rattle.message_keys.specs.declared.keys.AdviceId.{AdviceId}
+use Rattle.message_keys.specs.Keys.{identity_of, content}
 use Rattle.network_law.specs.Cards.{card_of}
 
 not_both : (b : Bool) → b ≡ true → b ≡ false → ⊥

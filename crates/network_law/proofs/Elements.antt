@@ -7,12 +7,12 @@ use Rattle.network_law.proofs.Node.{el_set, request_no_04xx}
 use Rattle.network_law.specs.Cards.{Bytes}
 use Rattle.iso_message.proofs.Changes.{get_set_same, find_kept}
 use Rattle.iso_message.specs.Fields.{Fields, el, get, set_element}
-use Rattle.iso_message.specs.declared.kind.Kind.{Kind}
-use Rattle.iso_message.specs.declared.kind.Kind.TheVariants.{K0100, K0101, K0110, K0120, K0121, K0130, K0400, K0401, K0410, K0420, K0421, K0430}
-use Rattle.iso_message.specs.Groups.{is_request, is_04xx, response_kind}
-use Rattle.iso_message.specs.Keys.{key_of, own_key, original_key, content, part}
+use Rattle.message_elements.specs.declared.kind.Kind.{Kind}
+use Rattle.message_elements.specs.declared.kind.Kind.TheVariants.{K0100, K0101, K0110, K0120, K0121, K0130, K0400, K0401, K0410, K0420, K0421, K0430}
+use Rattle.message_elements.specs.Groups.{is_request, is_04xx, response_kind}
+use Rattle.message_keys.specs.Keys.{key_of, own_key, original_key, content, part, code_of}
 use Rattle.iso_message.specs.Made.{response_numbers, advice_numbers, kept, is_one_of, response, made_from, made_reversal}
-use Rattle.iso_message.specs.Codes.{code_of, code_68}
+use Rattle.message_elements.specs.Codes.{code_68}
 
 pub el_set_same : (m : Fields) (k : ℕ) (v : Bytes) → el (set_element m k v) k ≡ v
 unfolding el

@@ -16,15 +16,15 @@ use Rattle.network_law.specs.Decision.{Due, DueAdvice, DueGrant, grants_made_aft
 use Rattle.network_law.specs.Cards.{Bytes, is_good_card, card_of}
 use Rattle.network_law.specs.Entries.{IsCode}
 use Rattle.iso_message.specs.Fields.{Fields, el, as_kind}
-use Rattle.iso_message.specs.declared.kind.Kind.{Kind}
-use Rattle.iso_message.specs.declared.kind.Group.{Group}
-use Rattle.iso_message.specs.Groups.{group, is_request, is_answer, is_reversal, is_04xx}
-use Rattle.iso_message.specs.declared.kind.Kind.TheVariants.{K0100, K0101, K0110, K0120, K0121, K0130, K0400, K0401, K0410, K0420, K0421, K0430}
+use Rattle.message_elements.specs.declared.kind.Kind.{Kind}
+use Rattle.message_elements.specs.declared.kind.Group.{Group}
+use Rattle.message_elements.specs.Groups.{group, is_request, is_answer, is_reversal, is_04xx}
+use Rattle.message_elements.specs.declared.kind.Kind.TheVariants.{K0100, K0101, K0110, K0120, K0121, K0130, K0400, K0401, K0410, K0420, K0421, K0430}
 use Rattle.card_digits.specs.declared.key.Key.{Key}
-use Rattle.iso_message.specs.Keys.{key_eq, key_of, content, content_eq, identity_of}
-use Rattle.iso_message.specs.Codes.{code_of, code_00, code_05, code_14, code_68, code_92, code_94, code_96}
+use Rattle.message_keys.specs.Keys.{key_eq, key_of, content, content_eq, identity_of, code_of}
+use Rattle.message_elements.specs.Codes.{code_00, code_05, code_14, code_68, code_92, code_94, code_96}
 use Rattle.iso_message.specs.Made.{made_reversal, made_stand_in, response}
-use Rattle.iso_message.specs.declared.kind.Group.TheVariants as groups
+use Rattle.message_elements.specs.declared.kind.Group.TheVariants as groups
 
 abbrev pub handled_as : Network → History → ReadInput → Fields → Source → Type 0
 handled_as t past i m src = handled t past i ≡ Some (record { message = m; source = src })

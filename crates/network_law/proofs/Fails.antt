@@ -18,10 +18,10 @@ use Rattle.network_law.proofs.Late.{reversal_more, made_added, response_answers}
 use Rattle.network_law.specs.Cards.{Bytes}
 use Rattle.iso_message.specs.Fields.{Fields}
 use Rattle.card_digits.specs.declared.key.Key.{Key}
-use Rattle.iso_message.specs.Keys.{key_of}
-use Rattle.iso_message.specs.Groups.{is_answer, is_request}
+use Rattle.message_keys.specs.Keys.{key_of, code_of}
+use Rattle.message_elements.specs.Groups.{is_answer, is_request}
 use Rattle.iso_message.specs.Made.{response, made_reversal, made_stand_in}
-use Rattle.iso_message.specs.Codes.{code_of, code_94, code_00}
+use Rattle.message_elements.specs.Codes.{code_94, code_00}
 
 none_some : {X : Type 0} (x : X) → None ≡ Some x → ⊥
 none_some x p = cc

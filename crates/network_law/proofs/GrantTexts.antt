@@ -6,7 +6,7 @@ use Rattle.std.specs.Char.{is_ascii_digit}
 use Rattle.std.specs.List.{list_all}
 use Rattle.card_digits.specs.Digits.{digits_of}
 use Rattle.card_digits.specs.Reading.{read_digits}
-use Rattle.iso_message.specs.Keys.{part}
+use Rattle.message_keys.specs.Keys.{part}
 use Rattle.network_law.specs.Cards.{Bytes, text_of}
 use Rattle.network_law.specs.declared.grant.Grant.{Grant}
 use Rattle.network_law.specs.Grants.{number_text, grant_bytes, is_word_and_digits, is_grant, card_size}

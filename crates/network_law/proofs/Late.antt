@@ -21,14 +21,14 @@ use Rattle.network_law.proofs.Approvals.{forwarded_more, is_00_parts}
 use Rattle.network_law.proofs.Ends.{legal_at, histories}
 use Rattle.network_law.specs.Cards.{Bytes, is_good_card, card_of}
 use Rattle.iso_message.specs.Fields.{Fields, el, as_kind}
-use Rattle.iso_message.specs.declared.kind.Kind.{Kind}
-use Rattle.iso_message.specs.Groups.{group, is_request, is_answer, is_04xx, response_kind}
-use Rattle.iso_message.specs.declared.kind.Kind.TheVariants.{K0100, K0101, K0110, K0120, K0121, K0130, K0400, K0401, K0410, K0420, K0421, K0430}
+use Rattle.message_elements.specs.declared.kind.Kind.{Kind}
+use Rattle.message_elements.specs.Groups.{group, is_request, is_answer, is_04xx, response_kind}
+use Rattle.message_elements.specs.declared.kind.Kind.TheVariants.{K0100, K0101, K0110, K0120, K0121, K0130, K0400, K0401, K0410, K0420, K0421, K0430}
 use Rattle.card_digits.specs.declared.key.Key.{Key}
-use Rattle.iso_message.specs.Keys.{same_kind, advice_kind, key_of, key_eq, identity_of}
-use Rattle.iso_message.specs.Codes.{code_of, code_94, code_96, code_00, code_68}
+use Rattle.message_keys.specs.Keys.{same_kind, advice_kind, key_of, key_eq, identity_of, code_of}
+use Rattle.message_elements.specs.Codes.{code_94, code_96, code_00, code_68}
 use Rattle.iso_message.specs.Made.{response, made_reversal, made_stand_in}
-use Rattle.iso_message.specs.declared.kind.Group.TheVariants as groups
+use Rattle.message_elements.specs.declared.kind.Group.TheVariants as groups
 
 not_both : (b : Bool) → b ≡ true → b ≡ false → ⊥
 not_both b p q = cc

@@ -6,17 +6,17 @@ use Rattle.std.specs.Option.{option_or, option_and_then, option_map}
 use Rattle.std.specs.List.{list_any}
 use Rattle.card_digits.specs.Numbers.{decimal}
 use Rattle.card_digits.specs.declared.key.Key.{Key}
-use Rattle.iso_message.specs.declared.kind.Kind.{Kind}
-use Rattle.iso_message.specs.declared.kind.Group.TheVariants as groups
-use Rattle.iso_message.specs.declared.keys.AdviceId.{AdviceId}
-use Rattle.iso_message.specs.Amounts.{number_in, actual_amount}
+use Rattle.message_elements.specs.declared.kind.Kind.{Kind}
+use Rattle.message_elements.specs.declared.kind.Group.TheVariants as groups
+use Rattle.message_keys.specs.declared.keys.AdviceId.{AdviceId}
+use Rattle.message_keys.specs.Amounts.{number_in, actual_amount}
 use Rattle.iso_message.specs.Fields.{Fields, el, get, has, remove_element, set_element}
-use Rattle.iso_message.specs.Groups.{group, is_request, is_answer, is_reversal, is_04xx}
-use Rattle.iso_message.specs.Keys.{key_of, key_eq, own_key, part, content, identity_of}
-use Rattle.iso_message.specs.Codes.{code_of, code_00, code_68, code_94}
+use Rattle.message_elements.specs.Groups.{group, is_request, is_answer, is_reversal, is_04xx}
+use Rattle.message_keys.specs.Keys.{key_of, key_eq, own_key, part, content, identity_of, code_of}
+use Rattle.message_elements.specs.Codes.{code_00, code_68, code_94}
 use Rattle.iso_message.specs.Made.{response, made_reversal, made_stand_in}
 use Rattle.iso_message.proofs.Changes.{get_remove}
-use Rattle.iso_message.proofs.AmountLemmas.{actual_none}
+use Rattle.message_keys.proofs.AmountLemmas.{actual_none}
 use Rattle.net_rows.specs.Network.{Network}
 use Rattle.network_law.specs.declared.fault.StepFault.TheVariants.{TypeNotForGate, Missing, ForeignAcquirer, Replacement}
 use Rattle.network_law.specs.Cards.{Bytes}
@@ -179,18 +179,18 @@ replied i src m c h k r key n94 =
 -- a request of a key that was reversed before is answered in its entry
 
 group_of_request : (k : Kind) → is_request k ≡ true → group k ≡ groups.AuthorizationRequest
-group_of_request Rattle.iso_message.specs.declared.kind.Kind.TheVariants.K0100 e = refl
-group_of_request Rattle.iso_message.specs.declared.kind.Kind.TheVariants.K0101 e = refl
-group_of_request Rattle.iso_message.specs.declared.kind.Kind.TheVariants.K0110 e = cc
-group_of_request Rattle.iso_message.specs.declared.kind.Kind.TheVariants.K0120 e = cc
-group_of_request Rattle.iso_message.specs.declared.kind.Kind.TheVariants.K0121 e = cc
-group_of_request Rattle.iso_message.specs.declared.kind.Kind.TheVariants.K0130 e = cc
-group_of_request Rattle.iso_message.specs.declared.kind.Kind.TheVariants.K0400 e = cc
-group_of_request Rattle.iso_message.specs.declared.kind.Kind.TheVariants.K0401 e = cc
-group_of_request Rattle.iso_message.specs.declared.kind.Kind.TheVariants.K0410 e = cc
-group_of_request Rattle.iso_message.specs.declared.kind.Kind.TheVariants.K0420 e = cc
-group_of_request Rattle.iso_message.specs.declared.kind.Kind.TheVariants.K0421 e = cc
-group_of_request Rattle.iso_message.specs.declared.kind.Kind.TheVariants.K0430 e = cc
+group_of_request Rattle.message_elements.specs.declared.kind.Kind.TheVariants.K0100 e = refl
+group_of_request Rattle.message_elements.specs.declared.kind.Kind.TheVariants.K0101 e = refl
+group_of_request Rattle.message_elements.specs.declared.kind.Kind.TheVariants.K0110 e = cc
+group_of_request Rattle.message_elements.specs.declared.kind.Kind.TheVariants.K0120 e = cc
+group_of_request Rattle.message_elements.specs.declared.kind.Kind.TheVariants.K0121 e = cc
+group_of_request Rattle.message_elements.specs.declared.kind.Kind.TheVariants.K0130 e = cc
+group_of_request Rattle.message_elements.specs.declared.kind.Kind.TheVariants.K0400 e = cc
+group_of_request Rattle.message_elements.specs.declared.kind.Kind.TheVariants.K0401 e = cc
+group_of_request Rattle.message_elements.specs.declared.kind.Kind.TheVariants.K0410 e = cc
+group_of_request Rattle.message_elements.specs.declared.kind.Kind.TheVariants.K0420 e = cc
+group_of_request Rattle.message_elements.specs.declared.kind.Kind.TheVariants.K0421 e = cc
+group_of_request Rattle.message_elements.specs.declared.kind.Kind.TheVariants.K0430 e = cc
 
 on_reversed_request : (t : Network) (n : ℕ) (past : History) (i : ReadInput) (o : Option Handled) (m : Fields) (src : Source) → o ≡ Some (record { message = m; source = src }) → is_request m.kind ≡ true → opening t past (key_of m) ≡ None → reversed t n past (key_of m) ≡ true → on_handled t n past i o ≡ reply i src (response m code_68) (In i ∷ past)
 unfolding on_request
@@ -577,7 +577,7 @@ legal_both t n (e ∷ es) l = subst (Both t n) (sym l.1.outputs) (leaves_decide 
 
 same_amount : (a b : Fields) → content a ≡ content b → el a 4 ≡ el b 4
 unfolding content
-same_amount a b e = ap (λ z. Rattle.iso_message.specs.Keys.Content.amount z) e
+same_amount a b e = ap (λ z. Rattle.message_keys.specs.Keys.Content.amount z) e
 
 -- an accepted reversal of an own approval takes no more than its amount
 pub legal_leaves : (t : Network) (n : ℕ) (es : List ReadEntry) → IsLegalRead t n es → (a : Approval) (x : Advice) → IsIn a (approvals t (read_history es)) → IsIn x (advices t n (read_history es)) → x.own ≡ false → reverses_key a.key x ≡ true → unwrap_or (actual_amount x.message) 0 ≤ decimal (el a.request 4)

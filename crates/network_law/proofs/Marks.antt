@@ -20,10 +20,10 @@ use Rattle.network_law.proofs.Fails.{all_answered}
 use Rattle.network_law.proofs.Origins.{known_more, added_known}
 use Rattle.network_law.proofs.Covered.{filter_in, reverse_in}
 use Rattle.iso_message.specs.Fields.{Fields, as_kind}
-use Rattle.iso_message.specs.declared.kind.Kind.TheVariants.{K0100}
+use Rattle.message_elements.specs.declared.kind.Kind.TheVariants.{K0100}
 use Rattle.card_digits.specs.declared.key.Key.{Key}
-use Rattle.iso_message.specs.Keys.{key_of, identity_of}
-use Rattle.iso_message.specs.Groups.{is_answer, is_04xx}
+use Rattle.message_keys.specs.Keys.{key_of, identity_of}
+use Rattle.message_elements.specs.Groups.{is_answer, is_04xx}
 use Rattle.iso_message.specs.Made.{made_reversal, made_stand_in}
 
 not_both : (b : Bool) → b ≡ true → b ≡ false → ⊥

@@ -16,13 +16,13 @@ use Rattle.network_law.proofs.Emits.{Allowed, forwarding, asking, standing_in, p
 use Rattle.network_law.specs.Cards.{text_of, Bytes, card_of}
 use Rattle.iso_message.proofs.Changes.{get_set, get_remove}
 use Rattle.iso_message.specs.Fields.{Fields, el, set_element, remove_element, as_kind}
-use Rattle.iso_message.specs.declared.kind.Kind.{Kind}
-use Rattle.iso_message.specs.declared.kind.Kind.TheVariants.{K0100, K0101, K0110, K0120, K0121, K0130, K0400, K0401, K0410, K0420, K0421, K0430}
-use Rattle.iso_message.specs.Groups.{is_request, is_answer, is_04xx, response_kind}
+use Rattle.message_elements.specs.declared.kind.Kind.{Kind}
+use Rattle.message_elements.specs.declared.kind.Kind.TheVariants.{K0100, K0101, K0110, K0120, K0121, K0130, K0400, K0401, K0410, K0420, K0421, K0430}
+use Rattle.message_elements.specs.Groups.{is_request, is_answer, is_04xx, response_kind}
 use Rattle.iso_message.specs.Made.{response}
 use Rattle.card_digits.specs.declared.key.Key.{Key}
-use Rattle.iso_message.specs.Keys.{key_of, own_key, key_eq}
-use Rattle.iso_message.specs.Codes.{code_of, code_94}
+use Rattle.message_keys.specs.Keys.{key_of, own_key, key_eq, code_of}
+use Rattle.message_elements.specs.Codes.{code_94}
 
 -- kinds
 

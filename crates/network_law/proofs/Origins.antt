@@ -24,21 +24,21 @@ use Rattle.network_law.proofs.Reversals.{home_is_not}
 use Rattle.network_law.proofs.Provenance.{in_add, opened_of_key, identity_acked, ack_case, ok_ack_parts, request_no_ack, answer_no_ack, advice_no_ack, entered_reversal}
 use Rattle.network_law.proofs.Chain.{same_card}
 use Rattle.network_law.proofs.Accounts.{Alike, alike_sym, alike_card}
-use Rattle.iso_message.proofs.Equality.{identity_eq_refl}
+use Rattle.message_keys.proofs.Equality.{identity_eq_refl}
 use Rattle.network_law.proofs.AdviceMarks.{kept_alike, kept_is_advice, sent_alike, advice_kind_04xx, content_made_stand_in}
 use Rattle.network_law.specs.Cards.{Bytes, card_of}
 use Rattle.iso_message.proofs.Changes.{get_set, get_set_same, get_remove_same, find_kept}
 use Rattle.iso_message.specs.Fields.{Fields, get, set_element, remove_element, as_kind}
-use Rattle.iso_message.specs.declared.kind.Kind.{Kind}
-use Rattle.iso_message.specs.declared.kind.Group.{Group}
-use Rattle.iso_message.specs.Groups.{group, is_request, is_answer, is_reversal, is_04xx, response_kind}
-use Rattle.iso_message.specs.declared.kind.Kind.TheVariants.{K0100, K0101, K0110, K0120, K0121, K0130, K0400, K0401, K0410, K0420, K0421, K0430}
+use Rattle.message_elements.specs.declared.kind.Kind.{Kind}
+use Rattle.message_elements.specs.declared.kind.Group.{Group}
+use Rattle.message_elements.specs.Groups.{group, is_request, is_answer, is_reversal, is_04xx, response_kind}
+use Rattle.message_elements.specs.declared.kind.Kind.TheVariants.{K0100, K0101, K0110, K0120, K0121, K0130, K0400, K0401, K0410, K0420, K0421, K0430}
 use Rattle.card_digits.specs.declared.key.Key.{Key}
-use Rattle.iso_message.specs.Keys.{advice_kind, key_of, own_key, original_key, identity_of, padded_or_zeros, content}
-use Rattle.iso_message.specs.declared.keys.AdviceId.{AdviceId}
+use Rattle.message_keys.specs.Keys.{advice_kind, key_of, own_key, original_key, identity_of, padded_or_zeros, content, code_of}
+use Rattle.message_keys.specs.declared.keys.AdviceId.{AdviceId}
 use Rattle.iso_message.specs.Made.{kept, response_numbers, response, made_from, made_reversal, made_stand_in}
-use Rattle.iso_message.specs.Codes.{code_of, code_94, code_68, code_00}
-use Rattle.iso_message.specs.declared.kind.Group.TheVariants as groups
+use Rattle.message_elements.specs.Codes.{code_94, code_68, code_00}
+use Rattle.message_elements.specs.declared.kind.Group.TheVariants as groups
 
 not_both : (b : Bool) → b ≡ true → b ≡ false → ⊥
 not_both b p q = cc
@@ -82,7 +82,7 @@ original_response : (m : Fields) (c : Bytes) → original_key (response m c) ≡
 unfolding original_key
 original_response m c =
     let e = el_response m c 90 refl refl in
-    λ j. record { acquirer = Rattle.iso_message.specs.Keys.part 20 11 (e j); trace = Rattle.iso_message.specs.Keys.part 4 6 (e j); time = Rattle.iso_message.specs.Keys.part 10 10 (e j) }
+    λ j. record { acquirer = Rattle.message_keys.specs.Keys.part 20 11 (e j); trace = Rattle.message_keys.specs.Keys.part 4 6 (e j); time = Rattle.message_keys.specs.Keys.part 10 10 (e j) }
 
 kept_response_key : (m : Fields) (c : Bytes) → is_kept_group (group m.kind) ≡ true → key_of (response m c) ≡ key_of m
 unfolding key_of
@@ -178,7 +178,7 @@ newly_acked (Take l s m) h b e = ⊎_elim inl (λ now. inr (taken now)) (or_case
     taken now =
         let p = and_parts (is_ack (group m.kind) && bytes_eq (code_of m) code_00) (has_identity (identity_of m) b) now in
         let q = and_parts (is_ack (group m.kind)) (bytes_eq (code_of m) code_00) p.0 in
-        record { link = l; serial = s; message = m; has = inl refl; ack = q.0; code = q.1; same = sym (Rattle.iso_message.proofs.Equality.identity_eq_is (identity_of b.message) (identity_of m) p.1) }
+        record { link = l; serial = s; message = m; has = inl refl; ack = q.0; code = q.1; same = sym (Rattle.message_keys.proofs.Equality.identity_eq_is (identity_of b.message) (identity_of m) p.1) }
 newly_acked (Enter m) h b e = inl e
 newly_acked (LinkUp l) h b e = inl e
 newly_acked (LinkDown l) h b e = inl e

@@ -11,11 +11,11 @@ use Rattle.std.specs.List.{list_all}
 use Rattle.card_digits.specs.Digits.{AreDigits, AreDigitsWithin, digits_of}
 use Rattle.card_digits.specs.Numbers.{decimal_from, decimal, pad11}
 use Rattle.card_digits.proofs.Decimals.{below_more}
-use Rattle.iso_message.specs.declared.kind.Kind.{Kind}
-use Rattle.iso_message.specs.declared.kind.Kind.TheVariants.{K0100, K0101, K0110, K0120, K0121, K0130, K0400, K0401, K0410, K0420, K0421, K0430}
+use Rattle.message_elements.specs.declared.kind.Kind.{Kind}
+use Rattle.message_elements.specs.declared.kind.Kind.TheVariants.{K0100, K0101, K0110, K0120, K0121, K0130, K0400, K0401, K0410, K0420, K0421, K0430}
 use Rattle.iso_message.specs.Fields.{Fields}
-use Rattle.iso_message.specs.Keys.{part}
-use Rattle.iso_message.specs.Types.{kind_text}
+use Rattle.message_keys.specs.Keys.{part}
+use Rattle.message_elements.specs.Types.{kind_text}
 use Rattle.iso_message.specs.Spelling.{spelling}
 use Rattle.network_law.specs.Cards.{Bytes, text_of}
 use Rattle.network_law.proofs.Ids.{FitsId}

@@ -8,7 +8,7 @@ use Rattle.std.specs.Char.{is_ascii_digit}
 use Rattle.std.specs.List.{list_all}
 use Rattle.card_digits.specs.Digits.{digits_of}
 use Rattle.card_digits.specs.Numbers.{decimal_from, decimal}
-use Rattle.iso_message.specs.Keys.{part}
+use Rattle.message_keys.specs.Keys.{part}
 use Rattle.network_law.specs.Cards.{Bytes, text_of}
 use Rattle.network_law.specs.declared.grant.GrantPacket.{GrantPacket}
 use Rattle.network_law.specs.declared.grant.GrantPacket.TheVariants as packets

@@ -8,18 +8,18 @@ use Rattle.std.specs.Option.{option_map_or, option_or, option_map, option_and_th
 use Rattle.card_digits.specs.Numbers.{decimal}
 use Rattle.card_digits.specs.declared.key.Key.{Key}
 use Rattle.iso_message.specs.Fields.{Fields, el}
-use Rattle.iso_message.specs.Groups.{is_request, is_answer, group}
-use Rattle.iso_message.specs.Keys.{key_of, key_eq}
-use Rattle.iso_message.specs.Codes.{code_of, code_00, code_05, code_96}
+use Rattle.message_elements.specs.Groups.{is_request, is_answer, group}
+use Rattle.message_keys.specs.Keys.{key_of, key_eq, code_of}
+use Rattle.message_elements.specs.Codes.{code_00, code_05, code_96}
 use Rattle.net_rows.specs.Network.{Network}
 use Rattle.iso_message.specs.Made.{made_reversal}
-use Rattle.iso_message.specs.declared.kind.Kind.{Kind}
-use Rattle.iso_message.specs.declared.kind.Kind.TheVariants.{K0100, K0101, K0110, K0120, K0121, K0130, K0400, K0401, K0410, K0420, K0421, K0430}
+use Rattle.message_elements.specs.declared.kind.Kind.{Kind}
+use Rattle.message_elements.specs.declared.kind.Kind.TheVariants.{K0100, K0101, K0110, K0120, K0121, K0130, K0400, K0401, K0410, K0420, K0421, K0430}
 use Rattle.std.specs.List.{list_any}
-use Rattle.iso_message.specs.declared.kind.Group.TheVariants as groups
+use Rattle.message_elements.specs.declared.kind.Group.TheVariants as groups
 use Rattle.network_law.specs.Tables.{node_id}
 use Rattle.network_law.specs.Cards.{card_of, label_of, Bytes}
-use Rattle.iso_message.specs.Amounts.{actual_amount}
+use Rattle.message_keys.specs.Amounts.{actual_amount}
 use Rattle.network_law.specs.Traces.{key_asked, ask_count, asks_in, put_count, puts_on, up_after, is_up, date_after, date_of, ReadInput, Enter, Take, LinkUp, LinkDown, Tick, HostAnswer, NewDate, TakePacket, Lend, ReadOutput, Put, Answer, Ask, Post, PutPacket, In, Out, History, IsIn, count_of, ticks_in, Handled, handled, Opening, opening, opened_by, opened, key_handled, with_new, answer, answers, sent, forwarded, forwards, fails, approvals, reversed, left_by, left_of, left, used, added, Advice, advices, comes_late, code_is_not_00, reverses_key, pending, late_key, is_link, ask_key}
 use Rattle.network_law.specs.Decision.{failing, decide, keep, on_code, on_answer, on_host}
 use Rattle.network_law.specs.Plain.{Asked, asked_in, all_asked, AskedByNumber, CountsAsks, CountsPuts, sets_link, sets_up, UpByLast, sets_date, date_in, DatedByLast, inputs, requests, request_of, openings, opened_key, OpenedByFirst, OpenedOnce, EachIsOfItsKey, FailInOpeningOrder, is_answer_of, said_in, said, AnsweredByFirst, OnLink, put_in, puts, ForwardedByFirst, link_in, links_put, is_tick, CountsTicks, UsedIsSum, LeavesLeast, LeavesOne, LeavesNoMore, LeavesAll, LateIsReversed}

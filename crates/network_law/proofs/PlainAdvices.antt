@@ -8,10 +8,10 @@ use Rattle.std.specs.Option.{option_and_then}
 use Rattle.std.specs.List.{list_any, count_by}
 use Rattle.card_digits.specs.declared.key.Key.{Key}
 use Rattle.iso_message.specs.Fields.{Fields}
-use Rattle.iso_message.specs.Groups.{group}
-use Rattle.iso_message.specs.Keys.{key_of, identity_of, identity_eq}
+use Rattle.message_elements.specs.Groups.{group}
+use Rattle.message_keys.specs.Keys.{key_of, identity_of, identity_eq}
 use Rattle.iso_message.specs.Made.{made_reversal, made_stand_in}
-use Rattle.iso_message.specs.declared.keys.AdviceId.{AdviceId}
+use Rattle.message_keys.specs.declared.keys.AdviceId.{AdviceId}
 use Rattle.net_rows.specs.Network.{Network}
 use Rattle.network_law.specs.Tables.{node_id}
 use Rattle.network_law.specs.Traces.{ReadInput, ReadOutput, Put, Answer, Ask, Post, PutPacket, Event, In, Out, History, IsIn, Has, Handled, handled, Opening, opening, opened, sent, has_00, is_00_of, brings_00, key_of_00, own_approval, Approval, approval_by, approval_of, approvals, Advice, advices, add_advice, add_made, add_accepted, acked_by, has_identity, late_key, failed_key, is_ok_ack, is_advice_group, as_kept, known, is_at_home, stored, pending, load, was_put, is_put_of, count_of}
@@ -22,7 +22,7 @@ use Rattle.network_law.proofs.Used.{own_now}
 use Rattle.network_law.proofs.Provenance.{identity_acked}
 use Rattle.network_law.proofs.Accounts.{any_is, is_any}
 use Rattle.network_law.proofs.Approvals.{is_00_parts}
-use Rattle.iso_message.proofs.Equality.{identity_eq_is, identity_eq_refl}
+use Rattle.message_keys.proofs.Equality.{identity_eq_is, identity_eq_refl}
 use Rattle.network_law.proofs.Leaves.{approval_cases, Reverses, by_reversed, reversed_by, reverses_parts}
 use Rattle.network_law.proofs.Plain.{keys_in_order}
 use Rattle.network_law.proofs.PlainGrants.{filter_reverse, reverse_length}

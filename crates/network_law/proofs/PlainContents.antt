@@ -7,12 +7,12 @@ use Rattle.std.specs.Option.{option_and_then, option_map, option_or}
 use Rattle.std.specs.List.{list_any}
 use Rattle.card_digits.specs.declared.key.Key.{Key}
 use Rattle.iso_message.specs.Fields.{Fields}
-use Rattle.iso_message.specs.Groups.{group}
-use Rattle.iso_message.specs.Keys.{key_of, key_eq, identity_of, identity_eq}
-use Rattle.iso_message.specs.Codes.{code_of, code_00}
+use Rattle.message_elements.specs.Groups.{group}
+use Rattle.message_keys.specs.Keys.{key_of, key_eq, identity_of, identity_eq, code_of}
+use Rattle.message_elements.specs.Codes.{code_00}
 use Rattle.iso_message.specs.Made.{made_reversal, made_stand_in}
-use Rattle.iso_message.specs.declared.keys.AdviceId.{AdviceId}
-use Rattle.iso_message.proofs.Equality.{identity_eq_is}
+use Rattle.message_keys.specs.declared.keys.AdviceId.{AdviceId}
+use Rattle.message_keys.proofs.Equality.{identity_eq_is}
 use Rattle.net_rows.specs.Network.{Network}
 use Rattle.network_law.specs.Tables.{node_id}
 use Rattle.network_law.specs.Traces.{ReadInput, Enter, Take, LinkUp, LinkDown, Tick, HostAnswer, NewDate, TakePacket, Lend, ReadOutput, Put, Answer, Ask, Post, PutPacket, Event, In, Out, History, count_of, Handled, handled, Opening, opening, asks, asked, sent, has_00, is_00_of, own_approval, Approval, approval_by, approval_of, approvals, Advice, advices, add_advice, add_made, add_accepted, acked_by, has_identity, is_ack, late_key, failed_key, is_ok_ack, is_advice_group, as_kept, known}

@@ -8,7 +8,7 @@ use Rattle.std.specs.Option.{option_or, option_and_then}
 use Rattle.std.specs.List.{list_any}
 use Rattle.card_digits.specs.Numbers.{pad11}
 use Rattle.iso_message.specs.Fields.{Fields}
-use Rattle.iso_message.specs.Groups.{group}
+use Rattle.message_elements.specs.Groups.{group}
 use Rattle.iso_message.specs.Made.{made_reversal, made_stand_in}
 use Rattle.net_rows.specs.Network.{Network}
 use Rattle.network_law.specs.Cards.{Bytes}

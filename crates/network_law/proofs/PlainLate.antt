@@ -7,9 +7,9 @@ use Rattle.std.specs.Option.{option_and_then}
 use Rattle.std.specs.List.{list_any}
 use Rattle.card_digits.specs.declared.key.Key.{Key}
 use Rattle.iso_message.specs.Fields.{Fields}
-use Rattle.iso_message.specs.Groups.{is_answer, is_04xx}
-use Rattle.iso_message.specs.Keys.{key_of, key_eq}
-use Rattle.iso_message.specs.Codes.{code_of, code_00}
+use Rattle.message_elements.specs.Groups.{is_answer, is_04xx}
+use Rattle.message_keys.specs.Keys.{key_of, key_eq, code_of}
+use Rattle.message_elements.specs.Codes.{code_00}
 use Rattle.net_rows.specs.Network.{Network}
 use Rattle.network_law.specs.Cards.{Bytes}
 use Rattle.network_law.specs.Traces.{ReadInput, Enter, Take, LinkUp, LinkDown, Tick, HostAnswer, NewDate, TakePacket, Lend, History, IsIn, answer, forwarded, ask_key, Advice, advices, reverses_key, code_is_not_00, comes_late, late_key, is_link}

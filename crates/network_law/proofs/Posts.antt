@@ -20,18 +20,18 @@ use Rattle.network_law.proofs.Late.{LateFacts, answer_when, when_answer, respons
 use Rattle.network_law.proofs.Provenance.{late_none, no_own, no_failed, quiet_out, identity_acked, advices_in, advice_no_ack, answer_no_ack, request_no_ack, kept_no_answer}
 use Rattle.network_law.proofs.Accounts.{Alike, alike_more, alike_is, Accounts, accounts_acked, accounts_sent, accounts_kept, kept_posts, KeptSends, in_acked_back, in_add_known, posted_of}
 use Rattle.network_law.specs.Cards.{Bytes, is_good_card, card_of}
-use Rattle.iso_message.specs.declared.keys.AdviceKind.TheVariants.{StandIn, Reversal}
+use Rattle.message_keys.specs.declared.keys.AdviceKind.TheVariants.{StandIn, Reversal}
 use Rattle.iso_message.specs.Fields.{Fields, get, el, as_kind, set_element, remove_element}
-use Rattle.iso_message.specs.declared.kind.Group.{Group}
-use Rattle.iso_message.specs.Groups.{group, is_request, is_answer, is_04xx}
-use Rattle.iso_message.specs.declared.kind.Kind.TheVariants.{K0100}
+use Rattle.message_elements.specs.declared.kind.Group.{Group}
+use Rattle.message_elements.specs.Groups.{group, is_request, is_answer, is_04xx}
+use Rattle.message_elements.specs.declared.kind.Kind.TheVariants.{K0100}
 use Rattle.card_digits.specs.declared.key.Key.{Key}
-use Rattle.iso_message.specs.Keys.{key_of, identity_of, identity_eq, content, content_eq}
-use Rattle.iso_message.specs.declared.keys.AdviceId.{AdviceId}
-use Rattle.iso_message.specs.Codes.{code_of, code_94, code_96, code_92, code_68, code_14, code_05, code_00}
+use Rattle.message_keys.specs.Keys.{key_of, identity_of, identity_eq, content, content_eq, code_of}
+use Rattle.message_keys.specs.declared.keys.AdviceId.{AdviceId}
+use Rattle.message_elements.specs.Codes.{code_94, code_96, code_92, code_68, code_14, code_05, code_00}
 use Rattle.iso_message.specs.Made.{response, made_reversal, made_stand_in}
 use Rattle.network_law.specs.Claims.{answered_by, post_count}
-use Rattle.iso_message.specs.declared.kind.Group.TheVariants as groups
+use Rattle.message_elements.specs.declared.kind.Group.TheVariants as groups
 use Rattle.network_law.proofs.AdviceMarks.{not_both, post_in, sends_in, posts, sends, Acc, response_no_advice, answer_no_advice, ack_of_kept, kept_is_advice, advice_kind_group, kept_alike, sent_alike, made_stand_in_key, answered_00, add_other, reversal_reverses, stand_in_stands, identity_key, marks_out, opening_out, other_answers, marks_in, marks_none, has_in, answer_in, request_no_answer, request_brings_none, unopened, in_later, no_in, out_is, ack_no_answer, reply_no_answer, gate_brings_none, NoRepeat}
 use Rattle.network_law.proofs.FailOnce.{failing_once}
 

@@ -20,15 +20,15 @@ use Rattle.network_law.proofs.Chain.{same_card}
 use Rattle.network_law.proofs.Late.{kept_reversal, handled_in, handled_out}
 use Rattle.network_law.specs.Cards.{Bytes, card_of}
 use Rattle.iso_message.specs.Fields.{Fields, el, as_kind, remove_element, get, set_element}
-use Rattle.iso_message.specs.declared.kind.Kind.{Kind}
-use Rattle.iso_message.specs.Groups.{group, is_request, is_answer, is_reversal, is_04xx, response_kind}
-use Rattle.iso_message.specs.declared.kind.Kind.TheVariants.{K0100, K0101, K0110, K0120, K0121, K0130, K0400, K0401, K0410, K0420, K0421, K0430}
+use Rattle.message_elements.specs.declared.kind.Kind.{Kind}
+use Rattle.message_elements.specs.Groups.{group, is_request, is_answer, is_reversal, is_04xx, response_kind}
+use Rattle.message_elements.specs.declared.kind.Kind.TheVariants.{K0100, K0101, K0110, K0120, K0121, K0130, K0400, K0401, K0410, K0420, K0421, K0430}
 use Rattle.card_digits.specs.declared.key.Key.{Key}
-use Rattle.iso_message.specs.Keys.{key_of, key_eq, own_key, original_key, part, identity_of, content, Content, content_eq}
-use Rattle.iso_message.specs.declared.keys.AdviceId.{AdviceId}
-use Rattle.iso_message.specs.Codes.{code_of, code_94, code_00, code_68}
+use Rattle.message_keys.specs.Keys.{key_of, key_eq, own_key, original_key, part, identity_of, content, Content, content_eq, code_of}
+use Rattle.message_keys.specs.declared.keys.AdviceId.{AdviceId}
+use Rattle.message_elements.specs.Codes.{code_94, code_00, code_68}
 use Rattle.iso_message.specs.Made.{response, made_reversal, made_stand_in, made_from}
-use Rattle.iso_message.specs.declared.kind.Group.TheVariants as groups
+use Rattle.message_elements.specs.declared.kind.Group.TheVariants as groups
 
 pub none_some : {X : Type 0} (x : X) → None ≡ Some x → ⊥
 none_some x p = cc
@@ -589,7 +589,7 @@ unfolding identity_of Rattle.iso_message.specs.Fields.get
 identity_kept m g =
     let a = as_kept_04xx m in
     let b = (kept_reversal m g).1 in
-    λ j. record { kind = Rattle.iso_message.specs.Keys.advice_kind (a j); key = b j; forwarder = Rattle.iso_message.specs.Keys.padded_or_zeros (Rattle.iso_message.specs.Fields.get m 33) }
+    λ j. record { kind = Rattle.message_keys.specs.Keys.advice_kind (a j); key = b j; forwarder = Rattle.message_keys.specs.Keys.padded_or_zeros (Rattle.iso_message.specs.Fields.get m 33) }
 
 -- an accepted reversal is marked when its acknowledgement is put out
 pub reversed_now : (t : Network) (n : ℕ) (past : History) (i : ReadInput) (h : History) (x : Fields) → Accepts t n past i h x → is_04xx x.kind ≡ true → reversed t n h (key_of x) ≡ true

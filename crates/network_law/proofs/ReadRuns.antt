@@ -1,7 +1,7 @@
 -- Legal traces and runs in messages, as which traces in bytes are read.
 use Rattle.std.proofs.Common.{◌≡◌, ℕ, ◌≤◌, ◌<◌, List, [], ◌∷◌, length, None, true}
 use Rattle.iso_message.specs.Fields.{Fields, el}
-use Rattle.iso_message.specs.Groups.{is_request}
+use Rattle.message_elements.specs.Groups.{is_request}
 use Rattle.net_rows.specs.Network.{Network, other_end}
 use Rattle.network_law.specs.Tables.{is_link_of}
 use Rattle.network_law.specs.declared.grant.GrantPacket.{GrantPacket}

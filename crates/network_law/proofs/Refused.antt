@@ -3,8 +3,8 @@ use Rattle.std.proofs.Common.{◌≡◌, ℕ, List, [], ◌∷◌, Option, Some,
 use Rattle.std.proofs.lemmas.Bool.{not-false}
 use Rattle.std.specs.Option.{option_or, option_map}
 use Rattle.iso_message.specs.Fields.{Fields, has}
-use Rattle.iso_message.specs.Groups.{group}
-use Rattle.iso_message.specs.Keys.{own_key}
+use Rattle.message_elements.specs.Groups.{group}
+use Rattle.message_keys.specs.Keys.{own_key}
 use Rattle.net_rows.specs.Network.{Network}
 use Rattle.network_law.specs.declared.fault.StepFault.TheVariants.{ForeignAcquirer, Missing, TypeNotForGate}
 use Rattle.network_law.specs.Tables.{is_attached}

@@ -23,14 +23,14 @@ use Rattle.network_law.proofs.Codes.{legal_codes, no_request_refused, content_eq
 use Rattle.network_law.proofs.Late.{kept_reversal, handled_in, handled_out}
 use Rattle.network_law.specs.Cards.{Bytes, card_of}
 use Rattle.iso_message.specs.Fields.{Fields, as_kind}
-use Rattle.iso_message.specs.declared.kind.Kind.{Kind}
-use Rattle.iso_message.specs.Groups.{group, is_answer, is_reversal, is_04xx, response_kind}
-use Rattle.iso_message.specs.declared.kind.Kind.TheVariants.{K0100, K0101, K0110, K0120, K0121, K0130, K0400, K0401, K0410, K0420, K0421, K0430}
+use Rattle.message_elements.specs.declared.kind.Kind.{Kind}
+use Rattle.message_elements.specs.Groups.{group, is_answer, is_reversal, is_04xx, response_kind}
+use Rattle.message_elements.specs.declared.kind.Kind.TheVariants.{K0100, K0101, K0110, K0120, K0121, K0130, K0400, K0401, K0410, K0420, K0421, K0430}
 use Rattle.card_digits.specs.declared.key.Key.{Key}
-use Rattle.iso_message.specs.Keys.{key_of, key_eq, content, content_eq}
-use Rattle.iso_message.specs.Codes.{code_94}
+use Rattle.message_keys.specs.Keys.{key_of, key_eq, content, content_eq}
+use Rattle.message_elements.specs.Codes.{code_94}
 use Rattle.iso_message.specs.Made.{response, made_reversal, made_stand_in}
-use Rattle.iso_message.specs.declared.kind.Group.TheVariants as groups
+use Rattle.message_elements.specs.declared.kind.Group.TheVariants as groups
 use Rattle.network_law.proofs.Provenance.{none_some, not_both, kept_04xx, as_kept_04xx, as_kept_content, as_kind_content, as_kind_key, MadeHere, TakenFrom, AcceptedHere, Provenance, provenance_of, AllKnown, in_made, in_accepted, SentReversal, SentKnown, extend, extend_made, extends_in, extends_out, made_provenance, opened_of_key, known_in, sent_in, advice_04xx, ack_case, good_accepted, made_stand_in_kind, any_in, accepted_of, reversed_back, Through, reversed_now}
 
 -- what was known stays so, whatever is put out

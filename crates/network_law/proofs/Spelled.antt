@@ -5,10 +5,10 @@ use Rattle.std.proofs.lemmas.List.{length-map}
 use Rattle.std.proofs.lemmas.Bool.{and_parts, ltb-true, leb-true, eqb-true, lt-leb}
 use Rattle.std.specs.Prelude.{⊤, nat_le}
 use Rattle.std.specs.List.{list_all}
-use Rattle.iso_message.specs.declared.form.Form.{Form}
-use Rattle.iso_message.specs.declared.form.Form.TheVariants.{Fixed, Llvar, Lllvar, Binary}
-use Rattle.iso_message.specs.Elements.{fits}
-use Rattle.iso_message.specs.Table.{form_of}
+use Rattle.message_elements.specs.declared.form.Form.{Form}
+use Rattle.message_elements.specs.declared.form.Form.TheVariants.{Fixed, Llvar, Lllvar, Binary}
+use Rattle.message_elements.specs.Values.{fits}
+use Rattle.message_elements.specs.Table.{form_of}
 use Rattle.iso_message.specs.Fields.{Fields}
 use Rattle.iso_message.specs.Spelling.{IsMessage, IsGood, AreGood, Ascends}
 use Rattle.net_rows.specs.Network.{Network}
@@ -34,7 +34,7 @@ looks_right (Some (Lllvar class most)) v = leb (length v) most && ltb (length v)
 looks_right (Some Binary) v = false
 
 unfoldable looks_ordered : ℕ → List (ℕ × List ℕ) → Bool
-unfolding form_of Rattle.iso_message.specs.Table.table
+unfolding form_of Rattle.message_elements.specs.Table.table
 looks_ordered low [] = true
 looks_ordered low (e ∷ es) = ltb low e.0 && leb e.0 128 && looks_right (form_of e.0) e.1 && looks_ordered e.0 es
 

@@ -6,7 +6,7 @@ use Rattle.std.proofs.Common.{append_assoc}
 use mathlib.Core.List.{reverse-cons}
 use Rattle.std.specs.Option.{option_and_then}
 use Rattle.iso_message.specs.Fields.{Fields}
-use Rattle.iso_message.specs.Groups.{group}
+use Rattle.message_elements.specs.Groups.{group}
 use Rattle.iso_message.specs.Made.{made_reversal, made_stand_in}
 use Rattle.card_digits.specs.Numbers.{pad11}
 use Rattle.net_rows.specs.Network.{Network}

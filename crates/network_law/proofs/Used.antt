@@ -22,14 +22,14 @@ use Rattle.network_law.proofs.Node.{NodeFacts, EntryFacts, Opened, legal_facts, 
 use Rattle.network_law.proofs.Elements.{code_response, response_key}
 use Rattle.network_law.proofs.Ends.{legal_at, histories}
 use Rattle.network_law.specs.Cards.{label_of, Bytes, card_of}
-use Rattle.iso_message.specs.Amounts.{actual_amount}
+use Rattle.message_keys.specs.Amounts.{actual_amount}
 use Rattle.iso_message.specs.Fields.{Fields, el, as_kind}
-use Rattle.iso_message.specs.declared.kind.Kind.{Kind}
-use Rattle.iso_message.specs.declared.kind.Kind.TheVariants.{K0100, K0110, K0120, K0121, K0130, K0400, K0401, K0410, K0420, K0421, K0430, K0101}
-use Rattle.iso_message.specs.Groups.{group, is_request, is_answer, is_04xx, response_kind}
+use Rattle.message_elements.specs.declared.kind.Kind.{Kind}
+use Rattle.message_elements.specs.declared.kind.Kind.TheVariants.{K0100, K0110, K0120, K0121, K0130, K0400, K0401, K0410, K0420, K0421, K0430, K0101}
+use Rattle.message_elements.specs.Groups.{group, is_request, is_answer, is_04xx, response_kind}
 use Rattle.card_digits.specs.declared.key.Key.{Key}
-use Rattle.iso_message.specs.Keys.{key_of, key_eq}
-use Rattle.iso_message.specs.Codes.{code_of, code_00, code_57, code_61, code_94}
+use Rattle.message_keys.specs.Keys.{key_of, key_eq, code_of}
+use Rattle.message_elements.specs.Codes.{code_00, code_57, code_61, code_94}
 use Rattle.iso_message.specs.Made.{response, made_reversal, made_stand_in}
 
 not_both : (b : Bool) → b ≡ true → b ≡ false → ⊥

@@ -6,16 +6,16 @@ use Rattle.std.specs.Prelude.{codes}
 use Rattle.std.specs.List.{list_all}
 use Rattle.std.specs.Char.{is_ascii_digit}
 use Rattle.card_digits.specs.Numbers.{pad11}
-use Rattle.iso_message.specs.declared.kind.Kind.{Kind}
-use Rattle.iso_message.specs.declared.kind.Kind.TheVariants.{K0120, K0420}
-use Rattle.iso_message.specs.declared.form.Class.TheVariants.{Digits}
-use Rattle.iso_message.specs.Table.{form_of, table}
-use Rattle.iso_message.specs.Grammar.{AreOf}
+use Rattle.message_elements.specs.declared.kind.Kind.{Kind}
+use Rattle.message_elements.specs.declared.kind.Kind.TheVariants.{K0120, K0420}
+use Rattle.message_elements.specs.declared.form.Class.TheVariants.{Digits}
+use Rattle.message_elements.specs.Table.{form_of, table}
+use Rattle.message_elements.specs.Values.{AreOf}
 use Rattle.iso_message.specs.Finding.{find_element}
 use Rattle.iso_message.specs.Fields.{Fields, get, el, has, set_element, remove_element, as_kind}
 use Rattle.iso_message.specs.Spelling.{IsMessage, IsGood, AreGood, Ascends}
-use Rattle.iso_message.specs.Codes.{code_00, code_68}
-use Rattle.iso_message.specs.Groups.{response_kind}
+use Rattle.message_elements.specs.Codes.{code_00, code_68}
+use Rattle.message_elements.specs.Groups.{response_kind}
 use Rattle.iso_message.specs.Made.{kept, is_one_of, response_numbers, advice_numbers, response, made_from, made_stand_in, made_reversal, original_data}
 use Rattle.iso_message.proofs.MessageLemmas.{without_is, ascends_kept, good_kept, ascends_put, good_put}
 use Rattle.network_law.specs.Entries.{IsCode}

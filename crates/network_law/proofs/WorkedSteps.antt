@@ -2,7 +2,7 @@
 use Rattle.std.proofs.Common.{◌≡◌, List, [], ◌∷◌, Ok, false, true, refl, sym, ap, ◌∙◌, subst, arith}
 use Rattle.std.specs.Prelude.{codes}
 use Rattle.hex.specs.Hex.{encode_with}
-use Rattle.iso_message.specs.Table.{form_of, table}
+use Rattle.message_elements.specs.Table.{form_of, table}
 use Rattle.iso_message.specs.Spelling.{spelling}
 use Rattle.iso_message.specs.Messages.{read}
 use Rattle.network_law.specs.Traces.{Enter, Take, HostAnswer, Put, Answer, Ask}

@@ -6,12 +6,12 @@ use Rattle.std.specs.Prelude.{⊤}
 use Rattle.std.specs.Option.{option_and_then}
 use Rattle.card_digits.specs.Numbers.{decimal}
 use Rattle.card_digits.specs.declared.key.Key.{Key}
-use Rattle.iso_message.specs.declared.kind.Kind.{Kind}
-use Rattle.iso_message.specs.declared.kind.Kind.TheVariants.{K0100, K0101, K0110, K0120, K0121, K0130, K0400, K0401, K0410, K0420, K0421, K0430}
-use Rattle.iso_message.specs.Groups.{group, is_request, is_answer}
+use Rattle.message_elements.specs.declared.kind.Kind.{Kind}
+use Rattle.message_elements.specs.declared.kind.Kind.TheVariants.{K0100, K0101, K0110, K0120, K0121, K0130, K0400, K0401, K0410, K0420, K0421, K0430}
+use Rattle.message_elements.specs.Groups.{group, is_request, is_answer}
 use Rattle.iso_message.specs.Fields.{Fields, el, has, set_element, remove_element}
-use Rattle.iso_message.specs.Keys.{key_of, key_eq}
-use Rattle.iso_message.specs.Codes.{code_of, code_00, code_57, code_61, code_91, code_94}
+use Rattle.message_keys.specs.Keys.{key_of, key_eq, code_of}
+use Rattle.message_elements.specs.Codes.{code_00, code_57, code_61, code_91, code_94}
 use Rattle.iso_message.specs.Made.{response, made_stand_in, made_reversal}
 use Rattle.iso_message.specs.Spelling.{IsMessage}
 use Rattle.net_rows.specs.Network.{Network}

@@ -3,13 +3,13 @@ use Rattle.std.specs.Prelude.{ℕ, ◌+◌, ◌<◌, ◌≤◌, ◌≡◌, ◌�
 use Rattle.std.specs.Option.{option_or}
 use Rattle.std.specs.List.{list_any}
 use Rattle.card_digits.specs.declared.key.Key.{Key}
-use Rattle.iso_message.specs.declared.kind.Kind.{Kind}
-use Rattle.iso_message.specs.declared.kind.Kind.TheVariants.{K0110, K0130, K0410, K0430}
-use Rattle.iso_message.specs.declared.keys.AdviceId.{AdviceId}
+use Rattle.message_elements.specs.declared.kind.Kind.{Kind}
+use Rattle.message_elements.specs.declared.kind.Kind.TheVariants.{K0110, K0130, K0410, K0430}
+use Rattle.message_keys.specs.declared.keys.AdviceId.{AdviceId}
 use Rattle.iso_message.specs.Fields.{Fields}
-use Rattle.iso_message.specs.Groups.{is_request, is_answer}
-use Rattle.iso_message.specs.Keys.{key_of, key_eq, content, identity_of, identity_eq}
-use Rattle.iso_message.specs.Codes.{code_of, code_94, code_00}
+use Rattle.message_elements.specs.Groups.{is_request, is_answer}
+use Rattle.message_keys.specs.Keys.{key_of, key_eq, content, identity_of, identity_eq, code_of}
+use Rattle.message_elements.specs.Codes.{code_94, code_00}
 use Rattle.net_rows.specs.Network.{Network, issuer, other_end, day}
 use Rattle.net_rows.specs.declared.row.Issuer.{Issuer}
 use Rattle.network_law.specs.Cards.{card_of}

@@ -10,16 +10,16 @@ use Rattle.network_law.specs.declared.grant.GrantPacket.TheVariants as packets
 use Rattle.network_law.specs.Traces.{Source, Gate, ByLink, ReadInput, Enter, Take, LinkUp, LinkDown, Tick, HostAnswer, NewDate, TakePacket, Lend, ReadOutput, Put, Answer, Ask, Post, PutPacket, Event, In, Out, History, count_of, is_up, put_count, ask_count, ask_key, Handled, handled, Opening, opening, opened, answer, pending, forwarded, fails, Advice, advices, known, reversed, Lent, grants, taken, load, was_put, used, borrowed, lent, allowance, as_kept, is_at_home, comes_late, is_link, is_advice_group}
 use Rattle.network_law.specs.Cards.{label_of, Bytes, is_good_card, card_of}
 use Rattle.iso_message.specs.Fields.{Fields, el, get, as_kind, set_element, remove_element}
-use Rattle.iso_message.specs.declared.kind.Kind.{Kind}
-use Rattle.iso_message.specs.declared.kind.Kind.TheVariants.{K0100, K0120, K0121, K0420, K0421}
-use Rattle.iso_message.specs.declared.kind.Group.{Group}
-use Rattle.iso_message.specs.Groups.{group, is_reversal, is_04xx}
+use Rattle.message_elements.specs.declared.kind.Kind.{Kind}
+use Rattle.message_elements.specs.declared.kind.Kind.TheVariants.{K0100, K0120, K0121, K0420, K0421}
+use Rattle.message_elements.specs.declared.kind.Group.{Group}
+use Rattle.message_elements.specs.Groups.{group, is_reversal, is_04xx}
 use Rattle.card_digits.specs.declared.key.Key.{Key}
-use Rattle.iso_message.specs.Keys.{key_of, own_key, content, content_eq, identity_of, original_key}
-use Rattle.iso_message.specs.Codes.{code_of, code_00, code_05, code_14, code_57, code_61, code_68, code_91, code_92, code_94, code_96}
+use Rattle.message_keys.specs.Keys.{key_of, own_key, content, content_eq, identity_of, original_key, code_of}
+use Rattle.message_elements.specs.Codes.{code_00, code_05, code_14, code_57, code_61, code_68, code_91, code_92, code_94, code_96}
 use Rattle.iso_message.specs.Made.{made_reversal, made_stand_in, response, made_from}
 use Rattle.iso_message.specs.Finding.{find_element, without, put}
-use Rattle.iso_message.specs.declared.kind.Group.TheVariants as groups
+use Rattle.message_elements.specs.declared.kind.Group.TheVariants as groups
 
 -- outputs
 

@@ -1,8 +1,8 @@
 -- What a node is given and puts out, with the bytes of messages; and the same with the messages that the bytes spell.
 use Rattle.std.specs.Prelude.{ℕ, ◌≡◌, List, [], ◌∷◌, length, map, Option, Some, None, Result, Ok, Err}
-use Rattle.iso_message.specs.declared.fault.DecodeFault.{DecodeFault}
-use Rattle.iso_message.specs.declared.form.Class.TheVariants.{Text}
-use Rattle.iso_message.specs.Grammar.{AreOf}
+use Rattle.message_elements.specs.declared.fault.DecodeFault.{DecodeFault}
+use Rattle.message_elements.specs.declared.form.Class.TheVariants.{Text}
+use Rattle.message_elements.specs.Values.{AreOf}
 use Rattle.iso_message.specs.Fields.{Fields}
 use Rattle.iso_message.specs.Messages.{read}
 use Rattle.iso_message.specs.Spelling.{spelling}

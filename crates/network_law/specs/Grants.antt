@@ -4,7 +4,7 @@ use Rattle.std.specs.Char.{is_ascii_digit}
 use Rattle.std.specs.List.{list_all}
 use Rattle.card_digits.specs.Digits.{digits_of, IsCard, IsDateLabel}
 use Rattle.card_digits.specs.Numbers.{decimal}
-use Rattle.iso_message.specs.Keys.{part}
+use Rattle.message_keys.specs.Keys.{part}
 use Rattle.network_law.specs.declared.grant.Grant.{Grant}
 use Rattle.network_law.specs.declared.grant.GrantPacket.{GrantPacket}
 use Rattle.network_law.specs.declared.grant.GrantPacket.TheVariants as packets

@@ -1,7 +1,7 @@
 -- What holds of every legal trace, whatever the other nodes do.
 use Rattle.std.specs.Prelude.{ℕ, ◌≡◌, ◌<◌, ◌≤◌, unwrap_or, length, Ok, List, [], ◌∷◌, Bool, true, false, ◌||◌, Some}
 use Rattle.card_digits.specs.declared.key.Key.{Key}
-use Rattle.iso_message.specs.Keys.{key_of, identity_of}
+use Rattle.message_keys.specs.Keys.{key_of, identity_of}
 use Rattle.iso_message.specs.Made.{made_reversal}
 use Rattle.net_rows.specs.Network.{Network}
 use Rattle.network_law.specs.Tables.{node_id}
@@ -10,9 +10,9 @@ use Rattle.network_law.specs.Entries.{Entry, read_input, history}
 use Rattle.network_law.specs.Decision.{decide}
 use Rattle.network_law.specs.Runs.{IsLegal}
 use Rattle.card_digits.specs.Numbers.{decimal}
-use Rattle.iso_message.specs.Amounts.{actual_amount}
+use Rattle.message_keys.specs.Amounts.{actual_amount}
 use Rattle.iso_message.specs.Fields.{Fields, el}
-use Rattle.iso_message.specs.Groups.{is_request}
+use Rattle.message_elements.specs.Groups.{is_request}
 
 -- the newest entry marks k as failed: it is a LinkDown or a Tick, and a 0110 of the pending key is put out
 unfoldable pub marked_failed : Network → History → Key → Bool

@@ -4,13 +4,13 @@ use Rattle.std.specs.Option.{option_map, option_map_or}
 use Rattle.card_digits.specs.Numbers.{decimal}
 use Rattle.card_digits.specs.declared.key.Key.{Key}
 use Rattle.iso_message.specs.Fields.{Fields, el}
-use Rattle.iso_message.specs.Groups.{is_request, is_answer}
-use Rattle.iso_message.specs.Keys.{key_of, key_eq}
-use Rattle.iso_message.specs.Codes.{code_of, code_94}
+use Rattle.message_elements.specs.Groups.{is_request, is_answer}
+use Rattle.message_keys.specs.Keys.{key_of, key_eq, code_of}
+use Rattle.message_elements.specs.Codes.{code_94}
 use Rattle.iso_message.specs.Made.{made_reversal}
 use Rattle.net_rows.specs.Network.{Network}
 use Rattle.network_law.specs.Cards.{card_of, label_of}
-use Rattle.iso_message.specs.Amounts.{actual_amount}
+use Rattle.message_keys.specs.Amounts.{actual_amount}
 use Rattle.network_law.specs.Tables.{node_id}
 use Rattle.network_law.specs.Traces.{LinkUp, LinkDown, NewDate, is_up, date_of, ask_count, put_count, ReadInput, Tick, ReadOutput, Put, Answer, Ask, Post, PutPacket, In, Out, History, IsIn, count_of, Handled, handled, Opening, opening, answer, forwarded, fails, Advice, Approval, approvals, reverses_key, reversed, left, used, advices, late_key, ask_key}
 use Rattle.network_law.specs.Decision.{failing, decide, keep}

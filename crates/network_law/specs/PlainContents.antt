@@ -4,11 +4,11 @@ use Rattle.std.specs.Option.{option_and_then, option_map}
 use Rattle.std.specs.List.{list_any}
 use Rattle.card_digits.specs.declared.key.Key.{Key}
 use Rattle.iso_message.specs.Fields.{Fields}
-use Rattle.iso_message.specs.Groups.{group}
-use Rattle.iso_message.specs.Keys.{key_of, key_eq, identity_of, identity_eq}
-use Rattle.iso_message.specs.Codes.{code_of, code_00}
+use Rattle.message_elements.specs.Groups.{group}
+use Rattle.message_keys.specs.Keys.{key_of, key_eq, identity_of, identity_eq, code_of}
+use Rattle.message_elements.specs.Codes.{code_00}
 use Rattle.iso_message.specs.Made.{made_reversal, made_stand_in}
-use Rattle.iso_message.specs.declared.keys.AdviceId.{AdviceId}
+use Rattle.message_keys.specs.declared.keys.AdviceId.{AdviceId}
 use Rattle.net_rows.specs.Network.{Network}
 use Rattle.network_law.specs.Tables.{node_id}
 use Rattle.network_law.specs.Traces.{ReadInput, Take, Event, In, Out, History, count_of, Handled, handled, Opening, opening, opened, asked, sent, own_approval, approvals, Advice, advices, has_identity, is_ack, late_key, failed_key, is_ok_ack, is_advice_group, as_kept, known}

@@ -2,9 +2,9 @@
 use Rattle.std.specs.Prelude.{ℕ, ◌≡◌, ◌≢◌, true, Some}
 use Rattle.card_digits.specs.declared.key.Key.{Key}
 use Rattle.iso_message.specs.Fields.{Fields}
-use Rattle.iso_message.specs.Groups.{is_answer, is_04xx}
-use Rattle.iso_message.specs.Keys.{key_of}
-use Rattle.iso_message.specs.Codes.{code_of, code_00}
+use Rattle.message_elements.specs.Groups.{is_answer, is_04xx}
+use Rattle.message_keys.specs.Keys.{key_of, code_of}
+use Rattle.message_elements.specs.Codes.{code_00}
 use Rattle.net_rows.specs.Network.{Network}
 use Rattle.network_law.specs.Traces.{ReadInput, Take, HostAnswer, History, IsIn, answer, forwarded, ask_key, Advice, advices, late_key}
 

@@ -1,22 +1,22 @@
 -- Which inputs a node refuses, and with which fault, its messages read. The first fault in the order of the tests is given.
 use Rattle.std.specs.Prelude.{ℕ, ◌+◌, ◌-◌, List, [], ◌∷◌, Bool, true, false, ◌&&◌, ◌||◌, not, if◌then◌else◌, ◌==◌, length, nat_lt, bytes_eq, codes, Option, Some, None, unwrap_or, is_some, is_none}
 use Rattle.std.specs.Option.{option_or, option_map}
-use Rattle.iso_message.specs.declared.kind.Kind.{Kind}
-use Rattle.iso_message.specs.declared.kind.Kind.TheVariants.{K0100, K0101, K0130, K0400, K0401, K0410, K0420, K0421}
-use Rattle.iso_message.specs.declared.kind.Group.{Group}
-use Rattle.iso_message.specs.declared.kind.Group.TheVariants as groups
+use Rattle.message_elements.specs.declared.kind.Kind.{Kind}
+use Rattle.message_elements.specs.declared.kind.Kind.TheVariants.{K0100, K0101, K0130, K0400, K0401, K0410, K0420, K0421}
+use Rattle.message_elements.specs.declared.kind.Group.{Group}
+use Rattle.message_elements.specs.declared.kind.Group.TheVariants as groups
 use Rattle.iso_message.specs.Finding.{find_element, without, put}
 use Rattle.iso_message.specs.Fields.{Fields, el, get, has, set_element, remove_element}
-use Rattle.iso_message.specs.Groups.{group, is_answer, is_reversal, is_04xx}
-use Rattle.iso_message.specs.Keys.{key_of, own_key, original_key, part, content, identity_of}
-use Rattle.iso_message.specs.Codes.{code_of, code_00}
+use Rattle.message_elements.specs.Groups.{group, is_answer, is_reversal, is_04xx}
+use Rattle.message_keys.specs.Keys.{key_of, own_key, original_key, part, content, identity_of, code_of}
+use Rattle.message_elements.specs.Codes.{code_00}
 use Rattle.iso_message.specs.Made.{made_reversal, made_stand_in, response, made_from}
 use Rattle.net_rows.specs.Network.{Network, issuer}
 use Rattle.network_law.specs.declared.fault.StepFault.{StepFault}
 use Rattle.network_law.specs.declared.fault.StepFault.TheVariants.{ForeignAcquirer, Missing, TypeNotForGate, UnknownAsk, Replacement, NotLent, NoPlace}
 use Rattle.card_digits.specs.Numbers.{decimal, pad11}
 use Rattle.network_law.specs.Cards.{card_of, is_good_card}
-use Rattle.iso_message.specs.Amounts.{actual_amount}
+use Rattle.message_keys.specs.Amounts.{actual_amount}
 use Rattle.network_law.specs.Tables.{is_attached, is_named, node_id, links_between}
 use Rattle.network_law.specs.declared.grant.Grant.{Grant}
 use Rattle.network_law.specs.declared.grant.GrantPacket.TheVariants as packets

@@ -1,7 +1,7 @@
 -- Legal traces of a node, and runs of a network.
 use Rattle.std.specs.Prelude.{ℕ, ◌<◌, ◌≤◌, ◌≡◌, List, [], ◌∷◌, length, map, true, nat_le, if◌then◌else◌, Option, Some, None, Result, Ok, Err, ⊤}
 use Rattle.card_digits.specs.Digits.{IsDateLabel, IsCard}
-use Rattle.iso_message.specs.declared.fault.DecodeFault.{DecodeFault}
+use Rattle.message_elements.specs.declared.fault.DecodeFault.{DecodeFault}
 use Rattle.net_rows.specs.Network.{Network, other_end}
 use Rattle.network_law.specs.declared.fault.StepFault.{StepFault}
 use Rattle.network_law.specs.declared.fault.StepFault.TheVariants.{Decode, HistoryFull}

@@ -13,18 +13,18 @@ use Rattle.network_law.specs.declared.grant.Grant.{Grant}
 use Rattle.network_law.specs.declared.grant.GrantPacket.{GrantPacket}
 use Rattle.network_law.specs.declared.grant.GrantPacket.TheVariants as packets
 use Rattle.network_law.specs.Cards.{label_of, text_of, Bytes, card_of}
-use Rattle.iso_message.specs.Amounts.{actual_amount}
+use Rattle.message_keys.specs.Amounts.{actual_amount}
 use Rattle.iso_message.specs.Fields.{Fields, el, set_element, remove_element, as_kind, get}
-use Rattle.iso_message.specs.declared.kind.Group.{Group}
-use Rattle.iso_message.specs.Groups.{group, is_request, is_answer, is_04xx}
-use Rattle.iso_message.specs.declared.kind.Kind.TheVariants.{K0420, K0120}
+use Rattle.message_elements.specs.declared.kind.Group.{Group}
+use Rattle.message_elements.specs.Groups.{group, is_request, is_answer, is_04xx}
+use Rattle.message_elements.specs.declared.kind.Kind.TheVariants.{K0420, K0120}
 use Rattle.card_digits.specs.declared.key.Key.{Key}
-use Rattle.iso_message.specs.Keys.{key_eq, key_of, identity_of, identity_eq, own_key, original_key, content}
-use Rattle.iso_message.specs.declared.keys.AdviceId.{AdviceId}
-use Rattle.iso_message.specs.Codes.{code_of, code_00, code_94}
+use Rattle.message_keys.specs.Keys.{key_eq, key_of, identity_of, identity_eq, own_key, original_key, content, code_of}
+use Rattle.message_keys.specs.declared.keys.AdviceId.{AdviceId}
+use Rattle.message_elements.specs.Codes.{code_00, code_94}
 use Rattle.iso_message.specs.Made.{with_date, without_forwarder, made_reversal, made_stand_in, response, made_from}
 use Rattle.iso_message.specs.Finding.{find_element, without, put}
-use Rattle.iso_message.specs.declared.kind.Group.TheVariants as groups
+use Rattle.message_elements.specs.declared.kind.Group.TheVariants as groups
 
 -- where a message came from: the acquirers at the gate, or a link
 pub data Source : Type 0 where

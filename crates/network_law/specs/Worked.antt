@@ -1,7 +1,7 @@
 -- Small networks, messages and traces, by which the definitions are tried.
 use Rattle.std.specs.Prelude.{ℕ, zero, suc, List, [], ◌∷◌, ◌++◌, replicate, codes, Option, Some}
-use Rattle.iso_message.specs.declared.kind.Kind.{Kind}
-use Rattle.iso_message.specs.declared.kind.Kind.TheVariants.{K0100, K0110, K0120, K0130, K0400, K0410, K0420, K0430}
+use Rattle.message_elements.specs.declared.kind.Kind.{Kind}
+use Rattle.message_elements.specs.declared.kind.Kind.TheVariants.{K0100, K0110, K0120, K0130, K0400, K0410, K0420, K0430}
 use Rattle.iso_message.specs.Fields.{Fields}
 use Rattle.net_rows.specs.Network.{Network}
 use Rattle.net_rows.specs.declared.row.Settings.{Settings}

@@ -1,7 +1,7 @@
 -- A run of two hops in which the host's approval comes to A after A stood in: A's reversal and its advice are posted by H, once each,
 -- though A sends the reversal twice, as what acknowledged it first is lost.
 use Rattle.std.specs.Prelude.{ℕ, zero, suc, List, [], ◌∷◌, codes}
-use Rattle.iso_message.specs.declared.kind.Kind.TheVariants.{K0421}
+use Rattle.message_elements.specs.declared.kind.Kind.TheVariants.{K0421}
 use Rattle.network_law.specs.Traces.{ReadInput, Enter, Take, Tick, HostAnswer, ReadOutput, Put, Answer, Ask, Post}
 use Rattle.network_law.specs.Entries.{ReadEntry}
 use Rattle.network_law.specs.Worked.{entered, forwarded, answered, reversal, reversal_as, acknowledged, stand_in, stand_in_acknowledged, one, ten_dollars}

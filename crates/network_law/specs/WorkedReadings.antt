@@ -1,7 +1,7 @@
 -- Messages by which settled readings are tried: with further elements, on another date, and at a home that stands in.
 use Rattle.std.specs.Prelude.{ℕ, List, [], ◌∷◌, ◌++◌, replicate, codes}
-use Rattle.iso_message.specs.declared.kind.Kind.{Kind}
-use Rattle.iso_message.specs.declared.kind.Kind.TheVariants.{K0100, K0110, K0120, K0420}
+use Rattle.message_elements.specs.declared.kind.Kind.{Kind}
+use Rattle.message_elements.specs.declared.kind.Kind.TheVariants.{K0100, K0110, K0120, K0420}
 use Rattle.iso_message.specs.Fields.{Fields}
 use Rattle.net_rows.specs.Network.{Network}
 use Rattle.network_law.specs.declared.grant.GrantPacket.{GrantPacket}

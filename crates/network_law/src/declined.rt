@@ -1,6 +1,6 @@
 //! Steps that are worked by hand: what is declined, and on which link something is put.
 ghost use Rattle.std.specs.Prelude.{◌≡◌, [], ◌∷◌, codes};
-ghost use Rattle.iso_message.specs.declared.kind.Kind.TheVariants.{K0101, K0120, K0130, K0400, K0401, K0410, K0420, K0421, K0430};
+ghost use Rattle.message_elements.specs.declared.kind.Kind.TheVariants.{K0101, K0120, K0130, K0400, K0401, K0410, K0420, K0421, K0430};
 ghost use Rattle.iso_message.specs.Fields.{as_kind};
 ghost use Rattle.network_law.specs.Traces.{load, Enter, Take, LinkUp, LinkDown, HostAnswer, Put, Answer, Ask, Post};
 ghost use Rattle.network_law.specs.Worked.{base, diamond, entered, entered_card, answered_card, forwarded, answered, reversal, reversal_by, acknowledged, stand_in, stand_in_acknowledged, reversal_by_acquirer, reversal_reply, reversal_reply_with, one, ten_dollars, twenty_dollars, history_after, outputs_after, ticks};

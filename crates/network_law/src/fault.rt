@@ -1,6 +1,6 @@
 //! Why a step is refused.
 
-use iso_message::DecodeFault;
+use message_elements::DecodeFault;
 use std::alloc::AllocError;
 use thiserror::Error;
 

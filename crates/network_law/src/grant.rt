@@ -1,7 +1,7 @@
 //! Grants of lent amounts, and the packets by which they go over links.
 ghost use Rattle.std.specs.Prelude.{◌≡◌, ◌<◌, ◌≤◌, ◌+◌, ◌++◌, true, length, IfOk, OnOk};
 ghost use Rattle.card_digits.specs.Digits.{AreDigits};
-ghost use Rattle.iso_message.specs.Keys.{part};
+ghost use Rattle.message_keys.specs.Keys.{part};
 ghost use Rattle.network_law.specs.Cards.{text_of};
 ghost use Rattle.network_law.specs.Grants.{number_text, grant_bytes, packet_bytes, is_word_and_digits, is_grant, grant_at, card_size, read_packet};
 

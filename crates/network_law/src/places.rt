@@ -1,7 +1,7 @@
 //! Steps that are worked by hand: how many places are taken, and what follows where all are.
 ghost use Rattle.std.specs.Prelude.{◌≡◌, ℕ, suc, true, false, [], ◌∷◌, codes, Some, None};
-ghost use Rattle.iso_message.specs.declared.kind.Kind.TheVariants.{K0400};
-ghost use Rattle.iso_message.specs.Keys.{key_of, identity_of};
+ghost use Rattle.message_elements.specs.declared.kind.Kind.TheVariants.{K0400};
+ghost use Rattle.message_keys.specs.Keys.{key_of, identity_of};
 ghost use Rattle.network_law.specs.declared.fault.StepFault.TheVariants.{NoPlace};
 ghost use Rattle.network_law.specs.Traces.{ReadInput, Gate, History, load, date_of, opening, answer as answer_of, reversed, known, is_up, put_count, ask_key, Enter, Take, TakePacket, LinkDown, HostAnswer, Put, Answer};
 ghost use Rattle.network_law.specs.Refusals.{refusal};

@@ -1,6 +1,6 @@
 //! Steps that are worked by hand: readings that could go two ways.
 ghost use Rattle.std.specs.Prelude.{◌≡◌, [], ◌∷◌, codes, Some, None};
-ghost use Rattle.iso_message.specs.declared.kind.Kind.TheVariants.{K0100, K0400, K0401, K0410, K0420};
+ghost use Rattle.message_elements.specs.declared.kind.Kind.TheVariants.{K0100, K0400, K0401, K0410, K0420};
 ghost use Rattle.iso_message.specs.Fields.{as_kind};
 ghost use Rattle.network_law.specs.declared.fault.StepFault.TheVariants.{ForeignAcquirer, Missing, TypeNotForGate, Replacement, NotLent};
 ghost use Rattle.network_law.specs.Traces.{History, load, Enter, Take, TakePacket, LinkDown, NewDate, Lend, Put, PutPacket, Answer, Post};

@@ -1,7 +1,7 @@
 //! Steps that are worked by hand from bytes to bytes.
 ghost use Rattle.std.specs.Prelude.{◌≡◌, List, [], ◌++◌, length, codes, Some, None, Ok};
 ghost use Rattle.iso_message.specs.Messages.{read};
-ghost use Rattle.iso_message.specs.declared.fault.DecodeFault.TheVariants.{Short, BadType};
+ghost use Rattle.message_elements.specs.declared.fault.DecodeFault.TheVariants.{Short, BadType};
 ghost use Rattle.network_law.specs.declared.fault.StepFault.TheVariants.{Decode, HistoryFull};
 ghost use Rattle.iso_message.specs.Spelling.{spelling};
 ghost use Rattle.network_law.specs.Entries.{Input, Enter, Take, LinkUp, Entry};

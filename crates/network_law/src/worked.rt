@@ -1,11 +1,11 @@
 //! Steps, traces and a run that are worked by hand: the definitions say what they should.
 ghost use Rattle.std.specs.Prelude.{◌≡◌, ℕ, true, false, List, [], ◌∷◌, ◌++◌, drop, codes, Some, None};
 ghost use Rattle.network_law.specs.Grants.{packet_bytes, read_packet};
-ghost use Rattle.iso_message.specs.declared.kind.Kind.TheVariants.{K0100, K0400, K0420, K0421};
+ghost use Rattle.message_elements.specs.declared.kind.Kind.TheVariants.{K0100, K0400, K0420, K0421};
 ghost use Rattle.network_law.specs.Traces.{ReadInput, Gate, forwarded as forwarded_on, comes_late, advices, History, load, date_of, opening, reversed, known, used, borrowed, lent, Enter, Take, TakePacket, LinkUp, LinkDown, Tick, HostAnswer, NewDate, Lend, Put, PutPacket, Answer, Ask, Post};
 ghost use Rattle.network_law.specs.declared.fault.StepFault.TheVariants.{ForeignAcquirer, Missing, TypeNotForGate, UnknownAsk, Replacement, NotLent, NoPlace};
 ghost use Rattle.network_law.specs.Refusals.{refusal};
-ghost use Rattle.iso_message.specs.Keys.{key_of, identity_of};
+ghost use Rattle.message_keys.specs.Keys.{key_of, identity_of};
 ghost use Rattle.network_law.specs.Decision.{decide};
 ghost use Rattle.network_law.specs.Entries.{read_history, spelled_trace, newest_outputs};
 ghost use Rattle.network_law.specs.Claims.{post_count, exposure};

@@ -1,9 +1,9 @@
 -- What an output does to the store and the books.
 use Rattle.std.proofs.Common.{◌≡◌, List, [], ◌∷◌, map, Some, None, Bool, true, false, ◌||◌, cond, refl}
 use Rattle.iso_message.specs.Fields.{Fields}
-use Rattle.iso_message.specs.Groups.{group}
-use Rattle.iso_message.specs.Keys.{identity_of}
-use Rattle.iso_message.specs.declared.keys.AdviceId.{AdviceId}
+use Rattle.message_elements.specs.Groups.{group}
+use Rattle.message_keys.specs.Keys.{identity_of}
+use Rattle.message_keys.specs.declared.keys.AdviceId.{AdviceId}
 use Rattle.network_law.specs.Traces.{ReadOutput, Put, Answer, Ask, Post, PutPacket, is_advice_group, is_put_of}
 use Rattle.node_machine.specs.Books.{Stored, Advised, Granted}
 use Rattle.node_machine.specs.Machine.{marked}

@@ -7,8 +7,8 @@ use Rattle.network_law.specs.Traces.{ReadOutput, Put, Answer, Ask, Post, PutPack
 use Rattle.node_machine.specs.Counts.{PutsAreWithin}
 use Rattle.node_machine.specs.Lists.{Lists, after_output, is_among, give_back_to, leaves}
 use Rattle.node_machine.proofs.Puts.{before_put, before_up}
-use Rattle.iso_message.specs.Groups.{is_04xx}
-use Rattle.iso_message.specs.Keys.{key_of, identity_of}
+use Rattle.message_elements.specs.Groups.{is_04xx}
+use Rattle.message_keys.specs.Keys.{key_of, identity_of}
 use Rattle.node_machine.specs.Books.{Advised}
 use Rattle.node_books.specs.Effects.{applied_one, applied, keep_in}
 use Rattle.node_books.specs.Values.{AreFew, NewAdvice}

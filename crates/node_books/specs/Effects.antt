@@ -1,7 +1,7 @@
 -- What an entry does to the lists, one change after the other.
 use Rattle.std.specs.Prelude.{suc, List, [], ◌∷◌, ◌++◌, reverse, filter, ◌&&◌, not, if◌then◌else◌}
-use Rattle.iso_message.specs.Groups.{is_04xx}
-use Rattle.iso_message.specs.Keys.{key_of, identity_of}
+use Rattle.message_elements.specs.Groups.{is_04xx}
+use Rattle.message_keys.specs.Keys.{key_of, identity_of}
 use Rattle.network_law.specs.Traces.{ReadOutput, PutPacket}
 use Rattle.node_machine.specs.Books.{Advised, Granted}
 use Rattle.node_machine.specs.Lists as lists

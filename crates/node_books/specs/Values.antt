@@ -2,8 +2,8 @@
 use Rattle.std.specs.Prelude.{◌≤◌, ◌+◌, ◌^◌, ℕ, Bool, ◌&&◌, not, if◌then◌else◌, Option, Some, None}
 use Rattle.card_digits.specs.declared.key.Key.{Key}
 use Rattle.iso_message.specs.Fields.{Fields}
-use Rattle.iso_message.specs.Groups.{is_04xx}
-use Rattle.iso_message.specs.Keys.{key_of, key_eq}
+use Rattle.message_elements.specs.Groups.{is_04xx}
+use Rattle.message_keys.specs.Keys.{key_of, key_eq}
 use Rattle.node_machine.specs.Counts.{PutsAreWithin}
 use Rattle.node_machine.specs.Lists.{Lists, leaves}
 

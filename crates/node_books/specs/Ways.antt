@@ -1,6 +1,6 @@
 -- What outputs do to the books, as code keeps them.
 use Rattle.std.specs.Prelude.{List, [], ◌∷◌, ◌++◌, map, Option, Some, None}
-use Rattle.iso_message.specs.declared.keys.AdviceId.{AdviceId}
+use Rattle.message_keys.specs.declared.keys.AdviceId.{AdviceId}
 use Rattle.node_machine.specs.Books.{Stored}
 use Rattle.advice_store.specs.Advices.{marked_by}
 use Rattle.card_digits.specs.declared.key.Key.{Key}

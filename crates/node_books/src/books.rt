@@ -26,7 +26,7 @@ use crate::effect::{Effect, NewAdvice};
 use crate::links::{LinkState, Links};
 use advice_store::{AdviceStore, KeptAdvice, KeptGrant, StoredItem};
 use card_digits::{Amount, DateLabel, Key, LinkNo};
-use iso_message::AdviceId;
+use message_keys::AdviceId;
 use network_law::GrantPacket;
 use request_book::{Mark, PendingBook, PreparedOutput, Row, Span, Way};
 use standin_book::{Borrowed, CardDay, LendingBook, Loan, OwnApproval, StandInBook};

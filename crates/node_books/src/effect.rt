@@ -1,12 +1,13 @@
 //! What an entry does to the books.
 ghost use Rattle.std.specs.Prelude.{◌≡◌, true, false};
-ghost use Rattle.iso_message.specs.Keys.{identity_of};
+ghost use Rattle.message_keys.specs.Keys.{identity_of};
 ghost use Rattle.node_machine.specs.Lists.{leaves};
 ghost use Rattle.node_books.specs.Values.{leaves_of};
 
 use advice_store::KeptGrant;
 use card_digits::{Amount, DateLabel, Key, LinkNo};
-use iso_message::{AdviceId, Message, same_key};
+use iso_message::Message;
+use message_keys::{AdviceId, same_key};
 use network_law::GrantPacket;
 use request_book::{PreparedOutput, Row};
 use standin_book::OwnApproval;
@@ -26,7 +27,7 @@ pub struct NewAdvice {
 
 impl Model for NewAdvice {
     ghost use Rattle.std.specs.Prelude.{◌≡◌, false};
-    ghost use Rattle.iso_message.specs.Keys.{identity_of};
+    ghost use Rattle.message_keys.specs.Keys.{identity_of};
     ghost use Rattle.node_machine.specs.Lists.{leaves};
     ghost use Rattle.node_books.specs.Values.{NewAdvice};
 

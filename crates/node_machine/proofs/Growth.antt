@@ -4,13 +4,13 @@ use Rattle.std.specs.Prelude.{nat_lt}
 use Rattle.std.proofs.lemmas.Bool.{cond_both}
 use Rattle.std.proofs.lemmas.List.{length-map, length-append, length-reverse}
 use Rattle.card_digits.specs.declared.key.Key.{Key}
-use Rattle.iso_message.specs.declared.kind.Kind.TheVariants.{K0100}
-use Rattle.iso_message.specs.declared.kind.Group.{Group}
-use Rattle.iso_message.specs.declared.kind.Group.TheVariants as groups
+use Rattle.message_elements.specs.declared.kind.Kind.TheVariants.{K0100}
+use Rattle.message_elements.specs.declared.kind.Group.{Group}
+use Rattle.message_elements.specs.declared.kind.Group.TheVariants as groups
 use Rattle.iso_message.specs.Fields.{Fields, el, as_kind}
-use Rattle.iso_message.specs.Groups.{group, is_request, is_04xx}
-use Rattle.iso_message.specs.Keys.{key_of, content, content_eq, identity_of}
-use Rattle.iso_message.specs.Codes.{code_of, code_00, code_05, code_68, code_96}
+use Rattle.message_elements.specs.Groups.{group, is_request, is_04xx}
+use Rattle.message_keys.specs.Keys.{key_of, content, content_eq, identity_of, code_of}
+use Rattle.message_elements.specs.Codes.{code_00, code_05, code_68, code_96}
 use Rattle.iso_message.specs.Made.{made_reversal, response}
 use Rattle.net_rows.specs.Network.{Network, issuer}
 use Rattle.net_rows.specs.declared.row.Issuer.{Issuer}

@@ -4,7 +4,7 @@ use Rattle.std.specs.List.{position}
 use Rattle.std.specs.Result.{result_ok}
 use Rattle.std.specs.Cmp.Lexicographic.{pointwise}
 use Rattle.card_digits.specs.Reading.{read_digits}
-use Rattle.iso_message.specs.Codes.{read_code}
+use Rattle.message_elements.specs.Codes.{read_code}
 use Rattle.net_rows.specs.Network.{Network}
 use Rattle.network_law.specs.Tables.{is_link_of}
 use Rattle.replay_script.specs.declared.command.Command.{Command}

@@ -1,7 +1,7 @@
 //! What a line of a script says.
 
 use card_digits::{DateLabel, LinkNo, NodeNo};
-use iso_message::Code;
+use message_elements::Code;
 use step_rules::Lending;
 
 /// What happens at a node.

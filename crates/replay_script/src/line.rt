@@ -6,7 +6,7 @@ ghost use Rattle.replay_script.specs.Lines.{said, enter, take, own_link, link_up
 use crate::command::{Command, Loan, ScriptLine};
 use crate::words::{amount_of, number_of, word_and_rest};
 use card_digits::{Card, DateLabel, LinkNo, NodeNo};
-use iso_message::Code;
+use message_elements::Code;
 use net_rows::Tables;
 use step_rules::{Lending, is_link_of};
 

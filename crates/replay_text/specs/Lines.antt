@@ -2,8 +2,8 @@
 use Rattle.std.specs.Prelude.{ℕ, suc, List, [], ◌∷◌, ◌++◌, reverse, codes}
 use Rattle.std.specs.Fmt.{decimal}
 use Rattle.std.specs.List.{concat, flat_map}
-use Rattle.iso_message.specs.declared.fault.DecodeFault.{DecodeFault}
-use Rattle.iso_message.specs.declared.fault.DecodeFault.TheVariants as decoding
+use Rattle.message_elements.specs.declared.fault.DecodeFault.{DecodeFault}
+use Rattle.message_elements.specs.declared.fault.DecodeFault.TheVariants as decoding
 use Rattle.net_rows.specs.Network.{Network}
 use Rattle.network_law.specs.declared.fault.StepFault.{StepFault}
 use Rattle.network_law.specs.declared.fault.StepFault.TheVariants as refused

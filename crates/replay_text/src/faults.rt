@@ -2,7 +2,7 @@
 ghost use Rattle.std.specs.Prelude.{◌≡◌, IfOk, string_bytes};
 ghost use Rattle.replay_text.specs.Lines.{decode_fault_text, step_fault_text, script_fault_line};
 
-use iso_message::DecodeFault;
+use message_elements::DecodeFault;
 use net_replay::ReplayFault;
 use network_law::StepFault;
 use std::alloc::{AllocError, Global};

@@ -7,8 +7,8 @@ use Rattle.std.specs.Map.{lookup}
 use Rattle.std.proofs.lemmas.Bool.{cases_Bool, cases_lt, cases_eq, eqb-true}
 use Rattle.card_digits.specs.declared.key.Key.{Key}
 use Rattle.iso_message.specs.Fields.{Fields}
-use Rattle.iso_message.specs.Groups.{is_request}
-use Rattle.iso_message.specs.Keys.{key_eq, key_of}
+use Rattle.message_elements.specs.Groups.{is_request}
+use Rattle.message_keys.specs.Keys.{key_eq, key_of}
 use Rattle.network_law.proofs.Emits.{key_eq_is}
 use Rattle.network_law.specs.Traces.{ReadOutput, Put, Answer, Ask, Post, PutPacket, forwards, answers, sent, is_link}
 use Rattle.node_machine.specs.Lists.{Row, of_key, row_key, row_has, row_after, row_pending}

@@ -1,7 +1,7 @@
 -- Keys as a map compares them.
 use Rattle.std.proofs.Common.{◌≡◌, Bool, true, false, ◌&&◌, bytes_eq, refl}
 use Rattle.card_digits.specs.declared.key.Key.{Key}
-use Rattle.iso_message.specs.Keys.{key_eq}
+use Rattle.message_keys.specs.Keys.{key_eq}
 use Rattle.request_book.specs.Kept.{found_key}
 
 and_other : (a b c : Bool) → (a && (b && c)) ≡ ((a && b) && c)

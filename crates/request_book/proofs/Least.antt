@@ -5,7 +5,7 @@ use Rattle.std.specs.Map.{lookup}
 use Rattle.std.proofs.lemmas.Bool.{cases_Bool}
 use Rattle.std.proofs.lemmas.List.Folds.{list_any-append}
 use Rattle.card_digits.specs.declared.key.Key.{Key}
-use Rattle.iso_message.specs.Keys.{key_eq}
+use Rattle.message_keys.specs.Keys.{key_eq}
 use Rattle.network_law.proofs.Emits.{key_eq_is}
 use Rattle.node_machine.specs.Lists.{Mark, is_marked, left_mark, left_marks}
 use Rattle.request_book.specs.Kept.{AreLeast, at_most, found_key}

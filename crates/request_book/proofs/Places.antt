@@ -6,7 +6,7 @@ use Rattle.std.specs.Option.{option_map, option_or}
 use Rattle.std.proofs.lemmas.Bool.{cases_Bool}
 use Rattle.std.proofs.lemmas.List.Sums.{sum_by-append, count_by-le-length}
 use Rattle.card_digits.specs.declared.key.Key.{Key}
-use Rattle.iso_message.specs.Keys.{key_eq}
+use Rattle.message_keys.specs.Keys.{key_eq}
 use Rattle.network_law.proofs.Emits.{key_eq_is}
 use Rattle.iso_message.specs.Fields.{Fields}
 use Rattle.network_law.specs.Traces.{ReadOutput, answers, sent, forwards}

@@ -4,9 +4,9 @@ use Rattle.std.specs.Prelude.{is_none, is_some, bytes_eq}
 use Rattle.std.specs.Option.{option_or, option_map, option_copied}
 use Rattle.card_digits.specs.declared.key.Key.{Key}
 use Rattle.iso_message.specs.Fields.{Fields}
-use Rattle.iso_message.specs.Groups.{is_request, is_answer}
-use Rattle.iso_message.specs.Codes.{code_of, code_94}
-use Rattle.iso_message.specs.Keys.{key_of, key_eq}
+use Rattle.message_elements.specs.Groups.{is_request, is_answer}
+use Rattle.message_keys.specs.Keys.{code_of, key_of, key_eq}
+use Rattle.message_elements.specs.Codes.{code_94}
 use Rattle.network_law.specs.Traces.{ReadOutput, Put, Answer, Ask, Post, PutPacket, answers, forwards}
 use Rattle.network_law.proofs.Emits.{key_eq_refl, key_eq_is}
 use Rattle.node_machine.specs.Lists.{Row, of_key, row_key, row_after}

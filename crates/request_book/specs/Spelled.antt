@@ -1,8 +1,8 @@
 -- A message that is kept as the bytes that spell it.
 use Rattle.std.specs.Prelude.{◌≡◌, ℕ, List, [], Option, Result, Ok, Err}
-use Rattle.iso_message.specs.declared.fault.DecodeFault.{DecodeFault}
-use Rattle.iso_message.specs.declared.kind.Kind.{Kind}
-use Rattle.iso_message.specs.declared.kind.Kind.TheVariants.{K0100}
+use Rattle.message_elements.specs.declared.fault.DecodeFault.{DecodeFault}
+use Rattle.message_elements.specs.declared.kind.Kind.{Kind}
+use Rattle.message_elements.specs.declared.kind.Kind.TheVariants.{K0100}
 use Rattle.iso_message.specs.Fields.{Fields, get}
 use Rattle.iso_message.specs.Messages.{read}
 use Rattle.iso_message.specs.Spelling.{spelling}

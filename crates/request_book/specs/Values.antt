@@ -1,10 +1,11 @@
 -- What contracts see of requests and outputs.
 use Rattle.std.specs.Prelude.{◌≡◌, ◌<◌, ◌≤◌, ℕ, List, [], ◌∷◌, ◌++◌, Bool, true, ◌&&◌, if◌then◌else◌, slice_get, Option, Some, None, is_none, ⊤}
 use Rattle.card_digits.specs.declared.key.Key.{Key}
-use Rattle.iso_message.specs.declared.kind.Kind.TheVariants.{K0100}
+use Rattle.message_elements.specs.declared.kind.Kind.TheVariants.{K0100}
 use Rattle.iso_message.specs.Fields.{Fields}
-use Rattle.iso_message.specs.Groups.{is_request, is_answer}
-use Rattle.iso_message.specs.Keys.{key_of, has_own_key}
+use Rattle.message_elements.specs.Groups.{is_request, is_answer}
+use Rattle.message_keys.specs.Keys.{key_of}
+use Rattle.iso_message.specs.Made.{has_own_key}
 use Rattle.network_law.specs.Traces.{Source, Gate, ByLink, ReadOutput, Put, Answer, Ask, Post, PutPacket, is_link}
 use Rattle.node_machine.specs.Lists.{Row, Mark, of_key, row_key, row_pending}
 use Rattle.std.specs.List.{Contains}

@@ -1,9 +1,9 @@
 -- Outputs as code keeps them.
 use Rattle.std.specs.Prelude.{ℕ, Bool, false, ◌==◌, Option, Some, None, if◌then◌else◌}
 use Rattle.iso_message.specs.Fields.{Fields}
-use Rattle.iso_message.specs.Groups.{group}
-use Rattle.iso_message.specs.Keys.{identity_of}
-use Rattle.iso_message.specs.declared.keys.AdviceId.{AdviceId}
+use Rattle.message_elements.specs.Groups.{group}
+use Rattle.message_keys.specs.Keys.{identity_of}
+use Rattle.message_keys.specs.declared.keys.AdviceId.{AdviceId}
 use Rattle.network_law.specs.Traces.{ReadOutput, Put, Answer, Ask, Post, PutPacket, is_advice_group}
 use Rattle.request_book.specs.declared.output.Way.{Way}
 use Rattle.request_book.specs.declared.output.Way.TheVariants as ways

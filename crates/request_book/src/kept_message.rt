@@ -1,9 +1,11 @@
 //! Messages as the books keep them.
 ghost use Rattle.std.specs.Prelude.{◌≡◌, bytes_eq, [], IfOk, OnOk, OnErr};
-ghost use Rattle.iso_message.specs.Codes.{code_of};
+ghost use Rattle.message_keys.specs.Keys.{code_of};
 ghost use Rattle.iso_message.specs.Spelling.{spelling};
 
-use iso_message::{Code, Kind, Message, code_of, decode};
+use iso_message::{Message, decode};
+use message_elements::{Code, Kind};
+use message_keys::code_of;
 use shared_bytes::SharedBytes;
 use std::alloc::AllocError;
 use std::marker::Model;

@@ -1,15 +1,15 @@
 //! An output that is made ready.
 ghost use Rattle.std.specs.Prelude.{◌≡◌, bytes_eq, true, false, Some};
-ghost use Rattle.iso_message.specs.Codes.{code_of};
-ghost use Rattle.iso_message.specs.Groups.{is_request, is_answer, group};
-ghost use Rattle.iso_message.specs.Keys.{key_of, identity_of};
+ghost use Rattle.message_keys.specs.Keys.{code_of, key_of, identity_of};
+ghost use Rattle.message_elements.specs.Groups.{is_request, is_answer, group};
 ghost use Rattle.network_law.specs.Traces.{Put, Answer, Ask, Post, is_advice_group, is_put_of, forwards};
 ghost use Rattle.request_book.specs.Values.{output_key};
 ghost use Rattle.request_book.specs.Values.{message_of};
 
 use crate::kept_message::KeptMessage;
 use card_digits::{Key, LinkNo};
-use iso_message::{AdviceId, Group, Kind, same_identity, same_key};
+use message_elements::{Group, Kind};
+use message_keys::{AdviceId, same_identity, same_key};
 use std::marker::Model;
 
 /// Where an output goes.
@@ -36,7 +36,7 @@ pub struct PreparedOutput {
 
 impl Model for PreparedOutput {
     ghost use Rattle.std.specs.Prelude.{◌≡◌};
-    ghost use Rattle.iso_message.specs.Keys.{key_of};
+    ghost use Rattle.message_keys.specs.Keys.{key_of};
     ghost use Rattle.network_law.specs.Traces.{ReadOutput};
     ghost use Rattle.request_book.specs.Ways.{output_of, advice_of};
 

@@ -1,8 +1,9 @@
 //! A request, open or answered.
 ghost use Rattle.std.specs.Prelude.{◌≡◌, true, None, IfSome, is_none};
 ghost use Rattle.std.specs.Option.{option_copied};
-ghost use Rattle.iso_message.specs.Keys.{key_of, key_eq, has_own_key};
-ghost use Rattle.iso_message.specs.Groups.{is_request, is_answer};
+ghost use Rattle.message_keys.specs.Keys.{key_of, key_eq};
+ghost use Rattle.iso_message.specs.Made.{has_own_key};
+ghost use Rattle.message_elements.specs.Groups.{is_request, is_answer};
 ghost use Rattle.node_machine.specs.Lists.{row_after};
 ghost use Rattle.request_book.specs.Values.{source_of, output_key, IsKeyOf, IsAnswerOf};
 ghost use Rattle.std.specs.Prelude.{false};

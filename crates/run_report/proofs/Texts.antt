@@ -4,11 +4,10 @@ use Rattle.std.specs.Result.{result_ok}
 use Rattle.std.specs.Str.{IsUtf8}
 use Rattle.std.proofs.lemmas.Bool.{and_parts, leb-true}
 use Rattle.std.proofs.lemmas.Str.{IsUtf8-from_ascii}
-use Rattle.iso_message.specs.declared.fault.DecodeFault.{DecodeFault}
-use Rattle.iso_message.specs.declared.fault.DecodeFault.TheVariants.{Short, BadType, BitMap, Element, Length, Character, Trailing, Memory}
-use Rattle.iso_message.specs.declared.form.Class.TheVariants.{Text}
-use Rattle.iso_message.specs.Elements.{fits}
-use Rattle.iso_message.specs.Grammar.{AreOf}
+use Rattle.message_elements.specs.declared.fault.DecodeFault.{DecodeFault}
+use Rattle.message_elements.specs.declared.fault.DecodeFault.TheVariants.{Short, BadType, BitMap, Element, Length, Character, Trailing, Memory}
+use Rattle.message_elements.specs.declared.form.Class.TheVariants.{Text}
+use Rattle.message_elements.specs.Values.{fits, AreOf}
 use Rattle.iso_message.specs.Messages.{Fails}
 
 -- a fault other than want of memory is that of reading

@@ -3,7 +3,7 @@ use Rattle.std.specs.Prelude.{ℕ, nat_le, Bool, false, List, Result, Ok, Err, i
 use Rattle.std.specs.Option.{option_map_or}
 use Rattle.card_digits.specs.Numbers.{read_amount}
 use Rattle.card_digits.specs.declared.card.DigitFault.{DigitFault}
-use Rattle.iso_message.specs.Codes.{code_00, code_05}
+use Rattle.message_elements.specs.Codes.{code_00, code_05}
 use Rattle.iso_message.specs.Fields.{Fields, get}
 
 abbrev pub is_at_most : ℕ → Result ℕ DigitFault → Bool

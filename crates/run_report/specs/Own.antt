@@ -3,9 +3,9 @@ use Rattle.std.specs.Prelude.{ℕ, ◌+◌, ◌&&◌, Bool, true, false, not, Li
 use Rattle.std.specs.List.{list_any, starts_with}
 use Rattle.std.specs.Result.{result_ok}
 use Rattle.card_digits.specs.declared.key.Key.{Key}
-use Rattle.iso_message.specs.Codes.{code_00, code_94}
+use Rattle.message_elements.specs.Codes.{code_00, code_94}
 use Rattle.iso_message.specs.Fields.{Fields, get}
-use Rattle.iso_message.specs.Keys.{when, has_key, key_of, key_eq}
+use Rattle.message_keys.specs.Keys.{when, has_key, key_of, key_eq}
 use Rattle.iso_message.specs.Messages.{read}
 use Rattle.network_law.specs.Entries.{Entry, Input, Take, HostAnswer, Output, Put, Answer, Post}
 use Rattle.run_report.specs.declared.answered.Answered.{Answered}

@@ -3,7 +3,8 @@ ghost use Rattle.std.specs.Prelude.{◌≡◌};
 ghost use Rattle.run_report.specs.Hosts.{is_within, limit_code};
 
 use card_digits::Amount;
-use iso_message::{Code, Message};
+use iso_message::Message;
+use message_elements::Code;
 use net_operate::Host;
 
 /// Answers 00 up to an amount, and 05 above it and where the request has no amount.

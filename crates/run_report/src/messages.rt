@@ -3,7 +3,8 @@ ghost use Rattle.std.specs.Prelude.{◌≡◌, IfOk};
 ghost use Rattle.std.specs.Result.{result_ok};
 ghost use Rattle.iso_message.specs.Messages.{read};
 
-use iso_message::{DecodeFault, Message, decode};
+use iso_message::{Message, decode};
+use message_elements::DecodeFault;
 use std::alloc::{AllocError, Global};
 
 /// The message that the bytes spell.

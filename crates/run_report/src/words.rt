@@ -5,7 +5,8 @@ ghost use Rattle.run_report.specs.Reports.{node_name, link_name, verdict_text};
 
 use crate::messages::read_message;
 use card_digits::{LinkNo, NodeNo};
-use iso_message::{Code, code_of};
+use message_elements::Code;
+use message_keys::code_of;
 use net_rows::Tables;
 use net_threads::{LineEnd, StationFault, Verdict};
 use network_law::StepFault;

@@ -1,7 +1,7 @@
 -- Own approvals, and how they are kept.
 use Rattle.std.specs.Prelude.{◌≤◌, ◌+◌, ℕ, zero, suc, Bool, false, not, ◌&&◌, ◌==◌, nat_lt, min, if◌then◌else◌, List, filter}
 use Rattle.card_digits.specs.declared.key.Key.{Key}
-use Rattle.iso_message.specs.Keys.{key_eq}
+use Rattle.message_keys.specs.Keys.{key_eq}
 use Rattle.network_law.specs.Traces.{added}
 use Rattle.node_machine.specs.Lists.{Take, in_use}
 use Rattle.book_index.specs.Keys.{same_key}

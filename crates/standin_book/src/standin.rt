@@ -8,7 +8,7 @@ ghost use Rattle.book_index.specs.Found.{found, holds_at, Tells};
 ghost use Rattle.standin_book.specs.Approvals.{lessened, used_on, is_of, times, without, counts_above, is_whole, skips, moved};
 ghost use Rattle.book_index.specs.Keys.{same_key};
 ghost use Rattle.standin_book.specs.Sums.{AreSums};
-ghost use Rattle.iso_message.specs.Keys.{key_eq};
+ghost use Rattle.message_keys.specs.Keys.{key_eq};
 
 use crate::approval::OwnApproval;
 use book_index::{CardDay, Place, PlaceIndex, Sums};

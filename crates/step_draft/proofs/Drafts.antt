@@ -1,6 +1,6 @@
 -- Changes one by one.
 use Rattle.std.proofs.Common.{◌≡◌, ℕ, suc, ◌==◌, ◌<◌, ◌≤◌, zero, List, [], ◌∷◌, ◌++◌, map, length, get_or, set, true, cond, refl, sym, ap, subst, ◌∙◌, inl, inr, arith, Result, Ok, Err, IfOk}
-use Rattle.iso_message.specs.Fields.{Fields}
+use Rattle.iso_message.specs.Fields.{Fields, el}
 use Rattle.iso_message.specs.Spelling.{spelling}
 use Rattle.network_law.specs.Traces.{ReadOutput}
 use Rattle.network_law.specs.declared.grant.GrantPacket.{GrantPacket}
@@ -8,13 +8,11 @@ use Rattle.network_law.specs.Grants.{packet_bytes}
 use Rattle.network_law.specs.Entries.{spelled}
 use Rattle.node_machine.specs.Lists.{Lists, LinkState, Take, link_at, fresh, is_among}
 use Rattle.card_digits.specs.Numbers.{decimal}
-use Rattle.iso_message.specs.Fields.{el}
-use Rattle.iso_message.specs.Keys.{key_of}
+use Rattle.message_keys.specs.Keys.{key_of, identity_of}
 use Rattle.network_law.specs.Cards.{card_of, label_of}
 use Rattle.network_law.specs.Traces.{is_at_home}
 use Rattle.net_rows.specs.Network.{Network}
 use Rattle.node_books.specs.Values.{NewAdvice}
-use Rattle.iso_message.specs.Keys.{identity_of}
 use Rattle.std.proofs.lemmas.Bool.{cases_Bool, eqb-true, eqb-false}
 use Rattle.std.proofs.lemmas.Grind.{get_or-set_at}
 use Rattle.std.proofs.lemmas.List.{get_or-set_other, get_or_default, reverse-append}

@@ -1,10 +1,10 @@
 -- Card numbers and settlement dates that messages carry.
 use Rattle.std.proofs.Common.{◌≡◌, ℕ, List, [], Option, Some, None, refl, arith}
 use Rattle.std.specs.Prelude.{unwrap_or}
-use Rattle.iso_message.specs.Table.{table, form_of}
+use Rattle.message_elements.specs.Table.{table, form_of}
 use Rattle.iso_message.specs.Fields.{Fields, get, el}
 use Rattle.iso_message.specs.Spelling.{IsMessage}
-use Rattle.iso_message.proofs.KeyLemmas.{good_found}
+use Rattle.iso_message.proofs.Found.{good_found}
 use Rattle.step_rules.proofs.Values as values
 use Rattle.step_rules.proofs.Values.{AreFew}
 

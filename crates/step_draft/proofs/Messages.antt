@@ -5,15 +5,16 @@ use Rattle.card_digits.specs.declared.key.Key.{Key}
 use Rattle.card_digits.specs.Numbers.{pad11}
 use Rattle.iso_message.specs.Fields.{Fields, get, has, el, as_kind, set_element}
 use Rattle.iso_message.specs.Spelling.{IsMessage}
-use Rattle.iso_message.specs.declared.kind.Kind.{Kind}
-use Rattle.iso_message.specs.declared.kind.Kind.TheVariants.{K0100, K0101, K0110, K0120, K0121, K0130, K0400, K0401, K0410, K0420, K0421, K0430}
-use Rattle.iso_message.specs.declared.keys.AdviceId.{AdviceId}
-use Rattle.iso_message.specs.declared.keys.AdviceKind.TheVariants.{Reversal, StandIn}
-use Rattle.iso_message.specs.Groups.{group, is_04xx, response_kind}
-use Rattle.iso_message.specs.Keys.{key_of, own_key, original_key, part, identity_of, has_own_key, padded_or_zeros}
-use Rattle.iso_message.specs.Made.{response, made_reversal, made_stand_in, made_from}
-use Rattle.iso_message.specs.Codes.{code_00, code_68}
-use Rattle.iso_message.proofs.KeyLemmas as keys
+use Rattle.message_elements.specs.declared.kind.Kind.{Kind}
+use Rattle.message_elements.specs.declared.kind.Kind.TheVariants.{K0100, K0101, K0110, K0120, K0121, K0130, K0400, K0401, K0410, K0420, K0421, K0430}
+use Rattle.message_keys.specs.declared.keys.AdviceId.{AdviceId}
+use Rattle.message_keys.specs.declared.keys.AdviceKind.TheVariants.{Reversal, StandIn}
+use Rattle.message_elements.specs.Groups.{group, is_04xx, response_kind}
+use Rattle.message_keys.specs.Keys.{key_of, own_key, original_key, part, identity_of, padded_or_zeros}
+use Rattle.iso_message.specs.Made.{has_own_key, response, made_reversal, made_stand_in, made_from}
+use Rattle.message_elements.specs.Codes.{code_00, code_68}
+use Rattle.iso_message.proofs.Found as found
+use Rattle.message_keys.proofs.KeyLemmas as keys
 use Rattle.iso_message.proofs.Changes.{get_set, get_set_same}
 use Rattle.network_law.specs.Cards.{Bytes}
 use Rattle.network_law.specs.Traces.{is_advice_group, as_kept}
@@ -129,7 +130,7 @@ module _ (m : Fields) (g : IsMessage m) (own : has_own_key m ≡ true) where
 
   pub acquirer_length : length (el m 32) ≤ 11
   unfolding el
-  acquirer_length = let w = there 32 has_32 in let e : get m 32 ≡ Some w.0 = w.1 in rw e (keys.id_length m g w.0 w.1)
+  acquirer_length = let w = there 32 has_32 in let e : get m 32 ≡ Some w.0 = w.1 in rw e (found.id_length m g w.0 w.1)
 
 pub reversal_identity : (m : Fields) (id : Bytes) (k : Key) → IsMessage m → IsKeyOf k m → Path AdviceId (record { kind = Reversal; key = k; forwarder = pad11 id }) (identity_of (made_reversal m id))
 reversal_identity m id k g own =

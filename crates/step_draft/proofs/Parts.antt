@@ -10,8 +10,8 @@ use Rattle.network_law.specs.Tables.{node_id}
 use Rattle.node_machine.specs.Books.{Request, Books}
 use Rattle.node_machine.specs.Machine as machine
 use Rattle.node_machine.specs.Lists.{Lists, Row, Take, of_key, row_key, row_fails, request_of}
-use Rattle.iso_message.specs.Groups.{is_04xx}
-use Rattle.iso_message.specs.Keys.{key_of, identity_of}
+use Rattle.message_elements.specs.Groups.{is_04xx}
+use Rattle.message_keys.specs.Keys.{key_of, identity_of}
 use Rattle.net_rows.specs.Network.{Network}
 use Rattle.network_law.specs.Traces.{Source, ReadInput, is_at_home}
 use Rattle.network_law.specs.Decision.{sent_kind}

@@ -2,8 +2,8 @@
 use Rattle.std.proofs.Common.{ℕ, [], ◌∷◌, ◌++◌, Bool, true, false, cond, Option, Some, None, bytes_eq}
 use Rattle.std.proofs.lemmas.Bool.{cond_both}
 use Rattle.iso_message.specs.Fields.{Fields}
-use Rattle.iso_message.specs.Codes.{code_00}
-use Rattle.iso_message.specs.Keys.{key_of, identity_of}
+use Rattle.message_elements.specs.Codes.{code_00}
+use Rattle.message_keys.specs.Keys.{key_of, identity_of}
 use Rattle.iso_message.specs.Made.{response, made_reversal, made_stand_in}
 use Rattle.net_rows.specs.Network.{Network}
 use Rattle.network_law.specs.Cards.{Bytes}

@@ -6,9 +6,9 @@ use Rattle.std.specs.List.{list_any}
 use Rattle.std.proofs.lemmas.Bool.{cases_Bool}
 use Rattle.std.proofs.lemmas.List.Folds.{list_any-append}
 use Rattle.card_digits.specs.declared.key.Key.{Key}
-use Rattle.iso_message.specs.declared.keys.AdviceId.{AdviceId}
-use Rattle.iso_message.specs.Keys.{key_eq, key_of, identity_of, identity_eq}
-use Rattle.iso_message.proofs.Equality.{key_eq_is, identity_eq_is}
+use Rattle.message_keys.specs.declared.keys.AdviceId.{AdviceId}
+use Rattle.message_keys.specs.Keys.{key_eq, key_of, identity_of, identity_eq}
+use Rattle.message_keys.proofs.Equality.{key_eq_is, identity_eq_is}
 use Rattle.network_law.specs.declared.grant.GrantPacket.{GrantPacket}
 use Rattle.network_law.specs.Traces.{ReadOutput, PutPacket, forwards, is_put_of}
 use Rattle.node_machine.specs.Books.{Stored, Advised, Granted}

@@ -1,15 +1,17 @@
 //! Advices with their identities.
 ghost use Rattle.std.specs.Prelude.{◌≡◌, IfOk, true, if◌then◌else◌};
-ghost use Rattle.iso_message.specs.Groups.{group, is_04xx};
-ghost use Rattle.iso_message.specs.declared.kind.Kind.TheVariants.{K0420, K0120};
-ghost use Rattle.iso_message.specs.Keys.{identity_of};
+ghost use Rattle.message_elements.specs.Groups.{group, is_04xx};
+ghost use Rattle.message_elements.specs.declared.kind.Kind.TheVariants.{K0420, K0120};
+ghost use Rattle.message_keys.specs.Keys.{identity_of};
 ghost use Rattle.iso_message.specs.Made.{made_reversal, made_stand_in};
 ghost use Rattle.network_law.specs.Tables.{node_id};
 ghost use Rattle.network_law.specs.Traces.{is_advice_group, as_kept};
 ghost use Rattle.request_book.specs.Values.{IsKeyOf};
 
 use card_digits::{Key, NodeNo};
-use iso_message::{AdviceId, AdviceKind, Kind, Message};
+use iso_message::Message;
+use message_elements::Kind;
+use message_keys::{AdviceId, AdviceKind};
 use net_rows::Tables;
 use std::alloc::AllocError;
 use step_rules::{node_id, padded_node_id};

@@ -1,7 +1,7 @@
 //! What goes out.
 ghost use Rattle.std.specs.Prelude.{◌≡◌, ℕ, false, true, OnOk};
-ghost use Rattle.iso_message.specs.Groups.{group};
-ghost use Rattle.iso_message.specs.Keys.{key_of, identity_of};
+ghost use Rattle.message_elements.specs.Groups.{group};
+ghost use Rattle.message_keys.specs.Keys.{key_of, identity_of};
 ghost use Rattle.iso_message.specs.Made.{response};
 ghost use Rattle.net_rows.specs.Network.{Network};
 ghost use Rattle.network_law.specs.Traces.{is_advice_group, Post};
@@ -13,7 +13,9 @@ ghost use Rattle.request_book.specs.Values.{source_of};
 use crate::advice::Advice;
 use crate::draft::Draft;
 use card_digits::{Amount, Key, LinkNo, NodeNo};
-use iso_message::{AdviceId, Code, Message};
+use iso_message::Message;
+use message_elements::Code;
+use message_keys::AdviceId;
 use net_rows::Tables;
 use node_books::{Effect, NewAdvice};
 use request_book::{KeptMessage, PreparedOutput, Way};

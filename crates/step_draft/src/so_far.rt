@@ -1,18 +1,20 @@
 //! What the books are after the changes so far.
 ghost use Rattle.std.specs.Prelude.{◌≡◌, ◌<◌, ◌+◌, ◌^◌, ℕ, suc};
 ghost use Rattle.std.specs.Option.{option_and_then};
-ghost use Rattle.iso_message.specs.Keys.{key_of};
+ghost use Rattle.message_keys.specs.Keys.{key_of};
 ghost use Rattle.net_rows.specs.Network.{Network};
 ghost use Rattle.node_machine.specs.Lists.{link_at, of_key, row_link, view};
 ghost use Rattle.node_machine.specs.Machine.{put_before, own_way};
 ghost use Rattle.node_books.specs.Effects.{progress};
 ghost use Rattle.entry_changes.specs.SoFar.{forward_from};
-ghost use Rattle.iso_message.specs.Groups.{is_reversal};
+ghost use Rattle.message_elements.specs.Groups.{is_reversal};
 
 use crate::draft::Draft;
 use card_digits::{Key, LinkNo, NodeNo};
 use entry_changes::{AdviceState, Forwarding, LinkAfter};
-use iso_message::{AdviceId, Kind, Message};
+use iso_message::Message;
+use message_elements::Kind;
+use message_keys::AdviceId;
 use net_rows::Tables;
 use step_rules::{LinkStates, first_up, route_links};
 

@@ -1,6 +1,6 @@
 //! Requests that a node answers by itself.
 ghost use Rattle.std.specs.Prelude.{◌≡◌, ℕ, Some, OnOk};
-ghost use Rattle.iso_message.specs.Keys.{key_of};
+ghost use Rattle.message_keys.specs.Keys.{key_of};
 ghost use Rattle.node_machine.specs.Lists.{LeftAsMarked, view};
 ghost use Rattle.node_machine.specs.Steps.{fail, standin, standin_by, take};
 ghost use Rattle.node_books.specs.Effects.{progress};
@@ -11,7 +11,8 @@ use crate::advice::Advice;
 use crate::digits::{card_number, date_label};
 use crate::draft::Draft;
 use card_digits::{Key, LinkNo, NodeNo};
-use iso_message::{Code, Message};
+use iso_message::Message;
+use message_elements::Code;
 use net_rows::Tables;
 use node_books::OwnApproval;
 use std::alloc::AllocError;

@@ -2,11 +2,11 @@
 use Rattle.std.proofs.Common.{◌≡◌, ℕ, ◌+◌, ◌-◌, nat_lt, not, ◌&&◌, true, false, cond, List, Option, Some, None, is_some, refl, sym, ap, ◌∙◌, inl, inr}
 use Rattle.std.proofs.lemmas.Bool.{cases_Bool}
 use Rattle.card_digits.specs.Numbers.{pad11}
-use Rattle.iso_message.specs.declared.kind.Kind.{Kind}
-use Rattle.iso_message.specs.declared.kind.Kind.TheVariants.{K0100, K0101, K0110, K0120, K0121, K0130, K0400, K0401, K0410, K0420, K0421, K0430}
+use Rattle.message_elements.specs.declared.kind.Kind.{Kind}
+use Rattle.message_elements.specs.declared.kind.Kind.TheVariants.{K0100, K0101, K0110, K0120, K0121, K0130, K0400, K0401, K0410, K0420, K0421, K0430}
 use Rattle.iso_message.specs.Fields.{Fields, remove_element, set_element}
-use Rattle.iso_message.specs.Groups.{group, is_request, is_reversal, is_04xx}
-use Rattle.iso_message.specs.Keys.{part, key_of, own_key, original_key, content, content_eq, identity_of, advice_kind, padded_or_zeros}
+use Rattle.message_elements.specs.Groups.{group, is_request, is_reversal, is_04xx}
+use Rattle.message_keys.specs.Keys.{part, key_of, own_key, original_key, content, content_eq, identity_of, advice_kind, padded_or_zeros}
 use Rattle.iso_message.specs.Made.{without_forwarder}
 use Rattle.iso_message.proofs.Changes.{get_remove_same}
 use Rattle.net_rows.specs.Network.{Network, issuer}

@@ -2,14 +2,14 @@
 use Rattle.std.proofs.Common.{◌≡◌, ℕ, ◌==◌, true, false, List, [], ◌∷◌, Option, Some, None, ◌⊎◌, refl, sym, ◌∙◌, subst, inl, inr}
 use Rattle.std.specs.Option.{option_or}
 use Rattle.std.proofs.lemmas.Bool.{cases_Bool, eqb-true}
-use Rattle.iso_message.specs.declared.kind.Kind.{Kind}
-use Rattle.iso_message.specs.declared.kind.Kind.TheVariants.{K0100, K0101, K0110, K0120, K0121, K0130, K0400, K0401, K0410, K0420, K0421, K0430}
-use Rattle.iso_message.specs.declared.kind.Group.{Group}
-use Rattle.iso_message.specs.declared.kind.Group.TheVariants as groups
+use Rattle.message_elements.specs.declared.kind.Kind.{Kind}
+use Rattle.message_elements.specs.declared.kind.Kind.TheVariants.{K0100, K0101, K0110, K0120, K0121, K0130, K0400, K0401, K0410, K0420, K0421, K0430}
+use Rattle.message_elements.specs.declared.kind.Group.{Group}
+use Rattle.message_elements.specs.declared.kind.Group.TheVariants as groups
 use Rattle.iso_message.specs.Fields.{Fields, has}
-use Rattle.iso_message.specs.Groups.{group, is_04xx, is_answer}
-use Rattle.iso_message.specs.Keys.{has_key, has_own_key, has_identity}
-use Rattle.iso_message.specs.Made.{is_one_of}
+use Rattle.message_elements.specs.Groups.{group, is_04xx, is_answer}
+use Rattle.message_keys.specs.Keys.{has_key, has_identity}
+use Rattle.iso_message.specs.Made.{has_own_key, is_one_of}
 use Rattle.network_law.specs.Refusals.{first_missing, missing, required_entered, required_taken, entered_kind}
 use Rattle.network_law.specs.Traces.{is_advice_group}
 

@@ -1,10 +1,10 @@
 -- Whether an advice finds no place, by the identity that it is known by.
 use Rattle.std.specs.Prelude.{ℕ, ◌+◌, ◌-◌, Bool, ◌&&◌, not, if◌then◌else◌, nat_lt, is_some, replicate}
 use Rattle.card_digits.specs.declared.key.Key.{Key}
-use Rattle.iso_message.specs.declared.keys.AdviceId.{AdviceId}
+use Rattle.message_keys.specs.declared.keys.AdviceId.{AdviceId}
 use Rattle.iso_message.specs.Fields.{Fields, el}
-use Rattle.iso_message.specs.Groups.{group, is_reversal}
-use Rattle.iso_message.specs.Keys.{identity_of}
+use Rattle.message_elements.specs.Groups.{group, is_reversal}
+use Rattle.message_keys.specs.Keys.{identity_of}
 use Rattle.net_rows.specs.Network.{Network, issuer}
 use Rattle.network_law.specs.Cards.{card_of, is_good_card}
 use Rattle.network_law.specs.Traces.{is_at_home, is_advice_group, is_link}

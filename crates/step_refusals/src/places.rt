@@ -1,6 +1,6 @@
 //! Places for advices.
 ghost use Rattle.std.specs.Prelude.{◌≡◌, ◌&&◌, true, None, IfOk};
-ghost use Rattle.iso_message.specs.Groups.{group, is_reversal};
+ghost use Rattle.message_elements.specs.Groups.{group, is_reversal};
 ghost use Rattle.iso_message.specs.Made.{without_forwarder};
 ghost use Rattle.network_law.specs.Refusals.{entered_kind, required_entered, required_taken, missing};
 ghost use Rattle.network_law.specs.Traces.{dated, is_link};
@@ -11,7 +11,8 @@ ghost use Rattle.step_refusals.specs.Places.{is_late, late_has_no_place, finds_n
 
 use crate::readings::{comes_late, is_pending, other_content};
 use card_digits::{Key, LinkNo, NodeNo};
-use iso_message::{AdviceId, Message, advice_id, key_of};
+use iso_message::Message;
+use message_keys::{AdviceId, advice_id, key_of};
 use net_rows::Tables;
 use node_books::Books;
 use std::alloc::AllocError;

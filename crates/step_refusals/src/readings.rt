@@ -8,7 +8,8 @@ ghost use Rattle.node_machine.specs.Machine.{comes_late, other_content};
 ghost use Rattle.step_refusals.specs.Keyed.{is_pending_at, request_at};
 
 use card_digits::{Key, LinkNo, NodeNo};
-use iso_message::{AdviceId, AdviceKind, Message, same_content};
+use iso_message::Message;
+use message_keys::{AdviceId, AdviceKind, same_content};
 use net_rows::Tables;
 use node_books::Books;
 use request_book::Row;

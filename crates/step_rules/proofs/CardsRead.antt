@@ -7,11 +7,11 @@ use Rattle.std.proofs.lemmas.Bool.{cases_Bool}
 use Rattle.card_digits.specs.Digits.{digits_of}
 use Rattle.card_digits.specs.Numbers.{passes_luhn}
 use Rattle.card_digits.specs.Reading.{read_digits}
-use Rattle.iso_message.specs.Table.{table, form_of}
+use Rattle.message_elements.specs.Table.{table, form_of}
 use Rattle.iso_message.specs.Fields.{Fields, get, el, has}
-use Rattle.iso_message.specs.Keys.{when}
+use Rattle.message_keys.specs.Keys.{when}
 use Rattle.iso_message.specs.Spelling.{IsMessage}
-use Rattle.iso_message.proofs.KeyLemmas.{good_found, has_some, has_none, el_some}
+use Rattle.iso_message.proofs.Found.{good_found, has_some, has_none, el_some}
 use Rattle.network_law.specs.Cards.{card_of, label_of, is_good_card}
 
 -- what is read is the digits

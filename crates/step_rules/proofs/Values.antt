@@ -3,17 +3,17 @@ use Rattle.std.proofs.Common.{◌≡◌, ℕ, ◌≤◌, true, List, [], length,
 use Rattle.std.specs.Prelude.{unwrap_or}
 use Rattle.std.specs.Char.{is_ascii_digit}
 use Rattle.std.specs.List.{list_all}
-use Rattle.iso_message.specs.Table.{table, form_of}
+use Rattle.message_elements.specs.Table.{table, form_of}
 use Rattle.iso_message.specs.Fields.{Fields, get, el}
-use Rattle.iso_message.specs.Keys.{own_key}
+use Rattle.message_keys.specs.Keys.{own_key}
 use Rattle.iso_message.specs.Spelling.{IsMessage}
-use Rattle.iso_message.proofs.KeyLemmas.{good_found}
+use Rattle.iso_message.proofs.Found.{good_found}
 use Rattle.card_digits.specs.Numbers.{pad11}
 use Rattle.net_rows.specs.Network.{Network}
 use Rattle.network_law.specs.Tables.{node_id}
 use Rattle.std.proofs.lemmas.Option.{slice_get_past}
 use Rattle.card_digits.specs.Digits.{IsId}
-use Rattle.iso_message.specs.Elements.{set_fault}
+use Rattle.message_elements.specs.Values.{set_fault}
 use Rattle.std.proofs.lemmas.Bool.{le-leb}
 
 pub own_acquirer : (m : Fields) → (own_key m).acquirer ≡ pad11 (el m 32)

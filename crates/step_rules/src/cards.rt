@@ -3,7 +3,7 @@ ghost use Rattle.std.specs.Prelude.{◌≡◌, IfSome};
 ghost use Rattle.std.specs.Result.{result_ok};
 ghost use Rattle.card_digits.specs.Reading.{read_digits};
 ghost use Rattle.iso_message.specs.Fields.{el, has};
-ghost use Rattle.iso_message.specs.Keys.{when};
+ghost use Rattle.message_keys.specs.Keys.{when};
 ghost use Rattle.network_law.specs.Cards.{card_of, label_of, is_good_card};
 
 use crate::elements::element;

@@ -1,13 +1,14 @@
 //! Elements, as a node reads them.
 ghost use Rattle.std.specs.Prelude.{◌≡◌, bytes_eq};
 ghost use Rattle.card_digits.specs.Numbers.{decimal};
-ghost use Rattle.iso_message.specs.Codes.{code_of, code_00};
+ghost use Rattle.message_keys.specs.Keys.{code_of, own_key, part};
+ghost use Rattle.message_elements.specs.Codes.{code_00};
 ghost use Rattle.iso_message.specs.Fields.{el};
-ghost use Rattle.iso_message.specs.Keys.{own_key, part};
 ghost use Rattle.network_law.specs.Refusals.{strange_original, strange_actual};
 
 use card_digits::{Amount, decimal, pad11};
-use iso_message::{Message, actual_amount};
+use iso_message::Message;
+use message_keys::actual_amount;
 
 /// The bytes of an element, none where it is absent.
 #[tactic(auto, unfolding(iso_message::specs::Fields::el))]
@@ -73,7 +74,7 @@ pub fn strange_actual(message: &Message) -> bool
 }
 
 /// Whether the message's response code (element 39) approves.
-#[tactic(auto, unfolding(iso_message::specs::Codes::code_of))]
+#[tactic(auto, unfolding(message_keys::specs::Keys::code_of))]
 pub fn is_approval(message: &Message) -> bool
     ensures { result ≡ bytes_eq (code_of message.now) code_00 }
 {

@@ -1,11 +1,11 @@
 //! Types of messages, and the codes of answers.
 ghost use Rattle.std.specs.Prelude.{◌≡◌};
-ghost use Rattle.iso_message.specs.Groups.{is_answer, is_reversal};
+ghost use Rattle.message_elements.specs.Groups.{is_answer, is_reversal};
 ghost use Rattle.network_law.specs.Refusals.{entered_kind, taken_kind};
 ghost use Rattle.network_law.specs.Decision.{sent_kind, as_code};
 ghost use Rattle.network_law.specs.Traces.{is_advice_group};
 
-use iso_message::{Code, Group, Kind};
+use message_elements::{Code, Group, Kind};
 
 /// Whether an acquirer may enter a message of this type at its gate.
 pub fn entered_kind(kind: Kind) -> bool

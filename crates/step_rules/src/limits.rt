@@ -6,7 +6,8 @@ ghost use Rattle.network_law.specs.Decision.{code_by_limits, is_due_again};
 
 use crate::elements::{amount_of, element};
 use card_digits::Amount;
-use iso_message::{Code, Message};
+use iso_message::Message;
+use message_elements::Code;
 use net_rows::Tables;
 
 /// What a node may approve by itself of a card on a settlement date.

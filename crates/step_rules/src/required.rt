@@ -1,10 +1,11 @@
 //! The elements that a message must have.
 ghost use Rattle.std.specs.Prelude.{◌≡◌};
-ghost use Rattle.iso_message.specs.Groups.{group};
+ghost use Rattle.message_elements.specs.Groups.{group};
 ghost use Rattle.network_law.specs.Refusals.{required_entered, required_taken, first_missing, missing};
 
 use crate::elements::strange_original;
-use iso_message::{Group, Kind, Message};
+use iso_message::Message;
+use message_elements::{Group, Kind};
 
 /// The elements of a message of this group that an acquirer enters.
 pub fn required_entered(group: Group) -> &'static [u8]

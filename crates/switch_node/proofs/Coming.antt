@@ -1,17 +1,17 @@
 -- Messages as they come.
 use Rattle.std.proofs.Common.{◌≡◌, ℕ, List, [], ◌∷◌, ◌++◌, filter, not, Bool, true, false, refl, sym, ap, subst, ◌∙◌}
 use Rattle.std.specs.Prelude.{◌&&◌, bytes_eq}
-use Rattle.iso_message.specs.declared.kind.Kind.{Kind}
-use Rattle.iso_message.specs.declared.kind.Kind.TheVariants.{K0100, K0101, K0110, K0120, K0121, K0130, K0400, K0401, K0410, K0420, K0421, K0430}
-use Rattle.iso_message.specs.declared.kind.Group.TheVariants as groups
-use Rattle.iso_message.specs.declared.keys.AdviceId.{AdviceId}
+use Rattle.message_elements.specs.declared.kind.Kind.{Kind}
+use Rattle.message_elements.specs.declared.kind.Kind.TheVariants.{K0100, K0101, K0110, K0120, K0121, K0130, K0400, K0401, K0410, K0420, K0421, K0430}
+use Rattle.message_elements.specs.declared.kind.Group.TheVariants as groups
+use Rattle.message_keys.specs.declared.keys.AdviceId.{AdviceId}
 use Rattle.advice_store.specs.Advices.{has_id}
 use Rattle.std.specs.Option.{option_and_then}
 use Rattle.card_digits.specs.declared.key.Key.{Key}
 use Rattle.iso_message.specs.Fields.{Fields}
-use Rattle.iso_message.specs.Groups.{group, is_request}
-use Rattle.iso_message.specs.Keys.{key_of, identity_of}
-use Rattle.iso_message.specs.Codes.{code_of, code_00, code_96}
+use Rattle.message_elements.specs.Groups.{group, is_request}
+use Rattle.message_keys.specs.Keys.{key_of, identity_of, code_of}
+use Rattle.message_elements.specs.Codes.{code_00, code_96}
 use Rattle.net_rows.specs.Network.{Network}
 use Rattle.network_law.specs.Cards.{Bytes}
 use Rattle.network_law.specs.Traces as messages

@@ -3,14 +3,14 @@ use Rattle.std.proofs.Common.{◌≡◌, ℕ, ◌==◌, List, [], ◌∷◌, Boo
 use Rattle.std.specs.Prelude.{◌&&◌, not, is_some}
 use Rattle.std.specs.Option.{option_or, option_map}
 use Rattle.std.proofs.lemmas.Bool.{cases_Bool, and_parts, and_from, not-false, eqb-true}
-use Rattle.iso_message.specs.declared.kind.Kind.{Kind}
-use Rattle.iso_message.specs.declared.kind.Kind.TheVariants.{K0100, K0101, K0110, K0120, K0121, K0130, K0400, K0401, K0410, K0420, K0421, K0430}
-use Rattle.iso_message.specs.declared.kind.Group.{Group}
-use Rattle.iso_message.specs.declared.kind.Group.TheVariants as groups
+use Rattle.message_elements.specs.declared.kind.Kind.{Kind}
+use Rattle.message_elements.specs.declared.kind.Kind.TheVariants.{K0100, K0101, K0110, K0120, K0121, K0130, K0400, K0401, K0410, K0420, K0421, K0430}
+use Rattle.message_elements.specs.declared.kind.Group.{Group}
+use Rattle.message_elements.specs.declared.kind.Group.TheVariants as groups
 use Rattle.iso_message.specs.Fields.{Fields, get, has, set_element, remove_element}
-use Rattle.iso_message.specs.Groups.{group, is_request, is_answer, is_04xx}
-use Rattle.iso_message.specs.Keys.{has_own_key, has_key, has_identity, is_identified}
-use Rattle.iso_message.specs.Made.{is_one_of, with_date, without_forwarder}
+use Rattle.message_elements.specs.Groups.{group, is_request, is_answer, is_04xx}
+use Rattle.iso_message.specs.Made.{has_own_key, is_one_of, with_date, without_forwarder}
+use Rattle.message_keys.specs.Keys.{has_key, has_identity, is_identified}
 use Rattle.iso_message.proofs.Changes.{get_set, get_remove}
 use Rattle.net_rows.specs.Network.{Network}
 use Rattle.network_law.specs.declared.fault.StepFault.{StepFault}

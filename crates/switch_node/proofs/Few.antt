@@ -5,11 +5,11 @@ use Rattle.std.specs.List.{list_all}
 use Rattle.std.proofs.lemmas.Bool.{and_from, le-leb, eq-eqb}
 use Rattle.std.proofs.lemmas.List.{length-map}
 use Rattle.card_digits.specs.Digits.{AreDigits, IsDateLabel}
-use Rattle.iso_message.specs.declared.fault.DecodeFault.{DecodeFault}
-use Rattle.iso_message.specs.declared.fault.DecodeFault.TheVariants.{Memory}
-use Rattle.iso_message.specs.Elements.{set_fault}
+use Rattle.message_elements.specs.declared.fault.DecodeFault.{DecodeFault}
+use Rattle.message_elements.specs.declared.fault.DecodeFault.TheVariants.{Memory}
+use Rattle.message_elements.specs.Values.{set_fault}
 use Rattle.network_law.specs.Cards.{text_of}
-use Rattle.iso_message.specs.Table.{table, form_of}
+use Rattle.message_elements.specs.Table.{table, form_of}
 
 digit_written : (d : ℕ) → d < 10 → is_ascii_digit (d + 48) ≡ true
 digit_written d h = and_from _ _ (le-leb 48 (d + 48) (omega arith)) (le-leb (d + 48) 57 (omega arith))

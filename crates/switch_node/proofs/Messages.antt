@@ -2,14 +2,15 @@
 use Rattle.std.proofs.Common.{◌≡◌, Bool, true, false, refl, sym, ◌∙◌, Option, Some, None, ap}
 use Rattle.card_digits.specs.declared.key.Key.{Key}
 use Rattle.iso_message.specs.Fields.{Fields, get, as_kind}
-use Rattle.iso_message.specs.declared.kind.Kind.{Kind}
-use Rattle.iso_message.specs.declared.kind.Kind.TheVariants.{K0100, K0101, K0110, K0120, K0121, K0130, K0400, K0401, K0410, K0420, K0421, K0430}
-use Rattle.iso_message.specs.declared.keys.AdviceId.{AdviceId}
-use Rattle.iso_message.specs.Groups.{group, is_request, is_04xx}
-use Rattle.iso_message.specs.declared.kind.Group.TheVariants as groups
-use Rattle.iso_message.specs.Keys.{key_of, identity_of, has_own_key, has_key, has_identity, when}
+use Rattle.message_elements.specs.declared.kind.Kind.{Kind}
+use Rattle.message_elements.specs.declared.kind.Kind.TheVariants.{K0100, K0101, K0110, K0120, K0121, K0130, K0400, K0401, K0410, K0420, K0421, K0430}
+use Rattle.message_keys.specs.declared.keys.AdviceId.{AdviceId}
+use Rattle.message_elements.specs.Groups.{group, is_request, is_04xx}
+use Rattle.message_elements.specs.declared.kind.Group.TheVariants as groups
+use Rattle.message_keys.specs.Keys.{key_of, identity_of, has_key, has_identity, when}
+use Rattle.iso_message.specs.Made.{has_own_key}
 use Rattle.network_law.specs.Traces.{as_kept}
-use Rattle.iso_message.specs.Amounts.{actual_amount}
+use Rattle.message_keys.specs.Amounts.{actual_amount}
 use Rattle.node_machine.specs.Lists.{leaves}
 use Rattle.network_law.proofs.Provenance.{as_kind_key}
 use Rattle.request_book.specs.Values.{IsKeyOf}

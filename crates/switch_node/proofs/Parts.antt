@@ -3,7 +3,7 @@ use Rattle.std.proofs.Common.{◌≡◌, ℕ, true, false, refl, sym, ap, ◌∙
 use Rattle.std.specs.Prelude.{is_none, bytes_eq, ◌&&◌}
 use Rattle.std.specs.Option.{option_map}
 use Rattle.card_digits.specs.declared.key.Key.{Key}
-use Rattle.iso_message.specs.Codes.{code_00}
+use Rattle.message_elements.specs.Codes.{code_00}
 use Rattle.iso_message.specs.Made.{response, made_reversal}
 use Rattle.network_law.specs.Cards.{Bytes}
 use Rattle.network_law.specs.Tables.{node_id}

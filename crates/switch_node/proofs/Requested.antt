@@ -4,12 +4,12 @@ use Rattle.std.proofs.lemmas.Bool.{cases_Bool, ltb-true, ltb-false, lt-ltb, le-l
 use Rattle.std.specs.Prelude.{is_none, is_some, ◌&&◌, nat_lt}
 use Rattle.std.specs.Option.{option_map, option_and_then}
 use Rattle.card_digits.specs.declared.key.Key.{Key}
-use Rattle.iso_message.specs.declared.kind.Kind.{Kind}
-use Rattle.iso_message.specs.declared.kind.Kind.TheVariants.{K0100, K0101, K0110, K0120, K0121, K0130, K0400, K0401, K0410, K0420, K0421, K0430}
-use Rattle.iso_message.specs.Groups.{group, is_answer}
+use Rattle.message_elements.specs.declared.kind.Kind.{Kind}
+use Rattle.message_elements.specs.declared.kind.Kind.TheVariants.{K0100, K0101, K0110, K0120, K0121, K0130, K0400, K0401, K0410, K0420, K0421, K0430}
+use Rattle.message_elements.specs.Groups.{group, is_answer}
 use Rattle.iso_message.specs.Fields.{Fields, as_kind, el}
-use Rattle.iso_message.specs.Codes.{code_00, code_68, code_94, code_96}
-use Rattle.iso_message.specs.Keys.{key_of, identity_of, content, content_eq}
+use Rattle.message_elements.specs.Codes.{code_00, code_68, code_94, code_96}
+use Rattle.message_keys.specs.Keys.{key_of, identity_of, content, content_eq}
 use Rattle.iso_message.specs.Made.{response}
 use Rattle.net_rows.specs.Network.{Network, issuer}
 use Rattle.net_rows.specs.declared.row.Issuer.{Issuer}

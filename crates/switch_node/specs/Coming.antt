@@ -1,9 +1,9 @@
 -- What a message does as it comes.
 use Rattle.std.specs.Prelude.{[], Some, Bool, true, ◌&&◌}
-use Rattle.iso_message.specs.declared.kind.Group.{Group}
-use Rattle.iso_message.specs.declared.kind.Group.TheVariants as groups
+use Rattle.message_elements.specs.declared.kind.Group.{Group}
+use Rattle.message_elements.specs.declared.kind.Group.TheVariants as groups
 use Rattle.iso_message.specs.Fields.{Fields, has}
-use Rattle.iso_message.specs.Keys.{has_key, has_identity}
+use Rattle.message_keys.specs.Keys.{has_key, has_identity}
 use Rattle.network_law.specs.Traces.{Handled}
 use Rattle.node_machine.specs.Lists.{Lists, open_row}
 use Rattle.node_machine.specs.Steps.{Progress}

@@ -1,8 +1,8 @@
 //! Answers to what the node forwarded or asked.
 ghost use Rattle.std.specs.Prelude.{◌≡◌, ℕ, true, false, OnOk};
-ghost use Rattle.iso_message.specs.Codes.{code_96};
+ghost use Rattle.message_elements.specs.Codes.{code_96};
 ghost use Rattle.iso_message.specs.Fields.{has};
-ghost use Rattle.iso_message.specs.Keys.{key_of};
+ghost use Rattle.message_keys.specs.Keys.{key_of};
 ghost use Rattle.iso_message.specs.Made.{made_reversal};
 ghost use Rattle.network_law.specs.Tables.{node_id};
 ghost use Rattle.node_machine.specs.Lists.{view};
@@ -11,7 +11,9 @@ ghost use Rattle.node_books.specs.Effects.{progress};
 ghost use Rattle.request_book.specs.Values.{IsKeyOf, source_of};
 
 use card_digits::{Key, LinkNo, NodeNo};
-use iso_message::{Code, Message, code_of};
+use iso_message::Message;
+use message_elements::Code;
+use message_keys::code_of;
 use net_rows::Tables;
 use std::alloc::AllocError;
 use step_draft::{Advice, Draft};

@@ -1,8 +1,8 @@
 //! Reversals and stand-in advices.
 ghost use Rattle.std.specs.Prelude.{◌≡◌, ℕ, true, OnOk};
-ghost use Rattle.iso_message.specs.Codes.{code_68};
-ghost use Rattle.iso_message.specs.Groups.{group};
-ghost use Rattle.iso_message.specs.Keys.{identity_of, key_of};
+ghost use Rattle.message_elements.specs.Codes.{code_68};
+ghost use Rattle.message_elements.specs.Groups.{group};
+ghost use Rattle.message_keys.specs.Keys.{identity_of, key_of};
 ghost use Rattle.network_law.specs.Traces.{is_advice_group};
 ghost use Rattle.node_machine.specs.Lists.{leaves, view};
 ghost use Rattle.node_machine.specs.Machine.{is_pending};
@@ -11,7 +11,9 @@ ghost use Rattle.node_books.specs.Effects.{progress};
 ghost use Rattle.request_book.specs.Values.{source_of};
 
 use card_digits::{Amount, Key, LinkNo, NodeNo};
-use iso_message::{AdviceId, Code, Message, actual_amount};
+use iso_message::Message;
+use message_elements::Code;
+use message_keys::{AdviceId, actual_amount};
 use net_rows::Tables;
 use std::alloc::AllocError;
 use step_draft::{Advice, Draft};

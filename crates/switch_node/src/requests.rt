@@ -1,9 +1,9 @@
 //! Requests.
 ghost use Rattle.std.specs.Prelude.{◌≡◌, ◌+◌, ℕ, suc, IfOk, IfSome, OnOk, None, find, is_some, nat_lt, true};
 ghost use Rattle.iso_message.specs.Fields.{as_kind};
-ghost use Rattle.iso_message.specs.declared.kind.Kind.TheVariants.{K0100};
-ghost use Rattle.iso_message.specs.Groups.{is_answer};
-ghost use Rattle.iso_message.specs.Keys.{key_of};
+ghost use Rattle.message_elements.specs.declared.kind.Kind.TheVariants.{K0100};
+ghost use Rattle.message_elements.specs.Groups.{is_answer};
+ghost use Rattle.message_keys.specs.Keys.{key_of, content, content_eq};
 ghost use Rattle.net_rows.specs.Network.{Network, issuer};
 ghost use Rattle.network_law.specs.Cards.{card_of};
 ghost use Rattle.network_law.specs.Traces.{Ask};
@@ -11,8 +11,7 @@ ghost use Rattle.network_law.specs.Tables.{route_links};
 ghost use Rattle.node_machine.specs.Lists.{LeftAsMarked, of_key, row_key, view};
 ghost use Rattle.node_machine.specs.Machine.{load};
 ghost use Rattle.node_machine.specs.Steps.{emit, on_forward, on_issuer, on_repeat, on_request, reply};
-ghost use Rattle.iso_message.specs.Codes.{code_94};
-ghost use Rattle.iso_message.specs.Keys.{content, content_eq};
+ghost use Rattle.message_elements.specs.Codes.{code_94};
 ghost use Rattle.network_law.specs.Decision.{same_source};
 ghost use Rattle.std.specs.Prelude.{◌&&◌};
 ghost use Rattle.iso_message.specs.Made.{response};
@@ -23,7 +22,9 @@ ghost use Rattle.step_draft.specs.Used.{IsQuiet};
 ghost use Rattle.node_machine.specs.Lists.{link_at};
 
 use card_digits::{Key, LinkNo, NodeNo};
-use iso_message::{Code, Kind, Message, same_content};
+use iso_message::Message;
+use message_elements::{Code, Kind};
+use message_keys::same_content;
 use net_rows::Tables;
 use node_books::Books;
 use request_book::{KeptMessage, PreparedOutput, Row, Way};

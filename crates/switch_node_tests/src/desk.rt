@@ -1,7 +1,7 @@
 //! A node and the steps of the tests. Nothing is promised of these functions, so that they are proved fast.
 use crate::lines::{Given, Line, Step, read_steps};
 use card_digits::{DateLabel, LinkNo, NodeNo};
-use iso_message::Code;
+use message_elements::Code;
 use net_rows::Tables;
 use net_tables::read_tables;
 use network_law::StepFault;

@@ -25,7 +25,7 @@
 use crate::messages::Purchase;
 use crate::words::{joined, words};
 use card_digits::{Amount, Card, DateLabel, LinkNo, NodeNo};
-use iso_message::{Code, DecodeFault};
+use message_elements::{Code, DecodeFault};
 use net_rows::Tables;
 use network_law::StepFault;
 use request_book::Way;

@@ -1,6 +1,7 @@
 //! A store in which advices are sent again after three ticks. Nothing is promised of these functions.
 use advice_store::{AdviceStore, KeptAdvice};
-use iso_message::{AdviceId, Message, advice_id, decode};
+use iso_message::{Message, decode};
+use message_keys::{AdviceId, advice_id};
 use std::alloc::{AllocError, Global};
 
 /// The advices of stand-in approvals, with trace numbers 000001 and 000002.

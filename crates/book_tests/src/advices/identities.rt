@@ -2,7 +2,7 @@
 
 use crate::samples::{REVERSAL, STAND_IN};
 use advice_store::AdviceStore;
-use iso_message::AdviceId;
+use message_keys::AdviceId;
 use std::alloc::{AllocError, Global};
 use std::test::*;
 

@@ -1,6 +1,6 @@
 //! Elements as they are read.
 ghost use Rattle.std.specs.Prelude.{◌≡◌, true, [], ◌∷◌, ◌++◌, OnOk, IfOk};
-ghost use Rattle.iso_message.specs.Table.{form_of};
+ghost use Rattle.message_elements.specs.Table.{form_of};
 ghost use Rattle.iso_message.specs.Spelling.{is_binary};
 ghost use Rattle.iso_message.specs.Parts.{IsEnd, IsPart};
 

@@ -1,5 +1,5 @@
 use Rattle.std.proofs.Common.{◌≡◌, List, true, subst, sym, ap, ◌∙◌}
-use Rattle.iso_message.specs.Keys.{identity_of}
+use Rattle.message_keys.specs.Keys.{identity_of}
 use Rattle.iso_message.specs.Made.{made_reversal}
 use Rattle.network_law.specs.Tables.{node_id}
 use Rattle.network_law.specs.Traces.{Opening, known}

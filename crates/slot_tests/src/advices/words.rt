@@ -2,7 +2,9 @@
 use crate::requests::words::key;
 use advice_book::{Advice, Grant, ItemName};
 use card_digits::{Amount, Card, DateLabel, DigitFault};
-use iso_message::{AdviceId, AdviceKind, Kind, Message};
+use iso_message::Message;
+use message_elements::Kind;
+use message_keys::{AdviceId, AdviceKind};
 use std::alloc::Global;
 
 /// What a test names an item by.

@@ -1,6 +1,7 @@
 //! Keys, cards and requests of the tests.
 use card_digits::{Card, Key, LinkNo};
-use iso_message::{Kind, Message};
+use iso_message::Message;
+use message_elements::Kind;
 use pending_book::{Request, Source};
 use std::alloc::Global;
 use std::hash::{FoldHasher, Hash, Hasher};

@@ -1,6 +1,6 @@
 use Rattle.std.proofs.Common.{◌≡◌, ◌++◌, ◌+◌, false, drop, get_or, rules, ap, ◌∙◌, arith, sym}
 use Rattle.std.specs.Prelude.{slice_range}
-use Rattle.iso_message.specs.Table.{form_of}
+use Rattle.message_elements.specs.Table.{form_of}
 use Rattle.iso_message.specs.Spans.{text_of, end_of, seen}
 use Rattle.iso_message.specs.Spelling.{is_binary, pieces}
 use Rattle.iso_message.proofs.Finding.{within_at}

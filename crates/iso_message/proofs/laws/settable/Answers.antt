@@ -1,4 +1,4 @@
-use Rattle.iso_message.specs.Table.{form_of}
+use Rattle.message_elements.specs.Table.{form_of}
 use Rattle.iso_message.specs.Spelling.{piece}
 use Rattle.iso_message.proofs.Canonical.{piece_again}
 use Rattle.iso_message.proofs.Good.{good}

@@ -1,6 +1,6 @@
 use Rattle.std.proofs.Common.{◌≡◌, ◌++◌, rules, ap, ◌∙◌, arith}
 use Rattle.std.proofs.lemmas.Result.{on_ok_weaker}
-use Rattle.iso_message.specs.Types.{kind_text}
+use Rattle.message_elements.specs.Types.{kind_text}
 use Rattle.iso_message.specs.Fields.{Fields}
 use Rattle.iso_message.specs.Spelling.{numbers_of, two_maps, spelling}
 use Rattle.iso_message.proofs.Maps.{low_fits, written_behind}

@@ -1,5 +1,5 @@
 use Rattle.std.proofs.Common.{◌+◌, ◌-◌, length, arith}
-use Rattle.iso_message.specs.Elements.{fits}
+use Rattle.message_elements.specs.Values.{fits}
 use Rattle.iso_message.proofs.LaneLemmas.{front_passes, further, whole_run}
 use Rattle.iso_message.proofs.runs.run_of.Goals as goal
 

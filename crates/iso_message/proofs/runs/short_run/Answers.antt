@@ -1,4 +1,4 @@
-use Rattle.iso_message.specs.Elements.{fits}
+use Rattle.message_elements.specs.Values.{fits}
 use Rattle.iso_message.proofs.LaneLemmas.{front_passes}
 use Rattle.iso_message.proofs.runs.short_run.Goals as goal
 

@@ -1,5 +1,5 @@
 use Rattle.std.proofs.Common.{◌≤◌, ◌-◌, length}
-use Rattle.iso_message.specs.Elements.{fits}
+use Rattle.message_elements.specs.Values.{fits}
 use Rattle.iso_message.specs.Known.{PassBetween}
 use Rattle.iso_message.proofs.runs.short_run.Given as goal
 

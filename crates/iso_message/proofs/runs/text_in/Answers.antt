@@ -1,8 +1,8 @@
 use Rattle.std.proofs.Common.{ℕ, leb, cond, refl}
 use Rattle.std.proofs.lemmas.Simd.{zip2_splat, length-chunk}
 use lib.Lanes.{chunk}
-use Rattle.iso_message.specs.Elements.{fits}
-use Rattle.iso_message.specs.declared.form.Class.TheVariants.{Text}
+use Rattle.message_elements.specs.Values.{fits}
+use Rattle.message_elements.specs.declared.form.Class.TheVariants.{Text}
 use Rattle.iso_message.proofs.LaneLemmas.{joined, splat_is, passes_in}
 use Rattle.iso_message.proofs.runs.text_in.Goals as goal
 

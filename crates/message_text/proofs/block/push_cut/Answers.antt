@@ -1,5 +1,5 @@
 use Rattle.std.proofs.Common.{◌++◌, Err, refl, ap, ◌∙◌, append_assoc, inl}
-use Rattle.iso_message.specs.declared.fault.DecodeFault.TheVariants.{Short}
+use Rattle.message_elements.specs.declared.fault.DecodeFault.TheVariants.{Short}
 use Rattle.message_text.specs.Printed.{heading, fault_line}
 use Rattle.message_text.proofs.block.push_cut.Goals as goal
 

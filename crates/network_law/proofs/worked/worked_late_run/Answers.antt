@@ -1,7 +1,7 @@
 use Rattle.std.proofs.Common.{refl}
 use Rattle.network_law.specs.Traces.{load, used}
 use Rattle.iso_message.specs.Finding.{find_element}
-use Rattle.iso_message.specs.Keys.{identity_of}
+use Rattle.message_keys.specs.Keys.{identity_of}
 use Rattle.network_law.specs.Claims.{post_count}
 use Rattle.network_law.specs.Entries.{read_history}
 use Rattle.network_law.proofs.LateRun.{late_is_run}

@@ -1,6 +1,6 @@
 use Rattle.std.proofs.Common.{◌≡◌, ℕ, List, [], ◌∷◌, length, true, false, bytes_eq, refl, ap, arith}
 use Rattle.std.specs.Prelude.{codes}
-use Rattle.iso_message.specs.Codes.{code_of}
+use Rattle.message_keys.specs.Keys.{code_of}
 use Rattle.network_law.specs.Traces.{Answer, Out, History}
 use Rattle.network_law.specs.Decision.{decide}
 use Rattle.network_law.specs.Entries.{read_history}

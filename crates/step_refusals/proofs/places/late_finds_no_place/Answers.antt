@@ -1,5 +1,5 @@
 use Rattle.std.proofs.Common.{◌≡◌, true, false, sym, ◌∙◌}
-use Rattle.iso_message.proofs.KeyLemmas.{when_none}
+use Rattle.message_keys.proofs.KeyLemmas.{when_none}
 use Rattle.step_refusals.proofs.Present.{answer_known}
 use Rattle.step_refusals.proofs.places.late_finds_no_place.Goals as goal
 

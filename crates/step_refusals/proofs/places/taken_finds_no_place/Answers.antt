@@ -1,7 +1,7 @@
 use Rattle.std.proofs.Common.{◌≡◌, true, false, sym, ap, ◌∙◌, inl, inr}
 use Rattle.std.proofs.lemmas.Bool.{cases_Bool}
-use Rattle.iso_message.specs.Groups.{group}
-use Rattle.iso_message.proofs.KeyLemmas.{when_some, when_none}
+use Rattle.message_elements.specs.Groups.{group}
+use Rattle.message_keys.proofs.KeyLemmas.{when_some, when_none}
 use Rattle.network_law.specs.Traces.{is_advice_group}
 use Rattle.step_refusals.specs.Places.{finds_no_place_as}
 use Rattle.step_refusals.proofs.Entered.{taken_is, none_taken}

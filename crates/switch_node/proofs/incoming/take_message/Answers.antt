@@ -1,7 +1,8 @@
 use Rattle.std.proofs.Common.{sym, ◌∙◌}
 use Rattle.std.specs.Prelude.{bytes_eq}
-use Rattle.iso_message.specs.Codes.{code_of, code_00}
-use Rattle.iso_message.specs.Groups.{group}
+use Rattle.message_keys.specs.Keys.{code_of}
+use Rattle.message_elements.specs.Codes.{code_00}
+use Rattle.message_elements.specs.Groups.{group}
 use Rattle.network_law.specs.Traces.{ByLink}
 use Rattle.node_books.specs.Effects.{progress}
 use Rattle.step_draft.proofs.Parts.{on_ok}

@@ -1,7 +1,7 @@
 use Rattle.std.proofs.Common.{◌≡◌, ap, sym, ◌∙◌, true, false, rules}
 use Rattle.std.specs.Prelude.{is_some}
 use Rattle.iso_message.specs.Fields.{el}
-use Rattle.iso_message.specs.Keys.{identity_of}
+use Rattle.message_keys.specs.Keys.{identity_of}
 use Rattle.net_rows.specs.Network.{issuer}
 use Rattle.network_law.specs.Cards.{is_good_card, card_of}
 use Rattle.node_machine.specs.Machine as machine

@@ -1,5 +1,5 @@
 use Rattle.std.proofs.Common.{ap, sym, ◌∙◌, cond}
-use Rattle.iso_message.specs.Keys.{identity_eq}
+use Rattle.message_keys.specs.Keys.{identity_eq}
 use Rattle.book_index.specs.Found.{found, joined}
 use Rattle.entry_changes.proofs.Lately.{none_told, one_told}
 use Rattle.entry_changes.proofs.late.LateChanges.note_advice.Goals as goal

@@ -1,7 +1,7 @@
 use Rattle.std.proofs.Common.{◌≡◌, sym, ap, None}
 use Rattle.std.proofs.Math.Facts.{Fits-lt-pow}
-use Rattle.iso_message.specs.Table.{form_of}
-use Rattle.iso_message.specs.Elements.{set_fault}
+use Rattle.message_elements.specs.Table.{form_of}
+use Rattle.message_elements.specs.Values.{set_fault}
 use Rattle.iso_message.specs.Fields.{Fields, set_element}
 use Rattle.iso_message.proofs.MessageLemmas.{settable, ascends_put, good_put}
 use Rattle.iso_message.proofs.message.Message.set.Goals as goal

@@ -1,5 +1,5 @@
 use Rattle.std.proofs.Common.{Err, refl, inr}
-use Rattle.iso_message.specs.declared.fault.DecodeFault.TheVariants.{Memory}
+use Rattle.message_elements.specs.declared.fault.DecodeFault.TheVariants.{Memory}
 use Rattle.iso_message.proofs.SpansMore.{on_err}
 use Rattle.message_text.proofs.sending.Buffers.add.Goals as goal
 

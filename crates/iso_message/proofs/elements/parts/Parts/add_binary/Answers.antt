@@ -4,7 +4,7 @@ use Rattle.iso_message.specs.declared.elements.Span.{Span}
 use Rattle.iso_message.specs.Parts.{Body}
 use Rattle.iso_message.specs.Spans.{span_at, text_of, start_of}
 use Rattle.iso_message.specs.Spelling.{is_binary}
-use Rattle.iso_message.specs.Table.{form_of}
+use Rattle.message_elements.specs.Table.{form_of}
 use Rattle.iso_message.proofs.SpansMore.{within_more, within_pushed, seen_pushed}
 use Rattle.iso_message.proofs.PartLemmas.{added_behind}
 use Rattle.iso_message.proofs.elements.parts.Parts.add_binary.Goals as goal

@@ -1,6 +1,0 @@
-use Rattle.std.proofs.Common.{sym}
-use Rattle.iso_message.proofs.KeyLemmas.{forwarder_length}
-use Rattle.iso_message.proofs.keys.forwarder_of.Goals as goal
-
-pub pad11-requires : goal.pad11-requires
-pad11-requires c = forwarder_length c.args.message.now c.kind.ensures.is_message _ (sym c.in-Some.ensures)

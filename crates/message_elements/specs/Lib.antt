@@ -1,0 +1,5 @@
+pub mod Types
+pub mod Groups
+pub mod Table
+pub mod Values
+pub mod Codes

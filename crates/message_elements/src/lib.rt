@@ -1,0 +1,15 @@
+//! The words of messages of the form of ISO 8583:1987: their types, the table of their elements and which values these take, response
+//! codes, and the faults of reading.
+#![tactic(auto)]
+
+mod code;
+mod fault;
+mod form;
+mod kind;
+mod values;
+
+pub use code::Code;
+pub use fault::DecodeFault;
+pub use form::{Class, Form, form_at};
+pub use kind::{Group, Kind};
+pub use values::{are_of, value_fault};
