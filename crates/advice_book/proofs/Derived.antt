@@ -6,7 +6,8 @@ use Rattle.message_keys.specs.declared.keys.AdviceKind.{AdviceKind}
 use Rattle.message_keys.specs.declared.keys.AdviceKind.TheVariants as kinds
 use Rattle.message_keys.specs.declared.keys.AdviceId.{AdviceId}
 use Rattle.message_keys.specs.contracts.keys.AdviceIdPartialEq.TheImpl as derived_ids
-use Rattle.advice_book.specs.Items.{id_eq, name_eq}
+use Rattle.book_index.specs.Keys.{same_id}
+use Rattle.advice_book.specs.Items.{name_eq}
 use Rattle.advice_book.specs.declared.places.Held.{Held}
 use Rattle.advice_book.specs.declared.item.ItemName.{ItemName}
 use Rattle.advice_book.specs.declared.item.ItemName.TheVariants as names
@@ -27,32 +28,9 @@ derived_is (names.Grant a) (names.Grant b) = refl
 derived_is (names.Advice a) (names.Grant b) = refl
 derived_is (names.Grant a) (names.Advice b) = refl
 
-lookup_ext : (f g : ItemName → Bool) (es : List (ItemName × Held)) → ((n : ItemName) → f n ≡ g n) → lookup f es ≡ lookup g es
-lookup_ext f g [] e = refl
-lookup_ext f g (x ∷ es) e = rw (e x.0, lookup_ext f g es e) refl
-
 pub lookup_is : (n : ItemName) (es : List (ItemName × Held)) → lookup (derived_eq n) es ≡ lookup (name_eq n) es
-lookup_is n es = lookup_ext (derived_eq n) (name_eq n) es (derived_is n)
+lookup_is n es = λ i. lookup (λ x. derived_is n x i) es
 
 -- a map that is changed at one name
 pub changed_is : (n : ItemName) (v : Option Held) (es fs : List (ItemName × Held)) → ((m : ItemName) → lookup (derived_eq m) fs ≡ cond (derived_eq n m) v (lookup (derived_eq m) es)) → (m : ItemName) → lookup (name_eq m) fs ≡ cond (name_eq n m) v (lookup (name_eq m) es)
 changed_is n v es fs h m = sym (lookup_is m fs) ∙ (h m ∙ rw (derived_is n m, lookup_is m es) refl)
-
-abbrev pub derived_id_eq : AdviceId → AdviceId → Bool
-derived_id_eq a b = (derived_ids.ghosts).eq a b
-
-pub derived_id_is : (a b : AdviceId) → derived_id_eq a b ≡ id_eq a b
-derived_id_is a b = by_kind a.kind b.kind
-  where
-    by_kind : (x y : AdviceKind) → derived_id_eq (record { kind = x; key = a.key; forwarder = a.forwarder }) (record { kind = y; key = b.key; forwarder = b.forwarder }) ≡ id_eq (record { kind = x; key = a.key; forwarder = a.forwarder }) (record { kind = y; key = b.key; forwarder = b.forwarder })
-    by_kind kinds.StandIn kinds.StandIn = refl
-    by_kind kinds.StandIn kinds.Reversal = refl
-    by_kind kinds.Reversal kinds.StandIn = refl
-    by_kind kinds.Reversal kinds.Reversal = refl
-
-any_ext : (f g : AdviceId → Bool) (xs : List AdviceId) → ((x : AdviceId) → f x ≡ g x) → list_any f xs ≡ list_any g xs
-any_ext f g [] e = refl
-any_ext f g (x ∷ xs) e = rw (e x, any_ext f g xs e) refl
-
-pub any_is : (id : AdviceId) (xs : List AdviceId) → list_any (derived_id_eq id) xs ≡ list_any (id_eq id) xs
-any_is id xs = any_ext (derived_id_eq id) (id_eq id) xs (derived_id_is id)

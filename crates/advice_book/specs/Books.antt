@@ -12,7 +12,8 @@ use Rattle.advice_book.specs.declared.book.StoreFault.{StoreFault}
 use Rattle.advice_book.specs.declared.book.StoreFault.TheVariants as faults
 use Rattle.advice_book.specs.declared.book.GrantFault.{GrantFault}
 use Rattle.advice_book.specs.declared.book.GrantFault.TheVariants as grants
-use Rattle.advice_book.specs.Items.{Stored, id_eq, name_of, is_named, is_due, item_of, is_held, marked, advice_in, grant_in}
+use Rattle.book_index.specs.Keys.{same_id}
+use Rattle.advice_book.specs.Items.{Stored, name_of, is_named, is_due, item_of, is_held, marked, advice_in, grant_in}
 
 -- the items in stored order, the identities that are known, how many places are reserved, for how many calls there is memory, the ticks
 -- after which items are due again, the number of ticks, and what the last tick looked at
@@ -26,7 +27,7 @@ pub record BookView : Type 0 where
   pub visits : ℕ
 
 abbrev pub is_known : BookView → AdviceId → Bool
-is_known v id = list_any (id_eq id) v.known
+is_known v id = list_any (same_id id) v.known
 
 -- the places that are taken
 abbrev pub load : BookView → ℕ

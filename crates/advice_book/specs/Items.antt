@@ -1,6 +1,6 @@
 -- Advices and grants in the order of their storing.
 use Rattle.std.specs.Prelude.{ℕ, Bool, true, false, ◌&&◌, ◌==◌, bytes_eq, if◌then◌else◌, List, find, Option, Some, None, is_some}
-use Rattle.book_index.specs.Keys.{same_key}
+use Rattle.book_index.specs.Keys.{same_id}
 use Rattle.message_keys.specs.Keys.{same_kind}
 use Rattle.message_keys.specs.declared.keys.AdviceId.{AdviceId}
 use Rattle.network_law.specs.Decision.{is_due_again}
@@ -11,12 +11,8 @@ use Rattle.advice_book.specs.declared.item.Item.TheVariants as items
 use Rattle.advice_book.specs.declared.item.ItemName.{ItemName}
 use Rattle.advice_book.specs.declared.item.ItemName.TheVariants as names
 
--- identities are compared by their parts
-abbrev pub id_eq : AdviceId → AdviceId → Bool
-id_eq a b = same_kind a.kind b.kind && (same_key a.key b.key && bytes_eq a.forwarder b.forwarder)
-
 abbrev pub name_eq : ItemName → ItemName → Bool
-name_eq (names.Advice a) (names.Advice b) = id_eq a b
+name_eq (names.Advice a) (names.Advice b) = same_id a b
 name_eq (names.Grant a) (names.Grant b) = a == b
 name_eq (names.Advice a) (names.Grant b) = false
 name_eq (names.Grant a) (names.Advice b) = false

@@ -9,10 +9,12 @@ use Rattle.node_machine.specs.Machine.{is_due, was_put}
 use Rattle.book_index.specs.Found.{holds_at}
 use Rattle.book_index.proofs.Holding.{none_map, one_map, holds_item, holds_within}
 use Rattle.advice_store.specs.Advices.{marked_by, has_id}
-use Rattle.advice_store.specs.Kept.{id_eq, stored_eq, key_of, slot_has, item_is, live, freed, marked_slot, slot_put, slot_at}
+use Rattle.book_index.specs.Keys.{same_id}
+use Rattle.advice_store.specs.Kept.{stored_eq, key_of, slot_has, item_is, live, freed, marked_slot, slot_put, slot_at}
 use Rattle.advice_store.specs.declared.key.StoredKey.{StoredKey}
 use Rattle.advice_store.specs.declared.key.StoredKey.TheVariants as keys
-use Rattle.advice_store.proofs.Ids.{id_again, id_flip, stored_refl}
+use Rattle.book_index.proofs.Identities.{id_again, id_flip}
+use Rattle.advice_store.proofs.Ids.{stored_refl}
 
 pub live_few : (slots : List (Option Stored)) → length (live slots) ≤ length slots
 live_few [] = omega arith

@@ -17,10 +17,12 @@ use Rattle.book_index.proofs.Holding.{holds_push}
 use Rattle.book_index.proofs.Telling.{tells_same, tells_joined}
 use Rattle.std.specs.Cmp.Lexicographic.{same_text}
 use Rattle.advice_store.specs.Advices.{marked_by, has_id, packet_acked}
-use Rattle.advice_store.specs.Kept.{IsIndexed, AreKnown, id_eq, stored_eq, key_of, slot_has, item_is, live, freed, marked_slot}
+use Rattle.book_index.specs.Keys.{same_id}
+use Rattle.advice_store.specs.Kept.{IsIndexed, AreKnown, stored_eq, key_of, slot_has, item_is, live, freed, marked_slot}
 use Rattle.advice_store.specs.declared.key.StoredKey.{StoredKey}
 use Rattle.advice_store.specs.declared.key.StoredKey.TheVariants as keys
-use Rattle.advice_store.proofs.Ids.{id_again, id_flip, stored_refl, stored_same, stored_flip}
+use Rattle.book_index.proofs.Identities.{id_again, id_flip}
+use Rattle.advice_store.proofs.Ids.{stored_refl, stored_same, stored_flip}
 use Rattle.advice_store.proofs.Slotted.{free_none, free_one}
 
 and_true : (b : Bool) → b ≡ (b && true)
@@ -185,10 +187,10 @@ any_push p (y ∷ ys) x = rw (any_push p ys x) (go (p y) (p x) (list_any p ys))
     go true false c = refl
     go false b c = refl
 
-pub known_more : (ids new : List AdviceId) (known : List AdviceId) (id : AdviceId) → ((q : AdviceId) → list_any (id_eq q) new ≡ cond (id_eq id q) true (list_any (id_eq q) ids)) → AreKnown ids known → AreKnown new (known ++ id ∷ [])
+pub known_more : (ids new : List AdviceId) (known : List AdviceId) (id : AdviceId) → ((q : AdviceId) → list_any (same_id q) new ≡ cond (same_id id q) true (list_any (same_id q) ids)) → AreKnown ids known → AreKnown new (known ++ id ∷ [])
 known_more ids new known id more h q = more q ∙ (rw (id_again id q, h q) refl ∙ sym (any_push (λ x. identity_eq x q) known id))
 
-pub known_again : (ids new : List AdviceId) (known : List AdviceId) → ((q : AdviceId) → list_any (id_eq q) new ≡ list_any (id_eq q) ids) → AreKnown ids known → AreKnown new known
+pub known_again : (ids new : List AdviceId) (known : List AdviceId) → ((q : AdviceId) → list_any (same_id q) new ≡ list_any (same_id q) ids) → AreKnown ids known → AreKnown new known
 known_again ids new known same h q = same q ∙ h q
 
 pub counted_none : (k : StoredKey) (slots new : List (Option Stored)) (place : Place) (len : ℕ) → new ≡ map (freed k) slots → len ≡ length (live slots) → Tells place (holds_at (slot_has k) slots) → place ≡ places.Nowhere → length (live new) ≡ len

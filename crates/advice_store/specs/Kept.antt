@@ -8,17 +8,14 @@ use Rattle.node_machine.specs.Books.{Stored, Advised, Granted}
 use Rattle.node_machine.specs.Lists.{is_among}
 use Rattle.node_machine.specs.Machine.{is_due, was_put}
 use Rattle.book_index.specs.Found.{found, holds_at, Tells}
-use Rattle.book_index.specs.Keys.{same_key}
+use Rattle.book_index.specs.Keys.{same_id}
 use Rattle.book_index.specs.declared.index.Place.{Place}
 use Rattle.advice_store.specs.Advices.{marked_by}
 use Rattle.advice_store.specs.declared.key.StoredKey.{StoredKey}
 use Rattle.advice_store.specs.declared.key.StoredKey.TheVariants as keys
 
-abbrev pub id_eq : AdviceId → AdviceId → Bool
-id_eq a b = same_kind a.kind b.kind && (same_key a.key b.key && bytes_eq a.forwarder b.forwarder)
-
 abbrev pub stored_eq : StoredKey → StoredKey → Bool
-stored_eq (keys.Advice a) (keys.Advice b) = id_eq a b
+stored_eq (keys.Advice a) (keys.Advice b) = same_id a b
 stored_eq (keys.Grant a) (keys.Grant b) = bytes_eq a.lender b.lender && a.number == b.number
 stored_eq (keys.Advice a) (keys.Grant b) = false
 stored_eq (keys.Grant a) (keys.Advice b) = false
@@ -97,7 +94,7 @@ abbrev pub IsIndexed : List (Option Stored) → List (StoredKey × Place) → Ty
 IsIndexed slots places = (k : StoredKey) → Tells (found (stored_eq k) places) (holds_at (slot_has k) slots)
 
 abbrev pub AreKnown : List AdviceId → List AdviceId → Type 0
-AreKnown ids known = (id : AdviceId) → list_any (id_eq id) ids ≡ is_among id known
+AreKnown ids known = (id : AdviceId) → list_any (same_id id) ids ≡ is_among id known
 
 pub record HasRoom (room slots slots_capacity known known_capacity moved staged staged_capacity places ids : ℕ) : Type 0 where
   pub in_slots : slots + room ≤ slots_capacity

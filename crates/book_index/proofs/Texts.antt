@@ -9,7 +9,7 @@ use Rattle.book_index.specs.Keys.{same_key}
 pub text_refl : (xs : List ℕ) → bytes_eq xs xs ≡ true
 text_refl xs = (bytes_eq-Decides xs xs).1 refl
 
-and_again : (a b c : Bool) → (a && (b && c)) ≡ ((a && b) && c)
+pub and_again : (a b c : Bool) → (a && (b && c)) ≡ ((a && b) && c)
 and_again true b c = refl
 and_again false b c = refl
 

@@ -1,6 +1,6 @@
 use Rattle.std.proofs.Common.{◌≡◌, false, ◌∙◌}
 use Rattle.std.specs.List.{list_any}
-use Rattle.advice_book.proofs.Derived.{derived_id_eq, any_is}
+use Rattle.book_index.proofs.Identities.{derived_id_eq, any_is}
 use Rattle.advice_book.proofs.known.know.Goals as goal
 
 pub returns-in-Ok-clause-ok : goal.returns-in-Ok-clause-ok

@@ -1,6 +1,6 @@
 use Rattle.std.proofs.Common.{sym, ap, ◌∙◌, refl, ◌≡◌, true, Result, Ok, Err, IsOk, OnOk}
 use Rattle.std.specs.HashSet.{Updates}
-use Rattle.advice_store.proofs.Derived.{any_is, derived_id_is, derived_id_eq}
+use Rattle.book_index.proofs.Identities.{any_is, derived_id_is, derived_id_eq}
 use Rattle.advice_store.proofs.known.KnownIds.insert.Goals as goal
 
 on_ok : {A E P : Type 0} (r : Result A E) → IsOk r → OnOk r P → P
