@@ -15,7 +15,7 @@ use Rattle.book_index.specs.declared.index.Place.{Place}
 use Rattle.book_index.specs.declared.index.Place.TheVariants as places
 use Rattle.book_index.proofs.Holding.{holds_push}
 use Rattle.book_index.proofs.Telling.{tells_same, tells_joined}
-use Rattle.std.specs.Cmp.Lexicographic.{same_text}
+use Rattle.book_index.proofs.Texts.{any_push}
 use Rattle.advice_store.specs.Advices.{marked_by, has_id, packet_acked}
 use Rattle.book_index.specs.Keys.{same_id}
 use Rattle.advice_store.specs.Kept.{IsIndexed, AreKnown, stored_eq, key_of, slot_has, item_is, live, freed, marked_slot}
@@ -147,15 +147,6 @@ freed_by_id id xs = filter_same_tests (item_is (keys.Advice id)) (has_id id) xs 
 pub any_by_id : (id : AdviceId) (xs : List Stored) → list_any (item_is (keys.Advice id)) xs ≡ list_any (has_id id) xs
 any_by_id id xs = any_same_tests (item_is (keys.Advice id)) (has_id id) xs (is_by_id id)
 
-text_flip : (a b : List ℕ) → bytes_eq a b ≡ bytes_eq b a
-text_flip a b = elim (cases_Bool (bytes_eq a b)) [
-  | inl t ↦ (let e : a ≡ b = same_text a b (sym t) in rw e refl)
-  | inr f ↦ elim (cases_Bool (bytes_eq b a)) [
-    | inl t ↦ (let e : b ≡ a = same_text b a (sym t) in rw e refl)
-    | inr g ↦ f ∙ sym g
-  ]
-]
-
 is_by_number : (lender : List ℕ) (number : ℕ) (x : Stored) → item_is (keys.Grant (record { lender = lender; number = number })) x ≡ packet_acked (packets.Ack lender number) x
 is_by_number lender number (Advised a) = refl
 is_by_number lender number (Granted g) = stored_flip (key_of (Granted g)) (keys.Grant (record { lender = lender; number = number }))
@@ -173,19 +164,6 @@ grant_acks_none g xs = sym (none_acked (packets.Grant g) xs (acks g))
     acks : (g : _) (x : Stored) → packet_acked (packets.Grant g) x ≡ false
     acks g (Advised a) = refl
     acks g (Granted x) = refl
-
-any_push : (p : AdviceId → Bool) (xs : List AdviceId) (x : AdviceId) → list_any p (xs ++ x ∷ []) ≡ cond (p x) true (list_any p xs)
-any_push p [] x = go (p x)
-  where
-    go : (b : Bool) → (b || false) ≡ cond b true false
-    go true = refl
-    go false = refl
-any_push p (y ∷ ys) x = rw (any_push p ys x) (go (p y) (p x) (list_any p ys))
-  where
-    go : (a b c : Bool) → (a || cond b true c) ≡ cond b true (a || c)
-    go true true c = refl
-    go true false c = refl
-    go false b c = refl
 
 pub known_more : (ids new : List AdviceId) (known : List AdviceId) (id : AdviceId) → ((q : AdviceId) → list_any (same_id q) new ≡ cond (same_id id q) true (list_any (same_id q) ids)) → AreKnown ids known → AreKnown new (known ++ id ∷ [])
 known_more ids new known id more h q = more q ∙ (rw (id_again id q, h q) refl ∙ sym (any_push (λ x. identity_eq x q) known id))

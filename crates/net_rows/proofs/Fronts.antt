@@ -1,58 +1,27 @@
 -- The row of the longest front that is found is the longest row.
-use Rattle.std.proofs.Common.{◌≡◌, ℕ, ◌+◌, ◌-◌, zero, suc, ◌<◌, ◌≤◌, Bool, true, false, ◌==◌, ◌⊎◌, List, [], ◌∷◌, length, get_or, take, length-take, Bor, Option, Some, None, IfSome, MatchOption, refl, sym, ap, ◌∙◌, inl, inr, arith}
+use Rattle.std.proofs.Common.{◌≡◌, ℕ, ◌+◌, zero, suc, ◌<◌, ◌≤◌, Bool, true, false, ◌==◌, ◌⊎◌, List, [], ◌∷◌, length, get_or, take, length-take, Bor, Option, Some, None, IfSome, MatchOption, refl, sym, ap, ◌∙◌, inl, inr, arith}
 use Rattle.std.specs.Prelude.{slice_get}
-use Rattle.std.specs.List.{filter, find, position_from, AllByRecursion}
+use Rattle.std.specs.List.{filter, find, AllByRecursion}
 use Rattle.std.specs.Option.{option_eq, option_copied}
 use Rattle.std.specs.Cmp.Lexicographic.{pointwise, same_text}
-use Rattle.std.proofs.lemmas.Bool.{cases_Bool, and_parts, false≢true, cases_lt, lt-ltb, le-ltb, eqb-true, eq-eqb}
+use Rattle.std.proofs.lemmas.Bool.{cases_Bool, and_parts, false≢true, cases_lt, lt-ltb, le-ltb}
 use Rattle.std.proofs.lemmas.Option.{same_Some, slice_get_past}
 use Rattle.card_digits.specs.Digits.{AreDigitsWithin}
 use Rattle.card_digits.specs.Longest.{begins, better, longest}
 use Rattle.card_digits.proofs.Fronts.{begins-starts_with}
 use Rattle.card_digits.proofs.Classes.{NoneLonger, longest_at_class}
+use Rattle.prefix_trie.proofs.Longest.{begins-length, begins-take}
 use Rattle.net_rows.specs.declared.prefixed.RowKey.{RowKey}
 use Rattle.net_rows.specs.Index.{is_of}
 
 abbrev pub key : Option ℕ → List ℕ → RowKey
 key n p = record { node = n; prefix = p }
 
-begins-length : (p ds : List ℕ) → begins p ds ≡ true → length p ≤ length ds
-begins-length [] ds h = omega arith
-begins-length (x ∷ p) [] h = absurd (false≢true h)
-begins-length (x ∷ p) (d ∷ ds) h = let more = begins-length p ds (and_parts (x == d) (begins p ds) h).1 in omega arith
-
-begins-take : (k : ℕ) (ds : List ℕ) → begins (take k ds) ds ≡ true
-begins-take zero ds = refl
-begins-take (suc k) [] = refl
-begins-take (suc k) (d ∷ ds) = rw (eq-eqb d d refl) (begins-take k ds)
-
 find_passes : {R : Type 0} (t : R → Bool) (rows : List R) (s : R) → find t rows ≡ Some s → t s ≡ true
 find_passes t [] s h = absurd cc
 find_passes t (r ∷ rows) s h = elim (cases_Bool (t r)) [
   | inl is ↦ let same : r ≡ s = same_Some r s (rw is at h) in rw (← same) is
   | inr no' ↦ find_passes t rows s (rw no' at h)
-]
-
--- the element at the place is the first that passes
-pub found_at : {R : Type 0} (t : R → Bool) (i : ℕ) (rows : List R) (k : ℕ) → position_from t i rows ≡ Some k → (i ≤ k) × (slice_get rows (k - i) ≡ find t rows)
-found_at t i [] k h = absurd cc
-found_at t i (r ∷ rows) k h = elim (cases_Bool (t r)) [
-  | inl is ↦
-      let same : i ≡ k = same_Some i k (rw is at h) in
-      let here : k - i ≡ 0 = omega arith in
-      (omega arith, rw (here, is) refl)
-  | inr no' ↦
-      let later = found_at t (i + 1) rows k (rw no' at h) in
-      let le : i + 1 ≤ k = later.0 in
-      let step : k - i ≡ suc (k - (i + 1)) = omega arith in
-      (omega arith, rw (step, no') later.1)
-]
-
-pub found_nowhere : {R : Type 0} (t : R → Bool) (i : ℕ) (rows : List R) → position_from t i rows ≡ None → find t rows ≡ None
-found_nowhere t i [] h = refl
-found_nowhere t i (r ∷ rows) h = elim (cases_Bool (t r)) [
-  | inl is ↦ let bad : Some i ≡ None = rw is at h in absurd cc
-  | inr no' ↦ rw no' (found_nowhere t (i + 1) rows (rw no' at h))
 ]
 
 pub at_place : {R : Type 0} (xs : List R) (i : ℕ) (x : R) → i < length xs → x ≡ get_or xs i x → Some x ≡ slice_get xs i

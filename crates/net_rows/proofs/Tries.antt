@@ -13,11 +13,11 @@ use Rattle.card_digits.specs.Longest.{longest}
 use Rattle.prefix_trie.specs.Pairs.{pair_of, inserted, prefix_of as pair_prefix}
 use Rattle.prefix_trie.proofs.Longest.{NoFront, longest_of_front, whole_of}
 use Rattle.std.specs.Cmp.Lexicographic.{same_text}
-use Rattle.prefix_trie.proofs.Rows.{pair_kept, pair_new}
+use Rattle.prefix_trie.proofs.Rows.{found_at, found_nowhere, pair_kept, pair_new}
 use Rattle.net_rows.specs.declared.prefixed.RowKey.{RowKey}
 use Rattle.net_rows.specs.Index.{is_of, slot, Places, places_at, IsIndexed}
 use Rattle.net_rows.specs.Adding.{same_key, IsAdded}
-use Rattle.net_rows.proofs.Fronts.{key, at_place, found_at, found_nowhere, NoneBeyond, beyond_all, beyond_less, found_is_longest, none_is_longest}
+use Rattle.net_rows.proofs.Fronts.{key, at_place, NoneBeyond, beyond_all, beyond_less, found_is_longest, none_is_longest}
 
 -- where no pair has no digits, none begins no digits
 none_of_none : (places : Places) → pair_of [] places ≡ None → longest pair_prefix places [] ≡ None

@@ -7,6 +7,7 @@ use Rattle.std.proofs.lemmas.List.Elements.{recursion_from_All}
 use Rattle.std.proofs.lemmas.Bool.{and_parts}
 use Rattle.std.proofs.lemmas.Option.{slice_get_past, same_Some}
 use Rattle.message_keys.proofs.Equality.{bytes_eq_is, bytes_eq_refl}
+use Rattle.network_law.proofs.Exposure.{any_is}
 use Rattle.network_law.specs.Cards.{Bytes}
 use Rattle.network_law.specs.Traces.{IsIn}
 use Rattle.network_law.specs.Entries.{Entry, Take, Output, Put, Answer, Ask, Post}
@@ -51,14 +52,6 @@ any_member p (x ∷ xs) e = go (p x) refl (any_member p xs)
     go : (b : Bool) → p x ≡ b → (list_any p xs ≡ true → (y : _) × IsIn y xs × (p y ≡ true)) → (y : _) × IsIn y (x ∷ xs) × (p y ≡ true)
     go true at rest = (x, inl refl, at)
     go false at rest = let r = rest (rw at at e) in (r.0, inr r.1, r.2)
-
-any_is : {X : Type 0} (p : X → Bool) (xs : List X) (x : X) → IsIn x xs → p x ≡ true → list_any p xs ≡ true
-any_is p [] x m e = absurd m
-any_is p (y ∷ ys) x m e = ⊎_elim (λ same. (let f : p y ≡ true = ap p same ∙ e in rw f refl)) (λ r. later (p y) (any_is p ys x r e)) m
-  where
-    later : (b : Bool) → list_any p ys ≡ true → (b || list_any p ys) ≡ true
-    later true f = refl
-    later false f = f
 
 all_in : {X : Type 0} (P : X → Type 0) (xs : List X) (x : X) → AllByRecursion P xs → IsIn x xs → P x
 all_in P [] x all m = absurd m

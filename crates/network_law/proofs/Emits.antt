@@ -2,7 +2,6 @@
 use Rattle.std.proofs.Common.{◌≡◌, ℕ, suc, ◌+◌, List, [], ◌∷◌, ◌++◌, find, filter, map, length, nat_lt, eqb, reverse, Option, Some, None, is_some, is_none, Bool, true, false, cond, not, ◌&&◌, refl, sym, ap, ◌∙◌, subst, inl, inr, ⊎_elim, ◌⊎◌, bytes_eq}
 use Rattle.std.proofs.lemmas.Bool.{cond_both, and_parts, not-true, eqb-true, or_right}
 use Rattle.std.proofs.lemmas.Option.{same_Some}
-use Rattle.std.proofs.lemmas.Slice.Eq.{bytes_eq-Decides}
 use Rattle.std.specs.Option.{option_or}
 use mathlib.Core.List.{reverse-cons}
 use Rattle.net_rows.specs.Network.{Network, issuer}
@@ -21,6 +20,7 @@ use Rattle.message_elements.specs.declared.kind.Group.{Group}
 use Rattle.message_elements.specs.Groups.{group, is_request, is_answer, is_reversal, is_04xx}
 use Rattle.message_elements.specs.declared.kind.Kind.TheVariants.{K0100, K0101, K0110, K0120, K0121, K0130, K0400, K0401, K0410, K0420, K0421, K0430}
 use Rattle.card_digits.specs.declared.key.Key.{Key}
+pub use Rattle.message_keys.proofs.Equality.{bytes_eq_refl, bytes_eq_is, key_eq_refl, key_eq_is}
 use Rattle.message_keys.specs.Keys.{key_eq, key_of, content, content_eq, identity_of, code_of}
 use Rattle.message_elements.specs.Codes.{code_00, code_05, code_14, code_68, code_92, code_94, code_96}
 use Rattle.iso_message.specs.Made.{made_reversal, made_stand_in, response}
@@ -255,24 +255,6 @@ pub data Allowed (t : Network) (n : ℕ) (past : History) (i : ReadInput) (h : H
   putting_packet : PuttingPacket t n past i h o → Allowed t n past i h o
 
 -- small facts
-
-pub bytes_eq_refl : (bs : List ℕ) → bytes_eq bs bs ≡ true
-bytes_eq_refl bs = (bytes_eq-Decides bs bs).1 refl
-
-pub bytes_eq_is : (as' bs : List ℕ) → bytes_eq as' bs ≡ true → as' ≡ bs
-bytes_eq_is as' bs = (bytes_eq-Decides as' bs).0
-
-pub key_eq_refl : (k : Key) → key_eq k k ≡ true
-key_eq_refl k = rw (bytes_eq_refl k.acquirer, bytes_eq_refl k.trace, bytes_eq_refl k.time) refl
-
-pub key_eq_is : (a b : Key) → key_eq a b ≡ true → a ≡ b
-key_eq_is a b e =
-    let p = and_parts (bytes_eq a.acquirer b.acquirer && bytes_eq a.trace b.trace) (bytes_eq a.time b.time) e in
-    let q = and_parts (bytes_eq a.acquirer b.acquirer) (bytes_eq a.trace b.trace) p.0 in
-    let x = bytes_eq_is a.acquirer b.acquirer q.0 in
-    let y = bytes_eq_is a.trace b.trace q.1 in
-    let z = bytes_eq_is a.time b.time p.1 in
-    λ j. record { acquirer = x j; trace = y j; time = z j }
 
 pub request_from_group : (k : Kind) → group k ≡ groups.AuthorizationRequest → is_request k ≡ true
 request_from_group K0100 e = refl

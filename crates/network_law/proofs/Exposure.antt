@@ -91,7 +91,7 @@ in_map f (y ∷ ys) x m = ⊎_elim (λ e. inl (ap f e)) (λ r. inr (in_map f ys 
 
 -- what is taken
 
-any_is : {X : Type 0} (p : X → Bool) (xs : List X) (x : X) → IsIn x xs → p x ≡ true → list_any p xs ≡ true
+pub any_is : {X : Type 0} (p : X → Bool) (xs : List X) (x : X) → IsIn x xs → p x ≡ true → list_any p xs ≡ true
 any_is p [] x m e = absurd m
 any_is p (y ∷ ys) x m e = ⊎_elim (λ same. (let f : p y ≡ true = ap p same ∙ e in rw f refl)) (λ r. later (p y) (any_is p ys x r e)) m
   where

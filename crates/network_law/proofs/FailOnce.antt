@@ -12,7 +12,7 @@ use Rattle.card_digits.specs.declared.key.Key.{Key}
 use Rattle.message_keys.specs.Keys.{key_of}
 use Rattle.network_law.proofs.AdviceMarks.{none_some, NoRepeat}
 
-in_opened : (t : Network) (h : History) (k : Key) → IsIn k (opened t h) → (op : Opening) × (opening t h k ≡ Some op)
+pub in_opened : (t : Network) (h : History) (k : Key) → IsIn k (opened t h) → (op : Opening) × (opening t h k ≡ Some op)
 unfolding opened opening
 in_opened t [] k m = absurd m
 in_opened t (Out i o ∷ h) k m = in_opened t h k m
@@ -37,7 +37,7 @@ in_opened t (In i ∷ h) k m = go (is_none (option_and_then (opening t h) (key_h
         by_kind true r m = ⊎_elim (λ here. new x e r here) (λ there. old (rest there)) (rw r at m)
         by_kind false r m = old (rest (rw r at m))
 
-opened_once : (t : Network) (h : History) → NoRepeat (opened t h)
+pub opened_once : (t : Network) (h : History) → NoRepeat (opened t h)
 unfolding opened
 opened_once t [] = omega arith
 opened_once t (Out i o ∷ h) = opened_once t h
@@ -55,11 +55,11 @@ once_last : (xs : List Key) (y : Key) → NoRepeat xs → (IsIn y xs → ⊥) �
 once_last [] y q other = (λ m. m, omega arith)
 once_last (x ∷ xs) y q other = (λ m. ⊎_elim (λ old. q.0 old) (λ b. ⊎_elim (λ e. other (inl (sym e))) (λ c. c) b) (in_append xs (y ∷ []) x m), once_last xs y q.1 (λ m. other (inr m)))
 
-once_reverse : (xs : List Key) → NoRepeat xs → NoRepeat (reverse xs)
+pub once_reverse : (xs : List Key) → NoRepeat xs → NoRepeat (reverse xs)
 once_reverse [] q = q
 once_reverse (x ∷ xs) q = subst NoRepeat (sym (reverse-cons x xs)) (once_last (reverse xs) x (once_reverse xs q.1) (λ m. q.0 (in_reverse xs x m)))
 
-once_filter : (p : Key → Bool) (xs : List Key) → NoRepeat xs → NoRepeat (filter p xs)
+pub once_filter : (p : Key → Bool) (xs : List Key) → NoRepeat xs → NoRepeat (filter p xs)
 once_filter p [] q = q
 once_filter p (x ∷ xs) q = cond_both (p x) (x ∷ filter p xs) (filter p xs) NoRepeat (λ _. (λ m. q.0 (filtered_in p xs x m), once_filter p xs q.1)) (λ _. once_filter p xs q.1)
 

@@ -25,13 +25,13 @@ use Rattle.network_law.proofs.Provenance.{in_add, opened_of_key, identity_acked,
 use Rattle.network_law.proofs.Chain.{same_card}
 use Rattle.network_law.proofs.Accounts.{Alike, alike_sym, alike_card}
 use Rattle.message_keys.proofs.Equality.{identity_eq_refl}
-use Rattle.network_law.proofs.AdviceMarks.{kept_alike, kept_is_advice, sent_alike, advice_kind_04xx, content_made_stand_in}
+use Rattle.network_law.proofs.AdviceMarks.{kept_alike, kept_is_advice, sent_alike, advice_kind_04xx, content_made_stand_in, response_no_advice, answer_no_advice}
 use Rattle.network_law.specs.Cards.{Bytes, card_of}
 use Rattle.iso_message.proofs.Changes.{get_set, get_set_same, get_remove_same, find_kept}
 use Rattle.iso_message.specs.Fields.{Fields, get, set_element, remove_element, as_kind}
 use Rattle.message_elements.specs.declared.kind.Kind.{Kind}
 use Rattle.message_elements.specs.declared.kind.Group.{Group}
-use Rattle.message_elements.specs.Groups.{group, is_request, is_answer, is_reversal, is_04xx, response_kind}
+use Rattle.message_elements.specs.Groups.{group, is_request, is_reversal, is_04xx, response_kind}
 use Rattle.message_elements.specs.declared.kind.Kind.TheVariants.{K0100, K0101, K0110, K0120, K0121, K0130, K0400, K0401, K0410, K0420, K0421, K0430}
 use Rattle.card_digits.specs.declared.key.Key.{Key}
 use Rattle.message_keys.specs.Keys.{advice_kind, key_of, own_key, original_key, identity_of, padded_or_zeros, content, code_of}
@@ -48,15 +48,15 @@ none_some x p = cc
 
 -- elements
 
-made_maker : (k : Kind) (m : Fields) (id code : Bytes) → get (made_from k m id code) 33 ≡ Some id
+pub made_maker : (k : Kind) (m : Fields) (id code : Bytes) → get (made_from k m id code) 33 ≡ Some id
 unfolding made_from
 made_maker k m id code = get_set (set_element (made_base k m) 33 id) 39 33 code refl ∙ get_set_same (made_base k m) 33 id
 
-reversal_maker : (m : Fields) (id : Bytes) → (identity_of (made_reversal m id)).forwarder ≡ pad11 id
+pub reversal_maker : (m : Fields) (id : Bytes) → (identity_of (made_reversal m id)).forwarder ≡ pad11 id
 unfolding identity_of made_reversal
 reversal_maker m id = ap padded_or_zeros (get_set (made_from K0420 m id code_68) 90 33 _ refl ∙ made_maker K0420 m id code_68)
 
-stand_in_maker : (m : Fields) (id : Bytes) → (identity_of (made_stand_in m id)).forwarder ≡ pad11 id
+pub stand_in_maker : (m : Fields) (id : Bytes) → (identity_of (made_stand_in m id)).forwarder ≡ pad11 id
 unfolding identity_of made_stand_in
 stand_in_maker m id = ap padded_or_zeros (made_maker K0120 m id code_00)
 
@@ -345,34 +345,6 @@ ack_is_kind groups.AdviceResponse e = refl
 ack_is_kind groups.ReversalResponse e = cc
 
 -- only advices are put as advices
-response_no_advice : (k : Kind) → is_advice_group (group (response_kind k)) ≡ false
-response_no_advice K0100 = refl
-response_no_advice K0101 = refl
-response_no_advice K0110 = refl
-response_no_advice K0120 = refl
-response_no_advice K0121 = refl
-response_no_advice K0130 = refl
-response_no_advice K0400 = refl
-response_no_advice K0401 = refl
-response_no_advice K0410 = refl
-response_no_advice K0420 = refl
-response_no_advice K0421 = refl
-response_no_advice K0430 = refl
-
-answer_no_advice : (k : Kind) → is_answer k ≡ true → is_advice_group (group k) ≡ false
-answer_no_advice K0100 e = refl
-answer_no_advice K0101 e = refl
-answer_no_advice K0110 e = refl
-answer_no_advice K0120 e = cc
-answer_no_advice K0121 e = cc
-answer_no_advice K0130 e = refl
-answer_no_advice K0400 e = cc
-answer_no_advice K0401 e = cc
-answer_no_advice K0410 e = refl
-answer_no_advice K0420 e = cc
-answer_no_advice K0421 e = cc
-answer_no_advice K0430 e = refl
-
 sending_case : (t : Network) (n : ℕ) (past : History) (i : ReadInput) (h : History) (o : ReadOutput) (l s : ℕ) (x : Fields) → Allowed t n past i h o → o ≡ Put l s x → is_advice_group (group x.kind) ≡ true → Sending t n past i h o
 sending_case t n past i h o l s x allowed e g = go allowed
   where

@@ -1,5 +1,5 @@
 -- The plain words of approvals that come late say the same.
-use Rattle.std.proofs.Common.{◌≡◌, ℕ, List, [], ◌∷◌, Option, Some, None, Bool, true, false, cond, not, ◌&&◌, refl, sym, ap, ◌∙◌, subst, inl, inr, bytes_eq, eqb}
+use Rattle.std.proofs.Common.{◌≡◌, ℕ, Option, Some, None, Bool, true, false, cond, not, ◌&&◌, refl, sym, ap, ◌∙◌, bytes_eq}
 use Rattle.std.proofs.lemmas.Bool.{and_parts, not-true, eq-eqb}
 use Rattle.std.proofs.lemmas.Option.{same_Some}
 use Rattle.std.specs.Prelude.{◌≢◌}
@@ -8,7 +8,7 @@ use Rattle.std.specs.List.{list_any}
 use Rattle.card_digits.specs.declared.key.Key.{Key}
 use Rattle.iso_message.specs.Fields.{Fields}
 use Rattle.message_elements.specs.Groups.{is_answer, is_04xx}
-use Rattle.message_keys.specs.Keys.{key_of, key_eq, code_of}
+use Rattle.message_keys.specs.Keys.{key_of, code_of}
 use Rattle.message_elements.specs.Codes.{code_00}
 use Rattle.net_rows.specs.Network.{Network}
 use Rattle.network_law.specs.Cards.{Bytes}

@@ -1,6 +1,6 @@
 -- What a node makes of messages can be written again.
-use Rattle.std.proofs.Common.{leb, ◌≡◌, ℕ, zero, suc, ◌-◌, ◌<◌, ◌≤◌, List, [], ◌∷◌, ◌++◌, length, map, replicate, Option, Some, None, Bool, true, false, not, refl, sym, subst, arith, eqb, unwrap_or, inl, inr, ◌+◌}
-use Rattle.std.proofs.lemmas.Bool.{le-leb, and_parts, and_from, cases_eq, eq-eqb, ne_eqb}
+use Rattle.std.proofs.Common.{leb, ◌≡◌, ℕ, zero, suc, ◌-◌, ◌<◌, ◌≤◌, List, [], ◌∷◌, ◌++◌, length, map, replicate, Option, Some, None, Bool, true, false, not, refl, sym, subst, arith, eqb, unwrap_or, ◌+◌}
+use Rattle.std.proofs.lemmas.Bool.{le-leb, and_parts, and_from}
 use Rattle.std.proofs.lemmas.List.{length-map, length-append, length-replicate}
 use Rattle.std.specs.Prelude.{codes}
 use Rattle.std.specs.List.{list_all}
@@ -17,6 +17,7 @@ use Rattle.iso_message.specs.Spelling.{IsMessage, IsGood, AreGood, Ascends}
 use Rattle.message_elements.specs.Codes.{code_00, code_68}
 use Rattle.message_elements.specs.Groups.{response_kind}
 use Rattle.iso_message.specs.Made.{kept, is_one_of, response_numbers, advice_numbers, response, made_from, made_stand_in, made_reversal, original_data}
+use Rattle.iso_message.proofs.Found.{good_found}
 use Rattle.iso_message.proofs.MessageLemmas.{without_is, ascends_kept, good_kept, ascends_put, good_put}
 use Rattle.network_law.specs.Entries.{IsCode}
 use Rattle.network_law.specs.Cards.{text_of}
@@ -25,18 +26,6 @@ use Rattle.network_law.proofs.Ids.{IsIdText}
 use Rattle.network_law.proofs.ReadRuns.{HasLengths}
 
 -- values
-
-good_in : (n : ℕ) (v : List ℕ) (es : List (ℕ × List ℕ)) → AreGood es → find_element n es ≡ Some v → IsGood (form_of n) v
-unfolding find_element
-good_in n v [] g e = cc
-good_in n v (x ∷ xs) g e =
-    elim (cases_eq x.0 n) [
-      | inl same ↦
-          let found : Some x.1 ≡ Some v = rw (eq-eqb _ _ same) at e in
-          let value : x.1 ≡ v = cc in
-          subst (λ (w : List ℕ). IsGood (form_of n) w) value (subst (λ (k : ℕ). IsGood (form_of k) x.1) same g.0)
-      | inr other ↦ good_in n v xs g.1 (rw (ne_eqb _ _ other) at e)
-    ]
 
 -- an element that is there is good
 pub good_el : (m : Fields) (n : ℕ) → IsMessage m → has m n ≡ true → IsGood (form_of n) (el m n)
@@ -48,7 +37,7 @@ good_el m n g h = go (find_element n m.elements) refl
       where
         no : false ≡ true → ⊥
         no p = cc
-    go (Some v) e = rw e (good_in n v m.elements g.values e)
+    go (Some v) e = rw e (good_found m n v g e)
 
 -- and one that is absent is empty
 absent_or_good : (m : Fields) (n : ℕ) → IsMessage m → (P : List ℕ → Type 0) → P [] → ((v : List ℕ) → IsGood (form_of n) v → P v) → P (el m n)
@@ -57,7 +46,7 @@ absent_or_good m n g P none some = go (find_element n m.elements) refl
   where
     go : (o : Option (List ℕ)) → find_element n m.elements ≡ o → P (unwrap_or (find_element n m.elements) [])
     go None e = rw e none
-    go (Some v) e = rw e (some v (good_in n v m.elements g.values e))
+    go (Some v) e = rw e (some v (good_found m n v g e))
 
 trace_digits : (m : Fields) → IsMessage m → AreOf Digits (el m 11)
 unfolding form_of table

@@ -15,12 +15,12 @@ use Rattle.prefix_trie.specs.Pairs.{prefix_of, is_of, pair_of}
 pub text_itself : (xs : List ℕ) → pointwise ◌==◌ xs xs ≡ true
 text_itself xs = (bytes_eq-Decides xs xs).1 refl
 
-begins-length : (p ds : List ℕ) → begins p ds ≡ true → length p ≤ length ds
+pub begins-length : (p ds : List ℕ) → begins p ds ≡ true → length p ≤ length ds
 begins-length [] ds h = omega arith
 begins-length (x ∷ p) [] h = absurd (false≢true h)
 begins-length (x ∷ p) (d ∷ ds) h = let more = begins-length p ds (and_parts (x == d) (begins p ds) h).1 in omega arith
 
-begins-take : (k : ℕ) (ds : List ℕ) → begins (take k ds) ds ≡ true
+pub begins-take : (k : ℕ) (ds : List ℕ) → begins (take k ds) ds ≡ true
 begins-take zero ds = refl
 begins-take (suc k) [] = refl
 begins-take (suc k) (d ∷ ds) = rw (eq-eqb d d refl) (begins-take k ds)

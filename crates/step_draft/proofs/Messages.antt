@@ -20,6 +20,7 @@ use Rattle.network_law.specs.Cards.{Bytes}
 use Rattle.network_law.specs.Traces.{is_advice_group, as_kept}
 use Rattle.network_law.specs.Decision.{sent_kind}
 use Rattle.network_law.proofs.Node.{response_is_of_kind}
+use Rattle.network_law.proofs.Origins.{reversal_maker, stand_in_maker}
 use Rattle.network_law.proofs.Elements.{own_key_response, el_response, made_reversal_key, reversal_kind, made_base}
 use Rattle.network_law.proofs.AdviceMarks.{made_stand_in_key, as_kind_identity, kept_alike, reversal_reverses, stand_in_stands, identity_key}
 use Rattle.request_book.specs.Values.{IsKeyOf}
@@ -75,18 +76,6 @@ pub response_plain : (m : Fields) (c : Bytes) → is_advice_group (group (respon
 response_plain m c = ap (λ k. is_advice_group (group k)) (response_is_of_kind m c) ∙ plain_response m.kind
 
 -- made advices
-
-made_maker : (k : Kind) (m : Fields) (id code : Bytes) → get (made_from k m id code) 33 ≡ Some id
-unfolding made_from
-made_maker k m id code = get_set (set_element (made_base k m) 33 id) 39 33 code refl ∙ get_set_same (made_base k m) 33 id
-
-reversal_maker : (m : Fields) (id : Bytes) → (identity_of (made_reversal m id)).forwarder ≡ pad11 id
-unfolding identity_of made_reversal
-reversal_maker m id = ap padded_or_zeros (get_set (made_from K0420 m id code_68) 90 33 _ refl ∙ made_maker K0420 m id code_68)
-
-stand_in_maker : (m : Fields) (id : Bytes) → (identity_of (made_stand_in m id)).forwarder ≡ pad11 id
-unfolding identity_of made_stand_in
-stand_in_maker m id = ap padded_or_zeros (made_maker K0120 m id code_00)
 
 is_there : (m : Fields) (n : ℕ) → has m n ≡ true → (v : List ℕ) × (get m n ≡ Some v)
 unfolding has

@@ -3,8 +3,7 @@ ghost use Rattle.std.specs.Prelude.{◌≡◌};
 ghost use Rattle.network_law.specs.Cards.{card_of, label_of};
 
 use card_digits::ShortBytes;
-use iso_message::Message;
-use step_rules::element;
+use iso_message::{Message, bytes_of};
 
 /// The digits of the card number (element 2), none where it is absent.
 #[tactic(auto, using(crate::proofs::Few::card_few), unfolding(network_law::specs::Cards::card_of))]
@@ -12,7 +11,7 @@ pub(crate) fn card_number(message: &Message) -> ShortBytes<19>
     ensures { result ≡ card_of message.now }
 {
     let _ = message.kind();
-    ShortBytes::from_digits(element(message, 2))
+    ShortBytes::from_digits(bytes_of(message, 2))
 }
 
 /// The digits of the settlement date (element 15), none where it is absent.
@@ -21,5 +20,5 @@ pub(crate) fn date_label(message: &Message) -> ShortBytes<4>
     ensures { result ≡ label_of message.now }
 {
     let _ = message.kind();
-    ShortBytes::from_digits(element(message, 15))
+    ShortBytes::from_digits(bytes_of(message, 15))
 }

@@ -6,16 +6,15 @@ ghost use Rattle.iso_message.specs.Fields.{el, has};
 ghost use Rattle.message_keys.specs.Keys.{when};
 ghost use Rattle.network_law.specs.Cards.{card_of, label_of, is_good_card};
 
-use crate::elements::element;
 use card_digits::{Card, DateLabel, luhn};
-use iso_message::Message;
+use iso_message::{Message, bytes_of};
 
 /// The card of the message: none where element 2 is absent or has fewer digits than a card number.
 pub fn card_of(message: &Message) -> Option<Card>
     ensures read { result ≡ result_ok (read_digits 8 19 (el message.now 2)) }
     ensures card { IfSome result (λ card. card ≡ card_of message.now) }
 {
-    Card::read(element(message, 2)).ok()
+    Card::read(bytes_of(message, 2)).ok()
 }
 
 /// The card of the message, where its check digit is right.

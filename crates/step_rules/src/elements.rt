@@ -7,19 +7,8 @@ ghost use Rattle.iso_message.specs.Fields.{el};
 ghost use Rattle.network_law.specs.Refusals.{strange_original, strange_actual};
 
 use card_digits::{Amount, decimal, pad11};
-use iso_message::Message;
+use iso_message::{Message, bytes_of};
 use message_keys::actual_amount;
-
-/// The bytes of an element, none where it is absent.
-#[tactic(auto, unfolding(iso_message::specs::Fields::el))]
-pub fn element(message: &Message, number: u8) -> &[u8]
-    ensures { result.now ≡ el message.now number }
-{
-    match message.get(number) {
-        Some(bytes) => bytes,
-        None => &[],
-    }
-}
 
 /// So many bytes from a place on, fewer where the bytes end.
 fn part(bytes: &[u8], from: usize, count: usize) -> &[u8]
@@ -35,7 +24,7 @@ pub fn acquirer_of(message: &Message) -> [u8; 11]
 {
     // Every message can be written, so element 32 has at most 11 digits.
     let _ = message.kind();
-    pad11(element(message, 32))
+    pad11(bytes_of(message, 32))
 }
 
 /// The amount of the message (element 4), 0 where it is absent.
@@ -44,7 +33,7 @@ pub fn amount_of(message: &Message) -> Amount
 {
     // Every message can be written, so element 4 has 12 digits.
     let _ = message.kind();
-    Amount::new(decimal(element(message, 4)))
+    Amount::new(decimal(bytes_of(message, 4)))
 }
 
 /// Whether a reversal, or what answers one, names no request of its own acquirer in element 90.
@@ -54,7 +43,7 @@ pub fn strange_original(message: &Message) -> bool
     if !message.kind().is_04xx() {
         return false;
     }
-    let original = element(message, 90);
+    let original = bytes_of(message, 90);
     let request = part(original, 0, 4) == b"0100".as_slice();
     let own = part(original, 20, 11) == acquirer_of(message).as_slice();
     !(request && own)
@@ -78,5 +67,5 @@ pub fn strange_actual(message: &Message) -> bool
 pub fn is_approval(message: &Message) -> bool
     ensures { result ≡ bytes_eq (code_of message.now) code_00 }
 {
-    element(message, 39) == b"00".as_slice()
+    bytes_of(message, 39) == b"00".as_slice()
 }

@@ -13,9 +13,7 @@ mod places;
 mod required;
 
 pub use cards::{card_of, good_card, has_good_card, label_of};
-pub use elements::{
-    acquirer_of, amount_of, element, is_approval, strange_actual, strange_original,
-};
+pub use elements::{acquirer_of, amount_of, is_approval, strange_actual, strange_original};
 pub use kinds::{
     as_code, entered_kind, is_advice_group, is_answer, is_reversal, sent_kind, taken_kind,
 };

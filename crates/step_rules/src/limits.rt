@@ -4,9 +4,9 @@ ghost use Rattle.card_digits.specs.Numbers.{decimal};
 ghost use Rattle.iso_message.specs.Fields.{el};
 ghost use Rattle.network_law.specs.Decision.{code_by_limits, is_due_again};
 
-use crate::elements::{amount_of, element};
+use crate::elements::amount_of;
 use card_digits::Amount;
-use iso_message::Message;
+use iso_message::{Message, bytes_of};
 use message_elements::Code;
 use net_rows::Tables;
 
@@ -25,7 +25,7 @@ pub struct Limits {
 fn has_currency(tables: &Tables, message: &Message) -> bool
     ensures { result ≡ bytes_eq (el message.now 49) tables.now.settings.currency }
 {
-    element(message, 49) == tables.settings().currency.as_slice()
+    bytes_of(message, 49) == tables.settings().currency.as_slice()
 }
 
 impl Limits {

@@ -13,9 +13,8 @@ ghost use Rattle.network_law.specs.Refusals.{may_not_borrow};
 ghost use Rattle.network_law.specs.Tables.{is_attached, is_home, is_named, node_id, route_links, single};
 ghost use Rattle.network_law.specs.Traces.{is_at_home};
 
-use crate::elements::element;
 use card_digits::{Amount, Card, LinkNo, NodeNo, pad11};
-use iso_message::Message;
+use iso_message::{Message, bytes_of};
 use net_rows::{Issuer, StandIn, Tables};
 use network_law::Grant;
 
@@ -27,7 +26,7 @@ fn number_of(message: &Message) -> &[u8]
 {
     // Every message can be written, so element 2 has digits alone.
     let _ = message.kind();
-    element(message, 2)
+    bytes_of(message, 2)
 }
 
 /// The issuer of a message's card.

@@ -5,7 +5,7 @@ use Rattle.step_rules.proofs.Values.{own_acquirer}
 use Rattle.step_rules.proofs.elements.acquirer_of.Goals as goal
 
 pub pad11-requires : goal.pad11-requires
-pad11-requires c = rw c.element.ensures (id_short c.args.message.now c.kind.ensures.is_message)
+pad11-requires c = rw c.bytes_of.ensures (id_short c.args.message.now c.kind.ensures.is_message)
 
 pub returns : goal.returns
-returns c = c.pad11.ensures ∙ ap pad11 c.element.ensures ∙ sym (own_acquirer c.args.message.now)
+returns c = c.pad11.ensures ∙ ap pad11 c.bytes_of.ensures ∙ sym (own_acquirer c.args.message.now)
