@@ -1,19 +1,20 @@
 -- Requests, advices and reversals, case by case.
 use Rattle.std.proofs.Common.{◌≡◌, ℕ, ◌+◌, suc, Bool, true, false, refl, sym, ap, ◌∙◌, Option, Some, None, find, inl, inr, arith}
 use Rattle.std.proofs.lemmas.Bool.{cases_Bool, ltb-true, ltb-false, lt-ltb, le-ltb}
-use Rattle.std.specs.Prelude.{is_none, is_some, ◌&&◌, nat_lt}
+use Rattle.std.specs.Prelude.{not, if◌then◌else◌, ◌&&◌, nat_lt}
+use Rattle.std.proofs.lemmas.Option.{same_Some}
 use Rattle.std.specs.Option.{option_map, option_and_then}
 use Rattle.card_digits.specs.declared.key.Key.{Key}
 use Rattle.message_elements.specs.declared.kind.Kind.{Kind}
 use Rattle.message_elements.specs.declared.kind.Kind.TheVariants.{K0100, K0101, K0110, K0120, K0121, K0130, K0400, K0401, K0410, K0420, K0421, K0430}
 use Rattle.message_elements.specs.Groups.{group, is_answer}
-use Rattle.iso_message.specs.Fields.{Fields, as_kind, el}
-use Rattle.message_elements.specs.Codes.{code_00, code_68, code_94, code_96}
+use Rattle.iso_message.specs.Fields.{Fields, as_kind}
+use Rattle.message_elements.specs.Codes.{code_00, code_14, code_68, code_92, code_94, code_96}
 use Rattle.message_keys.specs.Keys.{key_of, identity_of, content, content_eq}
 use Rattle.iso_message.specs.Made.{response}
-use Rattle.net_rows.specs.Network.{Network, issuer}
+use Rattle.net_rows.specs.Network.{Network}
 use Rattle.net_rows.specs.declared.row.Issuer.{Issuer}
-use Rattle.network_law.specs.Cards.{card_of, is_good_card}
+use Rattle.network_law.specs.Cards.{Bytes, card_of}
 use Rattle.network_law.specs.Tables.{route_links, is_home}
 use Rattle.network_law.specs.Traces.{Source, Ask, as_kept, is_advice_group}
 use Rattle.network_law.specs.Decision.{same_source}
@@ -22,6 +23,7 @@ use Rattle.node_machine.specs.Machine as machine
 use Rattle.node_machine.specs.Lists.{Lists, Row, of_key, row_answer, request_of, view}
 use Rattle.node_machine.specs.Steps as steps
 use Rattle.node_machine.specs.Steps.{Progress}
+use Rattle.switch_node.specs.Coming.{refusal_code}
 
 -- where a request goes
 
@@ -80,13 +82,6 @@ accept_steps t n b m src kept count p0 p1 p2 p3 e1 ek ecount e2 e3 =
     ∙ (ap (λ z. steps.store t n false (as_kept m) z false p1) (ecount ∙ ap (λ (z : Progress). z.lists.count) e1)
     ∙ ap (λ z. steps.store t n false (as_kept m) p0.lists.count false z) e1))))
 
-pub reversal_accepted : (t : Network) (n : ℕ) (b : Books) (m : Fields) (src : Source) (d : Progress) → is_good_card (el m 2) ≡ true → is_none (issuer t (card_of m)) ≡ false → machine.other_content (b.opening (key_of m)) m ≡ false → machine.is_known b (identity_of m) ≡ false → steps.accept t n b m src (steps.answer_pending t n (machine.is_pending b (key_of m)) (b.opening (key_of m)) code_68 d) ≡ steps.on_reversal t n b m src d
-reversal_accepted t n b m src d good there same' new = sym (rw (good, there, same', new) refl)
-
-pub some_is : {X : Type 0} (w : Option X) → is_some w ≡ true → is_none w ≡ false
-some_is None e = cc
-some_is (Some x) e = refl
-
 two_more_at : (k : ℕ) → nat_lt 65534 k ≡ nat_lt 65536 (k + 2)
 two_more_at k = elim (cases_Bool (nat_lt 65534 k)) [
   | inl t ↦ t ∙ sym (lt-ltb 65536 (k + 2) (let a = ltb-true 65534 k t in omega (arith, a)))
@@ -110,12 +105,58 @@ plain_answer K0420 e = cc
 plain_answer K0421 e = cc
 plain_answer K0430 e = cc
 
-pub reversal_steps : (t : Network) (n : ℕ) (b b' : Books) (m : Fields) (src : Source) (k : Key) (p0 p1 p2 : Progress) → b' ≡ b → k ≡ key_of m → p1 ≡ steps.answer_pending t n (machine.is_pending b k) (b.opening k) code_68 p0 → p2 ≡ steps.accept t n b' m src p1 → is_good_card (el m 2) ≡ true → is_some (issuer t (card_of m)) ≡ true → machine.other_content (b.opening k) m ≡ false → machine.is_known b (identity_of m) ≡ false → p2 ≡ steps.on_reversal t n b m src p0
-reversal_steps t n b b' m src k p0 p1 p2 eb ek e1 e2 good there other new =
-    e2
-    ∙ (ap (λ z. steps.accept t n z m src p1) eb
-    ∙ (ap (λ z. steps.accept t n b m src z) (e1 ∙ ap (λ z. steps.answer_pending t n (machine.is_pending b z) (b.opening z) code_68 p0) ek)
-    ∙ reversal_accepted t n b m src p0 good (some_is (issuer t (card_of m)) there) (ap (λ z. machine.other_content (b.opening z) m) (sym ek) ∙ other) new))
+-- refusals one after the other, of which the first gives the answer
+
+abbrev first_code : Bool → Bool → Bool → Bool → Option Bytes
+first_code good none other known =
+    if not good then Some code_14 else if none then Some code_92 else if other then Some code_94 else if known then Some code_00 else None
+
+abbrev first_reply : (Bytes → Progress) → Progress → Bool → Bool → Bool → Bool → Progress
+first_reply reply kept good none other known =
+    if not good then reply code_14 else if none then reply code_92 else if other then reply code_94 else if known then reply code_00 else kept
+
+by_code : (reply : Bytes → Progress) (kept : Progress) (good none other known : Bool) (c : Bytes) → Some c ≡ first_code good none other known → reply c ≡ first_reply reply kept good none other known
+by_code reply kept false none other known c e = ap reply (same_Some _ _ e)
+by_code reply kept true true other known c e = ap reply (same_Some _ _ e)
+by_code reply kept true false true known c e = ap reply (same_Some _ _ e)
+by_code reply kept true false false true c e = ap reply (same_Some _ _ e)
+by_code reply kept true false false false c e = absurd (cc)
+
+by_none : (reply : Bytes → Progress) (kept : Progress) (good none other known : Bool) → None ≡ first_code good none other known → kept ≡ first_reply reply kept good none other known
+by_none reply kept false none other known e = absurd (cc)
+by_none reply kept true true other known e = absurd (cc)
+by_none reply kept true false true known e = absurd (cc)
+by_none reply kept true false false true e = absurd (cc)
+by_none reply kept true false false false e = refl
+
+module _ (t : Network) (n : ℕ) (b : Books) (m : Fields) (src : Source) (p : Progress) where
+  abbrev replied : Bytes → Progress
+  replied c = steps.reply t n src (response m c) p
+
+  abbrev has_other : Key → Bool
+  has_other k = machine.other_content (b.opening k) m
+
+  abbrev cleared : Key → Progress
+  cleared k = steps.answer_pending t n (machine.is_pending b k) (b.opening k) code_68 p
+
+  codes_are : (o : Option Bytes) (k : Key) (other known : Bool) → k ≡ key_of m → other ≡ has_other k → known ≡ machine.is_known b (identity_of m) → o ≡ refusal_code t m other known → o ≡ refusal_code t m (has_other (key_of m)) (machine.is_known b (identity_of m))
+  codes_are o k other known ek eo en e = e ∙ (ap (λ z. refusal_code t m z known) (eo ∙ ap has_other ek) ∙ ap (λ z. refusal_code t m (has_other (key_of m)) z) en)
+
+  pub reversal_refused : (p' : Progress) (c : Bytes) (k : Key) (other known : Bool) → k ≡ key_of m → other ≡ has_other k → known ≡ machine.is_known b (identity_of m) → Some c ≡ refusal_code t m other known → p' ≡ replied c → p' ≡ steps.on_reversal t n b m src p
+  reversal_refused p' c k other known ek eo en e is = is ∙ by_code replied (steps.accept t n b m src (cleared (key_of m))) _ _ _ _ c (codes_are (Some c) k other known ek eo en e)
+
+  pub reversal_kept : (b' : Books) (p' p'' : Progress) (k : Key) (other known : Bool) → b' ≡ b → k ≡ key_of m → other ≡ has_other k → known ≡ machine.is_known b (identity_of m) → None ≡ refusal_code t m other known → p' ≡ cleared k → p'' ≡ steps.accept t n b' m src p' → p'' ≡ steps.on_reversal t n b m src p
+  reversal_kept b' p' p'' k other known eb ek eo en e cleared_is is =
+      is
+      ∙ (ap (λ z. steps.accept t n z m src p') eb
+      ∙ (ap (λ z. steps.accept t n b m src z) (cleared_is ∙ ap cleared ek)
+      ∙ by_none replied (steps.accept t n b m src (cleared (key_of m))) _ _ _ _ (codes_are None k other known ek eo en e)))
+
+  pub advice_refused : (p' : Progress) (c : Bytes) (known : Bool) → known ≡ machine.is_known b (identity_of m) → Some c ≡ refusal_code t m false known → p' ≡ replied c → p' ≡ steps.on_advice t n b m src p
+  advice_refused p' c known en e is = is ∙ by_code replied (steps.accept t n b m src p) _ _ false _ c (e ∙ ap (λ z. refusal_code t m false z) en)
+
+  pub advice_kept : (p' : Progress) (known : Bool) → known ≡ machine.is_known b (identity_of m) → None ≡ refusal_code t m false known → p' ≡ steps.accept t n b m src p → p' ≡ steps.on_advice t n b m src p
+  advice_kept p' known en e is = is ∙ by_none replied (steps.accept t n b m src p) _ _ false _ (e ∙ ap (λ z. refusal_code t m false z) en)
 
 pub repeat_steps : (t : Network) (n : ℕ) (x : Lists) (m : Fields) (src : Source) (k : Key) (r : Row) (b : Bool) (a : Option Fields) (p p' : Progress) → k ≡ key_of m → Some r ≡ of_key k x.rows → b ≡ same r src m → a ≡ r.answer → (b ≡ true → p' ≡ steps.on_repeat t n src a p) → (b ≡ false → p' ≡ steps.reply t n src (response m code_94) p) → p' ≡ steps.on_request t n (view t n x) m src ((view t n x).opening (key_of m)) p
 repeat_steps t n x m src k r b a p p' ek found eb ea again other = go b refl

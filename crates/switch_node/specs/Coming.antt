@@ -1,9 +1,12 @@
 -- What a message does as it comes.
-use Rattle.std.specs.Prelude.{[], Some, Bool, true, ◌&&◌}
+use Rattle.std.specs.Prelude.{[], Option, Some, None, Bool, true, ◌&&◌, not, is_none, if◌then◌else◌}
 use Rattle.message_elements.specs.declared.kind.Group.{Group}
 use Rattle.message_elements.specs.declared.kind.Group.TheVariants as groups
-use Rattle.iso_message.specs.Fields.{Fields, has}
+use Rattle.message_elements.specs.Codes.{code_00, code_14, code_92, code_94}
+use Rattle.iso_message.specs.Fields.{Fields, el, has}
 use Rattle.message_keys.specs.Keys.{has_key, has_identity}
+use Rattle.net_rows.specs.Network.{Network, issuer}
+use Rattle.network_law.specs.Cards.{Bytes, card_of, is_good_card}
 use Rattle.network_law.specs.Traces.{Handled}
 use Rattle.node_machine.specs.Lists.{Lists, open_row}
 use Rattle.node_machine.specs.Steps.{Progress}
@@ -23,3 +26,12 @@ is_complete groups.Advice m = has_identity m
 is_complete groups.Reversal m = has_identity m
 is_complete groups.AdviceResponse m = has_identity m
 is_complete groups.ReversalResponse m = true
+
+-- the code of the response to a reversal or an advice that is not kept: of a bad card, without an issuer, of other content, known
+abbrev pub refusal_code : Network → Fields → Bool → Bool → Option Bytes
+refusal_code t m other known =
+    if not (is_good_card (el m 2)) then Some code_14
+    else if is_none (issuer t (card_of m)) then Some code_92
+    else if other then Some code_94
+    else if known then Some code_00
+    else None

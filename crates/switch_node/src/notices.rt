@@ -9,6 +9,7 @@ ghost use Rattle.node_machine.specs.Machine.{is_pending};
 ghost use Rattle.node_machine.specs.Steps.{accept, answer_pending, on_advice, on_reversal};
 ghost use Rattle.node_books.specs.Effects.{progress};
 ghost use Rattle.request_book.specs.Values.{source_of};
+ghost use Rattle.switch_node.specs.Coming.{refusal_code};
 
 use card_digits::{Amount, Key, LinkNo, NodeNo};
 use iso_message::Message;
@@ -77,6 +78,26 @@ fn answer_pending(
     draft.reply(source, own, &response)
 }
 
+/// The code of the response to a reversal or an advice that is not kept: 14 of a bad card, 92 without an issuer, 94 of other content,
+/// and 00 where it is known. None where it is to be kept.
+fn refusal(tables: &Tables, m: &Message, other: bool, known: bool) -> Option<Code>
+    ensures { result ≡ refusal_code tables.now m.now other known }
+{
+    if !has_good_card(m) {
+        return Some(Code::new(*b"14"));
+    }
+    if !has_issuer(tables, m) {
+        return Some(Code::new(*b"92"));
+    }
+    if other {
+        return Some(Code::new(*b"94"));
+    }
+    if known {
+        return Some(Code::new(*b"00"));
+    }
+    None
+}
+
 /// A reversal.
 #[tactic(auto, using(step_draft::proofs::Messages::advice_key))]
 pub(crate) fn on_reversal(
@@ -92,18 +113,10 @@ pub(crate) fn on_reversal(
     ensures base { draft.new.base ≡ draft.old.base }
     ensures ok { OnOk result (progress draft.new ≡ on_reversal tables.now node (view tables.now node draft.old.base) m.now (source_of source) (progress draft.old)) }
 {
-    if !has_good_card(m) {
-        return draft.respond(source, id.key, m, Code::new(*b"14"));
-    }
-    if !has_issuer(tables, m) {
-        return draft.respond(source, id.key, m, Code::new(*b"92"));
-    }
     let other = other_content(draft.books(), id.key, m)?;
-    if other {
-        return draft.respond(source, id.key, m, Code::new(*b"94"));
-    }
-    if draft.books().is_known(id) {
-        return draft.respond(source, id.key, m, Code::new(*b"00"));
+    let known = draft.books().is_known(id);
+    if let Some(code) = refusal(tables, m, other, known) {
+        return draft.respond(source, id.key, m, code);
     }
     answer_pending(draft, tables, node, id.key)?;
     accept(draft, tables, node, id, m, source)
@@ -124,14 +137,9 @@ pub(crate) fn on_advice(
     ensures base { draft.new.base ≡ draft.old.base }
     ensures ok { OnOk result (progress draft.new ≡ on_advice tables.now node (view tables.now node draft.old.base) m.now (source_of source) (progress draft.old)) }
 {
-    if !has_good_card(m) {
-        return draft.respond(source, id.key, m, Code::new(*b"14"));
-    }
-    if !has_issuer(tables, m) {
-        return draft.respond(source, id.key, m, Code::new(*b"92"));
-    }
-    if draft.books().is_known(id) {
-        return draft.respond(source, id.key, m, Code::new(*b"00"));
+    let known = draft.books().is_known(id);
+    if let Some(code) = refusal(tables, m, false, known) {
+        return draft.respond(source, id.key, m, code);
     }
     accept(draft, tables, node, id, m, source)
 }
