@@ -15,3 +15,5 @@ mod made;
 mod messages;
 #[cfg(test)]
 mod table;
+#[cfg(test)]
+mod words;
