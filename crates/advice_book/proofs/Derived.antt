@@ -1,12 +1,8 @@
 -- The derived comparisons of names and identities are the stated ones.
-use Rattle.std.proofs.Common.{◌≡◌, Bool, List, [], ◌∷◌, cond, refl, ◌∙◌, sym, Option}
+use Rattle.std.proofs.Common.{◌≡◌, Bool, List, cond, refl, ◌∙◌, sym, Option}
 use Rattle.std.specs.Map.{lookup}
-use Rattle.std.specs.List.{list_any}
 use Rattle.message_keys.specs.declared.keys.AdviceKind.{AdviceKind}
 use Rattle.message_keys.specs.declared.keys.AdviceKind.TheVariants as kinds
-use Rattle.message_keys.specs.declared.keys.AdviceId.{AdviceId}
-use Rattle.message_keys.specs.contracts.keys.AdviceIdPartialEq.TheImpl as derived_ids
-use Rattle.book_index.specs.Keys.{same_id}
 use Rattle.advice_book.specs.Items.{name_eq}
 use Rattle.advice_book.specs.declared.places.Held.{Held}
 use Rattle.advice_book.specs.declared.item.ItemName.{ItemName}

@@ -1,15 +1,7 @@
 -- Names that compare as equal are one.
-use Rattle.std.proofs.Common.{◌≡◌, ◌≢◌, ℕ, ◌&&◌, true, false, List, bytes_eq, refl, ap, ◌∙◌, subst, inl, inr, eq-eqb}
-use Rattle.std.proofs.lemmas.Bool.{cases_Bool, and_parts, eqb-true}
-use Rattle.message_keys.specs.Keys.{same_kind}
-use Rattle.message_keys.specs.declared.keys.AdviceId.{AdviceId}
-use Rattle.message_keys.specs.declared.keys.AdviceKind.{AdviceKind}
-use Rattle.message_keys.specs.declared.keys.AdviceKind.TheVariants as kinds
-use Rattle.book_index.specs.Keys.{same_key}
-use Rattle.std.specs.Cmp.Lexicographic.{same_text}
+use Rattle.std.proofs.Common.{◌≡◌, ◌≢◌, true, false, refl, ap, subst, inl, inr, eq-eqb}
+use Rattle.std.proofs.lemmas.Bool.{cases_Bool, eqb-true}
 use Rattle.book_index.proofs.Identities.{id_refl, id_same}
-use Rattle.book_index.proofs.Texts.{text_refl, key_refl, key_same}
-use Rattle.book_index.specs.Keys.{same_id}
 use Rattle.advice_book.specs.Items.{name_eq, name_in, put_on}
 use Rattle.advice_book.specs.declared.item.Item.{Item}
 use Rattle.advice_book.specs.declared.item.Item.TheVariants as items

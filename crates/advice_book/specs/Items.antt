@@ -1,8 +1,6 @@
 -- Advices and grants in the order of their storing.
-use Rattle.std.specs.Prelude.{ℕ, Bool, true, false, ◌&&◌, ◌==◌, bytes_eq, if◌then◌else◌, List, find, Option, Some, None, is_some}
+use Rattle.std.specs.Prelude.{ℕ, Bool, true, false, ◌==◌, if◌then◌else◌, List, find, Option, Some, None, is_some}
 use Rattle.book_index.specs.Keys.{same_id}
-use Rattle.message_keys.specs.Keys.{same_kind}
-use Rattle.message_keys.specs.declared.keys.AdviceId.{AdviceId}
 use Rattle.network_law.specs.Decision.{is_due_again}
 use Rattle.network_law.specs.declared.grant.Grant.{Grant}
 use Rattle.advice_book.specs.declared.item.Advice.{Advice}
