@@ -109,7 +109,7 @@ impl Kind {
         }
     }
 
-    /// Its four bytes.
+    /// The four bytes that write the type.
     #[inline]
     pub fn as_slice(self) -> &'static [u8]
         ensures { result.now ≡ kind_text self }

@@ -63,7 +63,7 @@ impl NodePrefixes {
     }
 }
 
-/// The row's node and its prefix, which is new at the node.
+/// The row's node and its prefix, which is new at the node. After a fault nothing is said of what is taken, so reading ends there.
 #[tactic(auto, unfolding(crate::specs::Reading::new_prefix_at))]
 pub fn new_prefix_at(
     row: &Row,
