@@ -8,3 +8,4 @@ pub mod Decimals
 pub mod Cuts
 pub mod LineCuts
 pub mod Padded
+pub mod Attempts

@@ -16,3 +16,4 @@ pub mod KnownLemmas
 pub mod PartLemmas
 pub mod Together
 pub mod RunLemmas
+pub mod MemoryFault

@@ -11,12 +11,14 @@ use Rattle.message_elements.specs.declared.kind.Kind.{Kind}
 use Rattle.message_elements.specs.declared.fault.DecodeFault.{DecodeFault}
 use Rattle.message_elements.specs.declared.fault.DecodeFault.TheVariants as faults
 use Rattle.message_elements.specs.Types.{kind_of}
-use Rattle.card_digits.specs.Attempts.{◌>>=◌}
+use Rattle.card_digits.specs.Attempts.{◌>>=◌, Fails, Gives}
 use Rattle.iso_message.specs.Elements.{field_at, with_next, with_all}
 use Rattle.message_elements.specs.Table.{form_of}
 use Rattle.iso_message.specs.Fields.{Fields}
-use Rattle.iso_message.specs.Messages.{Fails, Gives, marks, typed, kind_at, mapped, map_at, second_at, read}
+use Rattle.iso_message.specs.Messages.{marks, typed, kind_at, mapped, map_at, second_at, read, is_memory}
 use Rattle.iso_message.specs.Grammar.{ArePieces, IsMap, AreMaps, announced, Spells, IsKind, IsFault, AtKind, AtFirst, AtSecond, AtElement, AtEnd}
+use Rattle.card_digits.proofs.Attempts.{fails_either}
+use Rattle.iso_message.proofs.MemoryFault.{memory_is}
 use Rattle.iso_message.proofs.Pieces.{bind_ok, guard_ok, pass_ok, front, field_takes, field_again}
 
 abbrev pub Elements : Type 0
@@ -316,24 +318,20 @@ read_fails bytes fault e =
 -- ---- what a function returned
 
 module _ {X : Type 0} (view : X → Fields) (bytes : List ℕ) where
-  pub is_found : (r : Result X DecodeFault) → Gives view r (read bytes) → IfOk r (λ m. Spells bytes (view m))
+  pub is_found : (r : Result X DecodeFault) → Gives is_memory view r (read bytes) → IfOk r (λ m. Spells bytes (view m))
   is_found (Ok m) given = read_takes bytes (view m) given
   is_found (Err e) given = tt
 
-  pub is_only : (r : Result X DecodeFault) (m : Fields) → Spells bytes m → Gives view r (read bytes) → Gives view r (Ok m)
-  is_only r m h given = subst (λ (x : Result Fields DecodeFault). Gives view r x) (read_again bytes m h) given
+  pub is_only : (r : Result X DecodeFault) (m : Fields) → Spells bytes m → Gives is_memory view r (read bytes) → Gives is_memory view r (Ok m)
+  is_only r m h given = subst (λ (x : Result Fields DecodeFault). Gives is_memory view r x) (read_again bytes m h) given
 
-  of_fault : (e : DecodeFault) → Fails e (read bytes) → (e ≡ faults.Memory) ⊎ IsFault bytes e
-  of_fault faults.Memory h = inl refl
-  of_fault faults.Short h = inr (read_fails bytes faults.Short h)
-  of_fault faults.BadType h = inr (read_fails bytes faults.BadType h)
-  of_fault faults.BitMap h = inr (read_fails bytes faults.BitMap h)
-  of_fault (faults.Element n) h = inr (read_fails bytes (faults.Element n) h)
-  of_fault (faults.Length n) h = inr (read_fails bytes (faults.Length n) h)
-  of_fault (faults.Character n) h = inr (read_fails bytes (faults.Character n) h)
-  of_fault faults.Trailing h = inr (read_fails bytes faults.Trailing h)
+  of_fault : (e : DecodeFault) → Fails is_memory e (read bytes) → (e ≡ faults.Memory) ⊎ IsFault bytes e
+  of_fault e h = elim (fails_either is_memory e (read bytes) h) [
+    | inl memory ↦ inl (memory_is e memory)
+    | inr fails ↦ inr (read_fails bytes e fails)
+  ]
 
-  pub is_fault : (r : Result X DecodeFault) → Gives view r (read bytes) → IfErr r (λ e. (e ≡ faults.Memory) ⊎ IsFault bytes e)
+  pub is_fault : (r : Result X DecodeFault) → Gives is_memory view r (read bytes) → IfErr r (λ e. (e ≡ faults.Memory) ⊎ IsFault bytes e)
   is_fault (Ok m) given = tt
   is_fault (Err e) given = of_fault e given
 

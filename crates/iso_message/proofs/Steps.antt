@@ -5,11 +5,11 @@ use Rattle.std.proofs.Math.Nat.{pow-le-pow_right}
 use Rattle.std.specs.Int.Count.{count_leading_zeros}
 use Rattle.std.proofs.lemmas.Nat.{leading_top, one_shl}
 use Rattle.message_elements.specs.declared.fault.DecodeFault.{DecodeFault}
-use Rattle.message_elements.specs.declared.fault.DecodeFault.TheVariants as faults
-use Rattle.card_digits.specs.Attempts.{◌>>=◌}
+use Rattle.card_digits.specs.Attempts.{Fails}
+use Rattle.card_digits.proofs.Attempts.{fails_bind}
 use Rattle.iso_message.specs.Elements.{with_next, with_all}
 use Rattle.message_elements.specs.Table.{form_of}
-use Rattle.iso_message.specs.Messages.{marks, Fails}
+use Rattle.iso_message.specs.Messages.{marks, is_memory}
 
 pub marks_down : (last k j map : ℕ) → j ≤ k → map < 2 ^ j → marks last k map ≡ marks last j map
 unfolding marks
@@ -45,26 +45,12 @@ goes_on es more n ns ms bytes rest total e read so_far =
     let one : with_all es ms bytes ≡ with_all more ns rest = rw (e, read) refl in
     sym one ∙ so_far
 
--- a fault of the first step is one of both
-pub fails_then : {A B : Type 0} (fault : DecodeFault) (r : Result A DecodeFault) (f : A → Result B DecodeFault) → Fails fault r → Fails fault (r >>= f)
-fails_then faults.Memory r f h = tt
-fails_then faults.Short r f h = ap (λ x. x >>= f) h
-fails_then faults.BadType r f h = ap (λ x. x >>= f) h
-fails_then faults.BitMap r f h = ap (λ x. x >>= f) h
-fails_then (faults.Element n) r f h = ap (λ x. x >>= f) h
-fails_then (faults.Length n) r f h = ap (λ x. x >>= f) h
-fails_then (faults.Character n) r f h = ap (λ x. x >>= f) h
-fails_then faults.Trailing r f h = ap (λ x. x >>= f) h
-
-fails_along : {A : Type 0} (fault : DecodeFault) (r s : Result A DecodeFault) → r ≡ s → Fails fault r → Fails fault s
-fails_along {A} fault r s e h = subst (λ (x : Result A DecodeFault). Fails fault x) e h
-
-pub ends : (fault : DecodeFault) (es : List (ℕ × List ℕ)) (n : ℕ) (ns ms bytes : List ℕ) (total : Result (List (ℕ × List ℕ) × List ℕ) DecodeFault) → ms ≡ n ∷ ns → Fails fault (with_next es (form_of n) n bytes)
-    → with_all es ms bytes ≡ total → Fails fault total
+pub ends : (fault : DecodeFault) (es : List (ℕ × List ℕ)) (n : ℕ) (ns ms bytes : List ℕ) (total : Result (List (ℕ × List ℕ) × List ℕ) DecodeFault) → ms ≡ n ∷ ns → Fails is_memory fault (with_next es (form_of n) n bytes)
+    → with_all es ms bytes ≡ total → Fails is_memory fault total
 unfolding with_all
 ends fault es n ns ms bytes total e read so_far =
-    fails_along fault (with_next es (form_of n) n bytes >>= λ x. with_all x.0 ns x.1) total (sym (ap (λ ks. with_all es ks bytes) e) ∙ so_far)
-    (fails_then fault (with_next es (form_of n) n bytes) (λ x. with_all x.0 ns x.1) read)
+    subst (Fails is_memory fault) (sym (ap (λ ks. with_all es ks bytes) e) ∙ so_far)
+    (fails_bind is_memory fault (with_next es (form_of n) n bytes) (λ x. with_all x.0 ns x.1) read)
 
 -- the power of two that a map's highest set bit stands for, as the code shifts it
 abbrev pub top_bit : ℕ → ℕ

@@ -1,5 +1,5 @@
 -- Messages, and what is read.
-use Rattle.std.specs.Prelude.{◌≡◌, ℕ, zero, suc, ◌-◌, ◌%◌, ◌^◌, ◌==◌, nat_lt, List, [], ◌∷◌, length, take, drop, Option, Some, None, Result, Ok, Err, if◌then◌else◌}
+use Rattle.std.specs.Prelude.{◌≡◌, ℕ, zero, suc, ◌-◌, ◌%◌, ◌^◌, ◌==◌, nat_lt, Bool, true, false, List, [], ◌∷◌, length, take, drop, Option, Some, None, Result, Ok, Err, if◌then◌else◌}
 use Rattle.std.specs.Int.{w64, from_be_bytes}
 use Rattle.hex.specs.Hex.{decode_sized}
 use Rattle.hex.specs.declared.error.FromHexError.{FromHexError}
@@ -49,12 +49,7 @@ abbrev pub Reads : {X Y : Type 0} → (X → Y) → Result X DecodeFault → Res
 Reads view (Ok x) read = read ≡ Ok (view x)
 Reads view (Err e) read = read ≡ Err e
 
--- a fault is that of reading, or memory ran out
-abbrev pub Fails : {Y : Type 0} → DecodeFault → Result Y DecodeFault → Type 0
-Fails faults.Memory read = Unit {0}
-Fails e read = read ≡ Err e
-
--- what a function returned is what reading gives, unless memory ran out
-abbrev pub Gives : {X Y : Type 0} → (X → Y) → Result X DecodeFault → Result Y DecodeFault → Type 0
-Gives view (Ok x) read = read ≡ Ok (view x)
-Gives view (Err e) read = Fails e read
+-- the fault of a function that was refused memory
+abbrev pub is_memory : DecodeFault → Bool
+is_memory faults.Memory = true
+is_memory e = false

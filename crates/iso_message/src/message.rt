@@ -5,7 +5,8 @@ ghost use Rattle.message_elements.specs.declared.fault.DecodeFault.TheVariants.{
 ghost use Rattle.message_elements.specs.Values.{set_fault};
 ghost use Rattle.message_elements.specs.Table.{form_of};
 ghost use Rattle.iso_message.specs.Grammar.{Spells, IsFault};
-ghost use Rattle.iso_message.specs.Messages.{read, Gives};
+ghost use Rattle.card_digits.specs.Attempts.{Gives};
+ghost use Rattle.iso_message.specs.Messages.{read, is_memory};
 ghost use Rattle.iso_message.specs.Spelling.{IsMessage, spelling, two_maps};
 ghost use Rattle.iso_message.specs.Fields.{Fields, get, has, el, set_element, remove_element, as_kind};
 
@@ -139,9 +140,9 @@ impl Message {
     /// After a fault there are no elements.
     pub fn read_again(&mut self, bytes: &[u8]) -> Result<(), DecodeFault>
         ensures found { IfOk result (λ _. Spells bytes.now self.new) }
-        ensures only { (m : Fields) → Spells bytes.now m → Gives (λ _. self.new) result (Ok m) }
+        ensures only { (m : Fields) → Spells bytes.now m → Gives is_memory (λ _. self.new) result (Ok m) }
         ensures fault { IfErr result (λ e. (e ≡ Memory) ⊎ IsFault bytes.now e) }
-        ensures exact { Gives (λ _. self.new) result (read bytes.now) }
+        ensures exact { Gives is_memory (λ _. self.new) result (read bytes.now) }
         ensures err { OnErr result (self.new ≡ record { kind = self.old.kind; elements = [] }) }
     {
         self.fill(bytes)
@@ -149,7 +150,7 @@ impl Message {
 
     /// The same, by what reading gives.
     fn fill(&mut self, bytes: &[u8]) -> Result<(), DecodeFault>
-        ensures exact { Gives (λ _. self.new) result (read bytes.now) }
+        ensures exact { Gives is_memory (λ _. self.new) result (read bytes.now) }
         ensures err { OnErr result (self.new ≡ record { kind = self.old.kind; elements = [] }) }
     {
         let found = read_into(&mut self.elements, bytes)?;

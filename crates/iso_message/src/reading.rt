@@ -12,7 +12,8 @@ ghost use Rattle.message_elements.specs.declared.fault.DecodeFault.TheVariants.{
 ghost use Rattle.iso_message.specs.Grammar.{Spells, IsFault};
 ghost use Rattle.iso_message.specs.Spelling.{IsMessage};
 ghost use Rattle.iso_message.specs.Fields.{Fields};
-ghost use Rattle.iso_message.specs.Messages.{marks, kind_at, map_at, second_at, read, Reads, Gives};
+ghost use Rattle.card_digits.specs.Attempts.{Gives};
+ghost use Rattle.iso_message.specs.Messages.{marks, kind_at, map_at, second_at, read, Reads, is_memory};
 
 use crate::elements::{Elements, Parts};
 use crate::message::Message;
@@ -117,7 +118,7 @@ fn add_next<'a>(
 ) -> Result<&'a [u8], DecodeFault>
     requires known { IsKnown known.old bytes.now }
     requires end { IsEnd bytes.now parts.old.body }
-    ensures value { Gives (λ rest. (parts.new.elements, rest.now)) result (with_next parts.old.elements (form_of number) number bytes.now) }
+    ensures value { Gives is_memory (λ rest. (parts.new.elements, rest.now)) result (with_next parts.old.elements (form_of number) number bytes.now) }
     ensures known { IfOk result (λ rest. IsKnown known.new rest.now) }
     ensures end { IfOk result (λ rest. IsEnd rest.now parts.new.body) }
 {
@@ -158,7 +159,7 @@ fn add_all<'a>(
     requires most { last ≤ 128 }
     requires known { IsKnown known.old bytes.now }
     requires end { IsEnd bytes.now parts.old.body }
-    ensures value { Gives (λ rest. (parts.new.elements, rest.now)) result (with_all parts.old.elements (marks last 64 map) bytes.now) }
+    ensures value { Gives is_memory (λ rest. (parts.new.elements, rest.now)) result (with_all parts.old.elements (marks last 64 map) bytes.now) }
     ensures known { IfOk result (λ rest. IsKnown known.new rest.now) }
     ensures end { IfOk result (λ rest. IsEnd rest.now parts.new.body) }
 {
@@ -221,7 +222,7 @@ const BINARY_HIGH: u64 = 1;
 /// are none.
 #[tactic(auto, unfolding(crate::specs::Messages::read))]
 pub(crate) fn read_into(elements: &mut Elements, bytes: &[u8]) -> Result<Kind, DecodeFault>
-    ensures exact { Gives (λ kind. record { kind = kind; elements = elements.new }) result (read bytes.now) }
+    ensures exact { Gives is_memory (λ kind. record { kind = kind; elements = elements.new }) result (read bytes.now) }
     ensures none { OnErr result (elements.new ≡ []) }
 {
     let old = elements.take();
@@ -243,7 +244,7 @@ pub(crate) fn read_into(elements: &mut Elements, bytes: &[u8]) -> Result<Kind, D
 }
 
 fn whole(alloc: Global, bytes: &[u8]) -> Result<Message, DecodeFault>
-    ensures exact { Gives (λ m. m) result (read bytes.now) }
+    ensures exact { Gives is_memory (λ m. m) result (read bytes.now) }
 {
     let mut elements = Elements::new(alloc);
     let kind = read_into(&mut elements, bytes)?;
@@ -260,13 +261,13 @@ pub fn decode(alloc: Global, bytes: &[u8]) -> Result<Message, DecodeFault>
     ensures is_message { IfOk result (λ m. IsMessage m) }
 
     // What is spelled so is read, unless memory ran out.
-    ensures only { (m : Fields) → Spells bytes.now m → Gives (λ x. x) result (Ok m) }
+    ensures only { (m : Fields) → Spells bytes.now m → Gives is_memory (λ x. x) result (Ok m) }
 
     // A fault stands in the place of the first piece that isn't right.
     ensures fault { IfErr result (λ e. (e ≡ Memory) ⊎ IsFault bytes.now e) }
 
     // Which answer it is.
-    ensures exact { Gives (λ x. x) result (read bytes.now) }
+    ensures exact { Gives is_memory (λ x. x) result (read bytes.now) }
 {
     whole(alloc, bytes)
 }

@@ -1,12 +1,15 @@
 -- Fronts of texts that went out, and texts in pieces.
-use Rattle.std.proofs.Common.{◌≡◌, ℕ, List, [], ◌++◌, Option, Some, Err, refl, sym, ap, subst, ◌∙◌, append_assoc, append-nil, codes, inl, inr}
+use Rattle.std.proofs.Common.{◌≡◌, ℕ, List, [], ◌++◌, Option, Some, Err, sym, ap, subst, ◌∙◌, append_assoc, append-nil, codes, inl, inr}
 use Rattle.std.specs.Prelude.{decimal}
 use Rattle.std.specs.Io.KnownBytes.{Appends}
 use Rattle.std.proofs.KnownBytes.{Appends-nil}
 use Rattle.card_digits.specs.Stream.{AppendsFront}
 use Rattle.message_elements.specs.declared.fault.DecodeFault.{DecodeFault}
-use Rattle.message_elements.specs.declared.fault.DecodeFault.TheVariants.{Short, BadType, BitMap, Element, Length, Character, Trailing, Memory}
-use Rattle.iso_message.specs.Messages.{Fails, read}
+use Rattle.message_elements.specs.declared.fault.DecodeFault.TheVariants.{Memory}
+use Rattle.card_digits.specs.Attempts.{Fails}
+use Rattle.iso_message.specs.Messages.{read, is_memory}
+use Rattle.card_digits.proofs.Attempts.{fails_either}
+use Rattle.iso_message.proofs.MemoryFault.{memory_is}
 use Rattle.message_text.specs.Printed.{heading, fault_line, block, IsAnswer, Sends}
 
 -- all that was there to send went out
@@ -29,12 +32,8 @@ pub front_is : (a b : Option (List ℕ)) (xs ys : List ℕ) → xs ≡ ys → Ap
 front_is a b xs ys e f = subst (AppendsFront a b) e f
 
 -- a fault that reading gives, or memory's, is an answer
-pub fault_answers : (bytes : List ℕ) (fault : DecodeFault) → Fails fault (read bytes) → IsAnswer (Some bytes) (Err fault)
-fault_answers bytes Short h = inl (sym h)
-fault_answers bytes BadType h = inl (sym h)
-fault_answers bytes BitMap h = inl (sym h)
-fault_answers bytes (Element n) h = inl (sym h)
-fault_answers bytes (Length n) h = inl (sym h)
-fault_answers bytes (Character n) h = inl (sym h)
-fault_answers bytes Trailing h = inl (sym h)
-fault_answers bytes Memory h = inr refl
+pub fault_answers : (bytes : List ℕ) (fault : DecodeFault) → Fails is_memory fault (read bytes) → IsAnswer (Some bytes) (Err fault)
+fault_answers bytes fault h = elim (fails_either is_memory fault (read bytes) h) [
+  | inl memory ↦ inr (ap Err (memory_is fault memory))
+  | inr fails ↦ inl (sym fails)
+]

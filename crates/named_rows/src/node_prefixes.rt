@@ -1,8 +1,9 @@
 //! Rows at a node, with a prefix that is new there.
-ghost use Rattle.std.specs.Prelude.{◌≡◌, ◌==◌, ◌<◌, not, length, slice_set, OnOk, IfOk};
+ghost use Rattle.std.specs.Prelude.{◌≡◌, ◌==◌, ◌<◌, not, length, slice_set, OnOk, OnErr, IfOk};
 ghost use Rattle.indexmap.specs.IndexSet.{insert_key};
 ghost use Rattle.std.specs.Cmp.Lexicographic.{pointwise};
-ghost use Rattle.table_fields.specs.Faults.{Gives};
+ghost use Rattle.card_digits.specs.Attempts.{Gives};
+ghost use Rattle.table_fields.specs.Faults.{is_memory};
 ghost use Rattle.table_fields.specs.Fields.{row_view};
 ghost use Rattle.named_rows.specs.Rows.{node_names, prefixes_at, AreEmpty, IsTaken, is_among};
 ghost use Rattle.named_rows.specs.Reading.{new_prefix_at};
@@ -58,12 +59,13 @@ impl NodePrefixes {
         requires { node < length self.old }
         ensures new { IfOk result (λ is_new. is_new ≡ not (is_among (prefixes_at self.old node) prefix)) }
         ensures set { OnOk result (self.new ≡ slice_set self.old node (insert_key (pointwise ◌==◌) (prefixes_at self.old node) prefix)) }
+        ensures stays { OnErr result (self.new ≡ self.old) }
     {
         Ok(self.sets[node.place()].insert(prefix)?)
     }
 }
 
-/// The row's node and its prefix, which is new at the node. After a fault nothing is said of what is taken, so reading ends there.
+/// The row's node and its prefix, which is new at the node.
 #[tactic(auto, unfolding(crate::specs::Reading::new_prefix_at))]
 pub fn new_prefix_at(
     row: &Row,
@@ -71,8 +73,9 @@ pub fn new_prefix_at(
     taken: &mut NodePrefixes,
 ) -> Result<(NodeNo, Prefix), TableFault>
     requires { length taken.old ≡ length nodes.now }
-    ensures value { Gives (λ p. p) result (new_prefix_at (node_names nodes.now) (prefixes_at taken.old) (row_view row.now)) }
+    ensures value { Gives is_memory (λ p. p) result (new_prefix_at (node_names nodes.now) (prefixes_at taken.old) (row_view row.now)) }
     ensures taken { IfOk result (λ p. IsTaken p.0 p.1 taken.old taken.new) }
+    ensures stays { OnErr result (taken.new ≡ taken.old) }
 {
     let node = node_at(row, Key::Node, nodes)?;
     if taken.count(node) >= MOST_ROWS {

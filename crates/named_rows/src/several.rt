@@ -1,7 +1,8 @@
 //! Fields that name several rows.
 ghost use Rattle.std.specs.Prelude.{◌≡◌, ◌≤◌, [], map, IfOk, true};
 ghost use Rattle.std.specs.List.{list_all};
-ghost use Rattle.table_fields.specs.Faults.{Gives};
+ghost use Rattle.card_digits.specs.Attempts.{Gives};
+ghost use Rattle.table_fields.specs.Faults.{is_memory};
 ghost use Rattle.table_fields.specs.Fields.{row_view};
 ghost use Rattle.named_rows.specs.Rows.{node_names, link_names};
 ghost use Rattle.named_rows.specs.Reading.{all_named, nodes_at, links_at, is_twice};
@@ -68,7 +69,7 @@ fn all_named<R: Named, P: Places>(
     at: Place,
 ) -> Result<P, TableFault>
     requires { R.most ≤ P.most }
-    ensures { Gives P.places result (all_named (map R.name_of rows.now) at names.now) }
+    ensures { Gives is_memory P.places result (all_named (map R.name_of rows.now) at names.now) }
 {
     let mut found = P::none(alloc);
     for name in names {
@@ -87,14 +88,14 @@ fn is_twice<T: PartialEq>(items: &[T]) -> bool
 }
 
 /// The nodes that a field names, none twice.
-#[tactic(auto, unfolding(crate::specs::Reading::nodes_at), using(table_fields::proofs::Faults::fails_bind))]
+#[tactic(auto, unfolding(crate::specs::Reading::nodes_at), using(card_digits::proofs::Attempts::fails_bind))]
 pub fn nodes_at(
     alloc: Global,
     row: &Row,
     key: Key,
     nodes: &NamedRows<Node>,
 ) -> Result<Nodes, TableFault>
-    ensures { Gives (λ v. v) result (nodes_at (node_names nodes.now) (row_view row.now) key) }
+    ensures { Gives is_memory (λ v. v) result (nodes_at (node_names nodes.now) (row_view row.now) key) }
 {
     let names = row.names(alloc, key)?;
     let found: Nodes = all_named(alloc, nodes, &names, row.place(key))?;
@@ -120,7 +121,7 @@ fn all_at(links: &[Link], node: NodeNo, found: &[LinkNo]) -> bool
 }
 
 /// One to eight links of the node that a field names, none twice.
-#[tactic(auto, unfolding(crate::specs::Reading::links_at), using(table_fields::proofs::Faults::fails_bind))]
+#[tactic(auto, unfolding(crate::specs::Reading::links_at), using(card_digits::proofs::Attempts::fails_bind))]
 pub fn links_at(
     alloc: Global,
     row: &Row,
@@ -128,7 +129,7 @@ pub fn links_at(
     node: NodeNo,
     links: &NamedRows<Link>,
 ) -> Result<Links, TableFault>
-    ensures value { Gives (λ v. v) result (links_at links.now node (row_view row.now) key) }
+    ensures value { Gives is_memory (λ v. v) result (links_at links.now node (row_view row.now) key) }
     ensures own { IfOk result (λ v. list_all (is_end links.now node) v ≡ true) }
 {
     let names = row.names(alloc, key)?;

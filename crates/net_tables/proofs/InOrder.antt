@@ -1,12 +1,13 @@
 -- Tables that are read row by row are those of the tree.
-use Rattle.std.proofs.Common.{◌≡◌, ℕ, Bool, true, List, [], ◌∷◌, Ordering, Less, Equal, Greater, nat_cmp, Some, Result, Ok, refl}
+use Rattle.std.proofs.Common.{◌≡◌, ℕ, Bool, true, List, [], ◌∷◌, map, Ordering, Less, Equal, Greater, nat_cmp, Some, Result, Ok, refl}
 use Rattle.std.proofs.lemmas.Bool.{and_parts}
 use Rattle.std.specs.List.{list_all}
 use Rattle.std.specs.Ordering.{match_ordering}
 use Rattle.std.specs.Cmp.Lexicographic.{slice_cmp}
 use Rattle.toml.specs.Data.{Data, Members, no_members, member, get_member, table as table_data}
 use Rattle.toml.specs.Parse.{parse_document}
-use Rattle.toml_rows.specs.Rows.{Section, items_of, with_member, with_rows, with_sections, root_of, IsDocument}
+use Rattle.toml.specs.View.{items_of}
+use Rattle.toml_rows.specs.Rows.{Section, with_member, with_rows, with_sections, root_of, IsDocument}
 use Rattle.toml_rows.proofs.Documents.{document_is}
 use Rattle.toml_rows.proofs.Found.{array_of, are_new, AreAbsent, section_there, sections_other}
 use Rattle.net_rows.specs.Network.{Network}
@@ -17,10 +18,10 @@ use Rattle.table_fields.specs.declared.fault.TableFault.{TableFault}
 use Rattle.table_fields.specs.declared.place.Table.{Table}
 use Rattle.table_fields.specs.declared.place.Table.TheVariants as table
 use Rattle.net_tables.specs.AllRows.{all_rows}
-use Rattle.net_tables.specs.Reading.{network_of, all_table_words, tables_of, tables_on, tables_with, tables_by_tree}
+use Rattle.net_tables.specs.Reading.{network_of, all_table_words, base_of, parties_of, rules_of, tables_of, tables_by_tree}
 use Rattle.net_tables.specs.InOrder.{AreNext, AreInOrder}
 
-each_a_table : (rows : List Members) → all_tables (items_of rows) ≡ Some rows
+each_a_table : (rows : List Members) → all_tables (items_of (map table_data rows)) ≡ Some rows
 each_a_table [] = refl
 each_a_table (ms ∷ rows) = rw (each_a_table rows)
 
@@ -59,15 +60,15 @@ section : Table → List Members → Section
 section t rows = record { word = table_word t; rows = rows }
 
 pub in_order : (n : Network) (text : List ℕ) → AreInOrder n text → tables_by_tree text ≡ Ok n
-unfolding tables_of tables_on tables_with network_of section
+unfolding tables_of base_of parties_of rules_of network_of section
 in_order n text h =
     let settings = h.base.settings_next in
     let nodes = h.base.nodes_next in
     let links = h.base.links_next in
     let acquirers = h.parties.acquirers_next in
     let issuers = h.parties.issuers_next in
-    let routes = h.routes_next in
-    let stand_ins = h.stand_ins_next in
+    let routes = h.rules.routes_next in
+    let stand_ins = h.rules.stand_ins_next in
     let s1 = section table.Node nodes.members in
     let s2 = section table.Link links.members in
     let s3 = section table.Acquirer acquirers.members in
@@ -80,10 +81,10 @@ in_order n text h =
     let absent : AreAbsent sections first = (refl, (refl, (refl, (refl, (refl, (refl, tt)))))) in
     let document : IsDocument (table_word table.Network) settings.members sections text = record {
       after_table = h.base.after_settings;
-      after_sections = h.rest;
+      after_sections = h.rules.rest;
       begins = settings.stands;
-      goes_on = (h.base.after_nodes, nodes.stand, (h.after_base, links.stand, (h.parties.after_acquirers, acquirers.stand, (h.after_parties, issuers.stand, (h.after_routes, routes.stand, (h.rest, stand_ins.stand, refl))))));
-      ends = h.over;
+      goes_on = (h.base.after_nodes, nodes.stand, (h.after_base, links.stand, (h.parties.after_acquirers, acquirers.stand, (h.after_parties, issuers.stand, (h.rules.after_routes, routes.stand, (h.rules.rest, stand_ins.stand, refl))))));
+      ends = h.rules.over;
     } in
     let parsed : parse_document text ≡ Some root = document_is (table_word table.Network) settings.members sections text document (are_new sections first refl absent) in
     let network_there : get_member (table_word table.Network) root ≡ Some (table_data settings.members) = sections_other (table_word table.Network) sections first refl in

@@ -1,12 +1,12 @@
 -- A loop over rows reads them all.
-use Rattle.std.proofs.Common.{◌≡◌, ℕ, ◌+◌, ◌<◌, ◌≤◌, List, [], ◌∷◌, ◌++◌, map, length, get_or, drop, Result, Ok, Err, refl, sym, ◌∙◌}
+use Rattle.std.proofs.Common.{◌≡◌, ℕ, ◌+◌, ◌<◌, ◌≤◌, List, [], ◌∷◌, ◌++◌, map, length, get_or, drop, Result, Ok, Err, refl, sym, subst, ◌∙◌}
 use Rattle.std.specs.List.{AllByRecursion}
 use Rattle.std.proofs.lemmas.List.{drop_more, drop_all, drop-map}
-use Rattle.card_digits.specs.Attempts.{◌>>=◌}
-use Rattle.table_fields.specs.Faults.{Fails}
+use Rattle.card_digits.specs.Attempts.{◌>>=◌, Fails}
+use Rattle.table_fields.specs.Faults.{is_memory}
+use Rattle.card_digits.proofs.Attempts.{fails_bind}
 use Rattle.named_rows.specs.Each.{each}
 use Rattle.table_fields.specs.declared.fault.TableFault.{TableFault}
-use Rattle.table_fields.specs.declared.fault.TableFault.TheVariants.{NotToml, MissingField, BadValue, UnknownName, Twice, TooMany, NotAtLink, Memory}
 
 turn : {X A R : Type 0} (seen : X → A) (read : List R → A → Result R TableFault) (done : List R) (xs : List X) (i : ℕ) (x : X) → i < length xs → x ≡ get_or xs i x
     → each read done (drop i (map seen xs)) ≡ (read done (seen x) >>= λ r. each read (done ++ r ∷ []) (drop (i + 1) (map seen xs)))
@@ -24,15 +24,10 @@ each_on seen read done xs i x r all lt is same h = sym (sym same ∙ turn seen r
 
 -- a reader that may run out of memory, at an item
 pub each_fails_unless : {X A R : Type 0} (seen : X → A) (read : List R → A → Result R TableFault) (done : List R) (xs : List X) (i : ℕ) (x : X) (e : TableFault) (all : Result (List R) TableFault) → i < length xs → x ≡ get_or xs i x
-    → each read done (drop i (map seen xs)) ≡ all → Fails e (read done (seen x)) → Fails e all
-each_fails_unless seen read done xs i x NotToml all lt is same h = each_fails seen read done xs i x NotToml all lt is same h
-each_fails_unless seen read done xs i x (MissingField p) all lt is same h = each_fails seen read done xs i x (MissingField p) all lt is same h
-each_fails_unless seen read done xs i x (BadValue p) all lt is same h = each_fails seen read done xs i x (BadValue p) all lt is same h
-each_fails_unless seen read done xs i x (UnknownName p) all lt is same h = each_fails seen read done xs i x (UnknownName p) all lt is same h
-each_fails_unless seen read done xs i x (Twice p) all lt is same h = each_fails seen read done xs i x (Twice p) all lt is same h
-each_fails_unless seen read done xs i x (TooMany t) all lt is same h = each_fails seen read done xs i x (TooMany t) all lt is same h
-each_fails_unless seen read done xs i x (NotAtLink p) all lt is same h = each_fails seen read done xs i x (NotAtLink p) all lt is same h
-each_fails_unless seen read done xs i x Memory all lt is same h = tt
+    → each read done (drop i (map seen xs)) ≡ all → Fails is_memory e (read done (seen x)) → Fails is_memory e all
+each_fails_unless seen read done xs i x e all lt is same h =
+    subst (Fails is_memory e) (sym (turn seen read done xs i x lt is) ∙ same)
+    (fails_bind is_memory e (read done (seen x)) (λ r. each read (done ++ r ∷ []) (drop (i + 1) (map seen xs))) h)
 
 -- after the last item
 pub each_end : {X A R : Type 0} (seen : X → A) (read : List R → A → Result R TableFault) (done : List R) (xs : List X) (i : ℕ) (all : Result (List R) TableFault) → length xs ≤ i

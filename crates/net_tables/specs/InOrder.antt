@@ -9,6 +9,8 @@ use Rattle.net_rows.specs.declared.row.Node.{Node}
 use Rattle.net_rows.specs.declared.row.Link.{Link}
 use Rattle.net_rows.specs.declared.row.Acquirer.{Acquirer}
 use Rattle.net_rows.specs.declared.row.Issuer.{Issuer}
+use Rattle.net_rows.specs.declared.row.Route.{Route}
+use Rattle.net_rows.specs.declared.row.StandIn.{StandIn}
 use Rattle.table_fields.specs.Words.{table_word}
 use Rattle.table_fields.specs.Fields.{RowText}
 use Rattle.table_fields.specs.declared.fault.TableFault.{TableFault}
@@ -45,14 +47,18 @@ pub record AreParties (nodes : List Node) (acquirers : List Acquirer) (issuers :
   pub acquirers_next : AreNext table.Acquirer (acquirer_of (node_names nodes)) acquirers text after_acquirers
   pub issuers_next : AreNext table.Issuer (issuer_of (node_names nodes)) issuers after_acquirers rest
 
+-- routes and then what nodes may approve, and nothing else is left
+pub record AreRules (nodes : List Node) (links : List Link) (routes : List Route) (stand_ins : List StandIn) (text : List ℕ) : Type 0 where
+  pub after_routes : List ℕ
+  pub rest : List ℕ
+  pub routes_next : AreNext table.Route (route_of (node_names nodes) links) routes text after_routes
+  pub stand_ins_next : AreNext table.StandIn (stand_in_of (node_names nodes)) stand_ins after_routes rest
+  pub over : is_over rest ≡ true
+
 -- all of a text, in this order
 pub record AreInOrder (n : Network) (text : List ℕ) : Type 0 where
   pub after_base : List ℕ
   pub after_parties : List ℕ
-  pub after_routes : List ℕ
-  pub rest : List ℕ
   pub base : AreBase n.settings n.nodes n.links (skip_bom text) after_base
   pub parties : AreParties n.nodes n.acquirers n.issuers after_base after_parties
-  pub routes_next : AreNext table.Route (route_of (node_names n.nodes) n.links) n.routes after_parties after_routes
-  pub stand_ins_next : AreNext table.StandIn (stand_in_of (node_names n.nodes)) n.stand_ins after_routes rest
-  pub over : is_over rest ≡ true
+  pub rules : AreRules n.nodes n.links n.routes n.stand_ins after_parties

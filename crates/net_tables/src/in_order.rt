@@ -1,12 +1,12 @@
 //! Tables whose rows stand in the order in which they are read. Each row is read as it comes, and no tree is made.
-ghost use Rattle.std.specs.Prelude.{◌≡◌, ◌≤◌, length, IfSome};
+ghost use Rattle.std.specs.Prelude.{◌≤◌, length, IfSome};
 ghost use Rattle.std.specs.List.{AllByRecursion};
 ghost use Rattle.card_digits.specs.Digits.{IsDateLabel, IsId};
-ghost use Rattle.net_rows.specs.Sound.{AreEnds, AreAtNodes};
-ghost use Rattle.net_tables.specs.InOrder.{AreBase, AreParties, AreInOrder};
+ghost use Rattle.net_rows.specs.Sound.{AreEnds, AreAtNodes, AreOwnLinks};
+ghost use Rattle.net_tables.specs.InOrder.{AreBase, AreParties, AreRules, AreInOrder};
 
 use crate::acquirer::next_acquirers;
-use crate::base::Base;
+use crate::base::{Base, Parties, Rules, tables_of_rows};
 use crate::issuer::next_issuers;
 use crate::link::next_links;
 use crate::network::next_network;
@@ -14,7 +14,7 @@ use crate::node::next_nodes;
 use crate::route::next_routes;
 use crate::stand_in::next_stand_ins;
 use named_rows::NamedRows;
-use net_rows::{Acquirer, Issuer, Node, Tables};
+use net_rows::{Link, Node, Tables};
 use std::alloc::Global;
 use toml_rows::{is_over, start};
 
@@ -45,13 +45,31 @@ fn next_parties<'a>(
     alloc: Global,
     text: &'a str,
     nodes: &NamedRows<Node>,
-) -> Option<((Vec<Acquirer>, Vec<Issuer>), &'a str)>
-    ensures parties { IfSome result (λ p. AreParties nodes.now p.0.0.items p.0.1.items text.now p.1.now) }
-    ensures gates { IfSome result (λ p. AreAtNodes (length nodes.now) p.0.0.items) }
+) -> Option<(Parties, &'a str)>
+    ensures parties { IfSome result (λ p. AreParties nodes.now p.0.acquirers.items p.0.issuers.items text.now p.1.now) }
+    ensures gates { IfSome result (λ p. AreAtNodes (length nodes.now) p.0.acquirers.items) }
 {
     let (acquirers, rest) = next_acquirers(alloc, text, nodes)?;
     let (issuers, rest) = next_issuers(alloc, rest, nodes)?;
-    Some(((acquirers, issuers), rest))
+    Some((Parties { acquirers, issuers }, rest))
+}
+
+/// Routes and then stand-in rows, where they come next and nothing else is left.
+fn last_rules(
+    alloc: Global,
+    text: &str,
+    nodes: &NamedRows<Node>,
+    links: &NamedRows<Link>,
+) -> Option<Rules>
+    ensures rules { IfSome result (λ r. AreRules nodes.now links.now r.routes.items r.stand_ins.items text.now) }
+    ensures own { IfSome result (λ r. AreOwnLinks links.now r.routes.items) }
+{
+    let (routes, rest) = next_routes(alloc, text, nodes, links)?;
+    let (stand_ins, rest) = next_stand_ins(alloc, rest, nodes)?;
+    if !is_over(rest) {
+        return None;
+    }
+    Some(Rules { routes, stand_ins })
 }
 
 /// All tables of a text whose rows stand in order. None for any other text, and where a row has a fault or memory was refused.
@@ -59,23 +77,9 @@ pub(crate) fn tables_in_order(alloc: Global, text: &str) -> Option<Tables>
     ensures { IfSome result (λ t. AreInOrder t text.now) }
 {
     let (base, rest) = next_base(alloc, start(text))?;
-    let ((acquirers, issuers), rest) = next_parties(alloc, rest, &base.nodes)?;
-    let (routes, rest) = next_routes(alloc, rest, &base.nodes, &base.links)?;
-    let (stand_ins, rest) = next_stand_ins(alloc, rest, &base.nodes)?;
-    if !is_over(rest) {
-        return None;
-    }
-    let tables = Tables::new(
-        alloc,
-        base.settings,
-        base.nodes.into_rows(),
-        base.links.into_rows(),
-        acquirers,
-        issuers,
-        routes,
-        stand_ins,
-    );
-    match tables {
+    let (parties, rest) = next_parties(alloc, rest, &base.nodes)?;
+    let rules = last_rules(alloc, rest, &base.nodes, &base.links)?;
+    match tables_of_rows(alloc, base, parties, rules) {
         Ok(tables) => Some(tables),
         Err(_) => None,
     }

@@ -2,7 +2,8 @@
 ghost use Rattle.std.specs.Prelude.{IfOk, IfSome};
 ghost use Rattle.net_rows.specs.Sound.{AreOwnLinks};
 ghost use Rattle.toml.specs.View.{table_view};
-ghost use Rattle.table_fields.specs.Faults.{Gives};
+ghost use Rattle.card_digits.specs.Attempts.{Gives};
+ghost use Rattle.table_fields.specs.Faults.{is_memory};
 ghost use Rattle.named_rows.specs.Rows.{node_names};
 ghost use Rattle.net_tables.specs.AllRows.{all_rows};
 ghost use Rattle.net_tables.specs.Reading.{route_of};
@@ -40,7 +41,7 @@ impl<'a> RowReader for RouteReader<'a> {
 
     ghost fits = { λ s r. list_all (is_end s.links.now r.node) r.links ≡ true };
 
-    #[tactic(auto, unfolding(crate::specs::Reading::route_of), using(table_fields::proofs::Faults::fails_bind))]
+    #[tactic(auto, unfolding(crate::specs::Reading::route_of), using(card_digits::proofs::Attempts::fails_bind))]
     fn read(
         &self,
         taken: &mut NodePrefixes,
@@ -65,7 +66,7 @@ pub(crate) fn routes(
     nodes: &NamedRows<Node>,
     links: &NamedRows<Link>,
 ) -> Result<Vec<Route>, TableFault>
-    ensures value { Gives (λ v. v.items) result (all_rows (table_view root.now) table.Route (route_of (node_names nodes.now) links.now)) }
+    ensures value { Gives is_memory (λ v. v.items) result (all_rows (table_view root.now) table.Route (route_of (node_names nodes.now) links.now)) }
     ensures own { IfOk result (λ v. AreOwnLinks links.now v.items) }
 {
     let taken = NodePrefixes::new(alloc, nodes.as_slice().len())?;

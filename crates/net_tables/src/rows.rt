@@ -2,7 +2,8 @@
 ghost use Rattle.std.specs.Prelude.{[], IfOk, IfSome};
 ghost use Rattle.std.specs.List.{AllByRecursion};
 ghost use Rattle.toml.specs.View.{table_view};
-ghost use Rattle.table_fields.specs.Faults.{Gives};
+ghost use Rattle.card_digits.specs.Attempts.{Gives};
+ghost use Rattle.table_fields.specs.Faults.{is_memory};
 ghost use Rattle.table_fields.specs.Shapes.{tables_view};
 ghost use Rattle.named_rows.specs.Each.{each};
 ghost use Rattle.net_tables.specs.AllRows.{numbered, all_rows};
@@ -15,7 +16,8 @@ use toml_rows::next_row;
 /// How a table's rows are read.
 pub(crate) trait RowReader {
     ghost use Rattle.std.specs.Prelude.{List, Result, [], ◌∷◌, ◌++◌, IfOk};
-    ghost use Rattle.table_fields.specs.Faults.{Gives};
+    ghost use Rattle.card_digits.specs.Attempts.{Gives};
+    ghost use Rattle.table_fields.specs.Faults.{is_memory};
     ghost use Rattle.table_fields.specs.Fields.{RowText, row_view};
     ghost use Rattle.table_fields.specs.declared.fault.TableFault.{TableFault};
 
@@ -41,7 +43,7 @@ pub(crate) trait RowReader {
         row: &Row,
     ) -> Result<Self::Read, TableFault>
         requires { knows self.now taken.old done.now }
-        ensures value { Gives (λ r. r) result (reads self.now done.now (row_view row.now)) }
+        ensures value { Gives is_memory (λ r. r) result (reads self.now done.now (row_view row.now)) }
         ensures taken { IfOk result (λ r. knows self.now taken.new (done.now ++ r ∷ [])) }
         ensures fits { IfOk result (fits self.now) };
 }
@@ -54,7 +56,7 @@ fn each_row<R: RowReader>(
     taken: R::Taken,
 ) -> Result<(Vec<R::Read>, R::Taken), TableFault>
     requires { R.knows reader.now taken [] }
-    ensures value { Gives (λ p. p.0.items) result (each (numbered table (R.reads reader.now)) [] (tables_view rows.now)) }
+    ensures value { Gives is_memory (λ p. p.0.items) result (each (numbered table (R.reads reader.now)) [] (tables_view rows.now)) }
     ensures taken { IfOk result (λ p. R.knows reader.now p.1 p.0.items) }
     ensures fits { IfOk result (λ p. AllByRecursion (R.fits reader.now) p.0.items) }
 {
@@ -73,7 +75,7 @@ fn each_row<R: RowReader>(
 }
 
 /// All rows of a table, in the order of the text, and what they have taken.
-#[tactic(auto, using(table_fields::proofs::Faults::fails_bind))]
+#[tactic(auto, using(card_digits::proofs::Attempts::fails_bind))]
 pub(crate) fn read_rows<R: RowReader>(
     alloc: Global,
     root: &toml::Table,
@@ -82,7 +84,7 @@ pub(crate) fn read_rows<R: RowReader>(
     taken: R::Taken,
 ) -> Result<(Vec<R::Read>, R::Taken), TableFault>
     requires { R.knows reader.now taken [] }
-    ensures value { Gives (λ p. p.0.items) result (all_rows (table_view root.now) table (R.reads reader.now)) }
+    ensures value { Gives is_memory (λ p. p.0.items) result (all_rows (table_view root.now) table (R.reads reader.now)) }
     ensures taken { IfOk result (λ p. R.knows reader.now p.1 p.0.items) }
     ensures fits { IfOk result (λ p. AllByRecursion (R.fits reader.now) p.0.items) }
 {

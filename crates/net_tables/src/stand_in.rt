@@ -1,7 +1,8 @@
 //! The table `[[stand_in]]`.
 ghost use Rattle.std.specs.Prelude.{IfSome};
 ghost use Rattle.toml.specs.View.{table_view};
-ghost use Rattle.table_fields.specs.Faults.{Gives};
+ghost use Rattle.card_digits.specs.Attempts.{Gives};
+ghost use Rattle.table_fields.specs.Faults.{is_memory};
 ghost use Rattle.named_rows.specs.Rows.{node_names};
 ghost use Rattle.net_tables.specs.AllRows.{all_rows};
 ghost use Rattle.net_tables.specs.Reading.{stand_in_of};
@@ -35,7 +36,7 @@ impl<'a> RowReader for StandInReader<'a> {
 
     ghost fits = { λ _ _. Unit {0} };
 
-    #[tactic(auto, unfolding(crate::specs::Reading::stand_in_of), using(table_fields::proofs::Faults::fails_bind))]
+    #[tactic(auto, unfolding(crate::specs::Reading::stand_in_of), using(card_digits::proofs::Attempts::fails_bind))]
     fn read(
         &self,
         taken: &mut NodePrefixes,
@@ -61,7 +62,7 @@ pub(crate) fn stand_ins(
     root: &toml::Table,
     nodes: &NamedRows<Node>,
 ) -> Result<Vec<StandIn>, TableFault>
-    ensures { Gives (λ v. v.items) result (all_rows (table_view root.now) table.StandIn (stand_in_of (node_names nodes.now))) }
+    ensures { Gives is_memory (λ v. v.items) result (all_rows (table_view root.now) table.StandIn (stand_in_of (node_names nodes.now))) }
 {
     let taken = NodePrefixes::new(alloc, nodes.as_slice().len())?;
     let reader = StandInReader { nodes };

@@ -1,5 +1,5 @@
 -- What the text of a certificate says, or the first fault in it.
-use Rattle.std.specs.Prelude.{◌≡◌, ℕ, ◌+◌, ◌==◌, ◌||◌, nat_lt, not, Bool, List, [], ◌∷◌, ◌++◌, length, codes, Option, Some, None, is_some, Result, Ok, Err, if◌then◌else◌}
+use Rattle.std.specs.Prelude.{◌≡◌, ℕ, ◌+◌, ◌==◌, ◌||◌, nat_lt, not, Bool, true, false, List, [], ◌∷◌, ◌++◌, length, codes, Option, Some, None, is_some, Result, Ok, Err, if◌then◌else◌}
 use Rattle.std.specs.List.{list_all, slice_split}
 use Rattle.std.specs.Result.{result_ok}
 use Rattle.std.specs.Char.{is_ascii_digit}
@@ -8,6 +8,7 @@ use Rattle.card_digits.specs.Lines.{lines}
 use Rattle.card_digits.specs.Numbers.{decimal}
 use Rattle.card_digits.specs.Reading.{name_of, read_digits}
 use Rattle.card_digits.specs.Steps.{◌>>=◌}
+use Rattle.card_digits.specs.Attempts.{Fails}
 use Rattle.rank_cert.specs.declared.cert.Rank.{Rank}
 use Rattle.rank_cert.specs.declared.fault.CertFault.{CertFault}
 use Rattle.rank_cert.specs.declared.fault.CertFault.TheVariants.{Header, Line, Twice, NoEnd, AfterEnd, Memory}
@@ -79,17 +80,12 @@ rows_behind (line ∷ rest) = if is_line line (codes "RANKS 1") then rows_in [] 
 abbrev pub cert_in : List ℕ → Result (List Rank) CertFault
 cert_in text = rows_behind (lines text)
 
--- what a function answered is what reading gives, unless memory ran out
-abbrev pub Fails : CertFault → Result (List Rank) CertFault → Type 0
-Fails Memory read = Unit {0}
-Fails e read = read ≡ Err e
-
-abbrev pub Gives : Result (List Rank) CertFault → Result (List Rank) CertFault → Type 0
-Gives (Ok rows) read = read ≡ Ok rows
-Gives (Err e) read = Fails e read
+-- the fault of a function that was refused memory
+abbrev pub is_memory : CertFault → Bool
+is_memory Memory = true
+is_memory e = false
 
 -- the row of a line was added, or why it wasn't
 abbrev pub Adds : List Rank → List Rank → List ℕ → Result (List ℕ) CertFault → Type 0
 Adds old new line (Ok prefix) = (r : Rank) × (new_row old (row_of line) ≡ Ok r) × (new ≡ old ++ r ∷ [])
-Adds old new line (Err Memory) = Unit {0}
-Adds old new line (Err e) = new_row old (row_of line) ≡ Err e
+Adds old new line (Err e) = Fails is_memory e (new_row old (row_of line))

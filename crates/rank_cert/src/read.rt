@@ -1,7 +1,8 @@
 //! Certificates from text.
 ghost use Rattle.std.specs.Prelude.{◌≡◌, [], codes};
 ghost use Rattle.card_digits.specs.Lines.{lines};
-ghost use Rattle.rank_cert.specs.Reading.{is_line, new_row, line_behind, rows_in, cert_in, Gives};
+ghost use Rattle.card_digits.specs.Attempts.{Gives};
+ghost use Rattle.rank_cert.specs.Reading.{is_line, new_row, line_behind, rows_in, cert_in, is_memory};
 
 use crate::cert::Cert;
 use crate::fault::CertFault;
@@ -23,7 +24,7 @@ fn is_end(line: &[u8]) -> bool
 
 /// The certificate that a text has.
 pub fn read_cert(alloc: Global, text: &[u8]) -> Result<Cert, CertFault>
-    ensures { Gives result (cert_in text.now) }
+    ensures { Gives is_memory (λ rows. rows) result (cert_in text.now) }
 {
     match first_line(text) {
         Some((line, behind)) if is_header(line) => read_rows(alloc, behind),
@@ -46,7 +47,7 @@ fn empty_cert(alloc: Global, rows: usize) -> Cert
 
 /// The rows of the lines behind the header.
 fn read_rows(alloc: Global, text: &[u8]) -> Result<Cert, CertFault>
-    ensures { Gives result (rows_in [] (lines text.now)) }
+    ensures { Gives is_memory (λ rows. rows) result (rows_in [] (lines text.now)) }
 {
     let mut cert = empty_cert(alloc, text.len() / USUAL_LINE);
     let mut rest = text;

@@ -4,7 +4,8 @@ ghost use Rattle.card_digits.specs.Cut.{IsCut};
 ghost use Rattle.card_digits.specs.Digits.{IsPrefix, digits_text};
 ghost use Rattle.card_digits.specs.Lines.{lines};
 ghost use Rattle.rank_cert.specs.Ranks.{IsRow};
-ghost use Rattle.rank_cert.specs.Reading.{row_of, number_of, rows_in, Fails};
+ghost use Rattle.card_digits.specs.Attempts.{Fails};
+ghost use Rattle.rank_cert.specs.Reading.{row_of, number_of, rows_in, is_memory};
 ghost use Rattle.rank_cert.specs.Like.{IsLike};
 
 use crate::cert::{Cert, Rank};
@@ -62,7 +63,7 @@ fn add_like<'a>(
 ) -> Result<Option<&'a [u8]>, CertFault>
     ensures on { IfOk result (λ o. MatchOption o (cert.new ≡ cert.old) (λ rest. rows_in cert.old (lines text.now) ≡ rows_in cert.new (lines rest.now))) }
     ensures shorter { IfOk result (λ o. IfSome o (λ rest. length rest.now < length text.now)) }
-    ensures fault { IfErr result (λ e. Fails e (rows_in cert.old (lines text.now))) }
+    ensures fault { IfErr result (λ e. Fails is_memory e (rows_in cert.old (lines text.now))) }
 {
     let number = cert.rows().len() + 2;
     let Some((name, rank, rest)) = like(prefix, text) else {
@@ -90,7 +91,7 @@ pub(crate) fn add_all_like<'a>(
 ) -> Result<&'a [u8], CertFault>
     ensures on { IfOk result (λ rest. rows_in cert.old (lines text.now) ≡ rows_in cert.new (lines rest.now)) }
     ensures shorter { IfOk result (λ rest. length rest.now ≤ length text.now) }
-    ensures fault { IfErr result (λ e. Fails e (rows_in cert.old (lines text.now))) }
+    ensures fault { IfErr result (λ e. Fails is_memory e (rows_in cert.old (lines text.now))) }
 {
     let mut rest = text;
     while let Some(behind) = add_like(cert, prefix, rest)? {

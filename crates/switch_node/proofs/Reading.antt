@@ -1,7 +1,8 @@
 -- Bytes as they are read.
 use Rattle.std.proofs.Common.{◌≡◌, ℕ, false, refl, sym, ap, ◌∙◌, Option, Some, None, Result, Ok, Err, ◌⊎◌, inl, inr}
 use Rattle.iso_message.specs.Fields.{Fields}
-use Rattle.iso_message.specs.Messages.{read, Gives}
+use Rattle.card_digits.specs.Attempts.{Gives}
+use Rattle.iso_message.specs.Messages.{read, is_memory}
 use Rattle.message_elements.specs.declared.fault.DecodeFault.{DecodeFault}
 use Rattle.message_elements.specs.declared.fault.DecodeFault.TheVariants as decoding
 use Rattle.net_rows.specs.Network.{Network}
@@ -28,7 +29,7 @@ pub faults_enter : (t : Network) (n : ℕ) (x : Lists) (bytes : Bytes) (m : Fiel
 unfolding read_input
 faults_enter t n x bytes m f e some = ap (λ r. fault_in t n x (read_as messages.Enter r)) e ∙ sym some
 
-read_fault : (r : Result Fields DecodeFault) (e : DecodeFault) → Gives {X = Fields} (λ m. m) (Err e) r → (unread e ≡ Memory) ⊎ ((r ≡ Err e) × (unread e ≡ Decode e))
+read_fault : (r : Result Fields DecodeFault) (e : DecodeFault) → Gives {X = Fields} is_memory (λ m. m) (Err e) r → (unread e ≡ Memory) ⊎ ((r ≡ Err e) × (unread e ≡ Decode e))
 read_fault r decoding.Memory g = inl refl
 read_fault r decoding.Short g = inr (g, refl)
 read_fault r decoding.BadType g = inr (g, refl)
@@ -38,7 +39,7 @@ read_fault r (decoding.Length k) g = inr (g, refl)
 read_fault r (decoding.Character k) g = inr (g, refl)
 read_fault r decoding.Trailing g = inr (g, refl)
 
-pub unread_enter : (t : Network) (n : ℕ) (x : Lists) (bytes : Bytes) (e : DecodeFault) → Gives {X = Fields} (λ m. m) (Err e) (read bytes) → (unread e ≡ Memory) ⊎ (fault_in t n x (read_input (entries.Enter bytes)) ≡ Some (unread e))
+pub unread_enter : (t : Network) (n : ℕ) (x : Lists) (bytes : Bytes) (e : DecodeFault) → Gives {X = Fields} is_memory (λ m. m) (Err e) (read bytes) → (unread e ≡ Memory) ⊎ (fault_in t n x (read_input (entries.Enter bytes)) ≡ Some (unread e))
 unfolding read_input
 unread_enter t n x bytes e g = elim (read_fault (read bytes) e g) [
   | inl memory ↦ inl memory
@@ -53,7 +54,7 @@ pub faults_take : (t : Network) (n : ℕ) (x : Lists) (l s : ℕ) (bytes : Bytes
 unfolding read_input
 faults_take t n x l s bytes m f packet e some = ap (λ w. fault_in t n x (packet_or (messages.TakePacket l s) w (read_as (messages.Take l s) (read bytes)))) (sym packet) ∙ (ap (λ r. fault_in t n x (read_as (messages.Take l s) r)) e ∙ sym some)
 
-pub unread_take : (t : Network) (n : ℕ) (x : Lists) (l s : ℕ) (bytes : Bytes) (e : DecodeFault) → None ≡ read_packet bytes → Gives {X = Fields} (λ m. m) (Err e) (read bytes) → (unread e ≡ Memory) ⊎ (fault_in t n x (read_input (entries.Take l s bytes)) ≡ Some (unread e))
+pub unread_take : (t : Network) (n : ℕ) (x : Lists) (l s : ℕ) (bytes : Bytes) (e : DecodeFault) → None ≡ read_packet bytes → Gives {X = Fields} is_memory (λ m. m) (Err e) (read bytes) → (unread e ≡ Memory) ⊎ (fault_in t n x (read_input (entries.Take l s bytes)) ≡ Some (unread e))
 unfolding read_input
 unread_take t n x l s bytes e packet g = elim (read_fault (read bytes) e g) [
   | inl memory ↦ inl memory

@@ -1,3 +1,2 @@
-pub mod Faults
 mod KeyLemmas
 mod Pairs

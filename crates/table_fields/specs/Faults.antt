@@ -1,5 +1,5 @@
 -- Steps that read, each of which may end with a fault.
-use Rattle.std.specs.Prelude.{◌≡◌, Bool, Option, Some, None, Result, Ok, Err, if◌then◌else◌}
+use Rattle.std.specs.Prelude.{Bool, true, false, Option, Some, None, Result, Ok, Err, if◌then◌else◌}
 use Rattle.table_fields.specs.declared.fault.TableFault.{TableFault}
 use Rattle.table_fields.specs.declared.fault.TableFault.TheVariants.{Memory}
 
@@ -11,11 +11,7 @@ ok_or (Some x) e = Ok x
 abbrev pub refuse : Bool → TableFault → Result (Unit {0}) TableFault
 refuse test e = if test then Err e else Ok tt
 
--- what a function answered, seen by view, is what reading gives, unless memory ran out
-abbrev pub Fails : {Y : Type 0} → TableFault → Result Y TableFault → Type 0
-Fails Memory read = Unit {0}
-Fails e read = read ≡ Err e
-
-abbrev pub Gives : {X Y : Type 0} → (X → Y) → Result X TableFault → Result Y TableFault → Type 0
-Gives seen (Ok x) read = read ≡ Ok (seen x)
-Gives seen (Err e) read = Fails e read
+-- the fault of a function that was refused memory
+abbrev pub is_memory : TableFault → Bool
+is_memory Memory = true
+is_memory e = false

@@ -21,7 +21,8 @@ pub struct Row<'a> {
 
 impl<'a> Row<'a> {
     ghost use Rattle.card_digits.specs.Digits.{IsDateLabel, IsId};
-    ghost use Rattle.table_fields.specs.Faults.{Gives};
+    ghost use Rattle.card_digits.specs.Attempts.{Gives};
+    ghost use Rattle.table_fields.specs.Faults.{is_memory};
     ghost use Rattle.table_fields.specs.Fields.{Lent, row_view, place_of, field_at, name_at, id_at, currency_at, date_at, whole_at, prefix_at, ends_at, names_at, no_other};
 
     /// Where the key stands.
@@ -123,7 +124,7 @@ impl<'a> Row<'a> {
     /// Names, as many as there are.
     #[tactic(auto, unfolding(crate::specs::Fields::form_at))]
     pub fn names(&self, alloc: Global, key: Key) -> Result<Vec<Name>, TableFault>
-        ensures { Gives (λ v. v.items) result (names_at (row_view self.now) key) }
+        ensures { Gives is_memory (λ v. v.items) result (names_at (row_view self.now) key) }
     {
         let Some(values) = self.field(key)?.as_array() else {
             return Err(self.bad(key));

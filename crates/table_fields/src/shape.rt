@@ -1,7 +1,8 @@
 //! The shape of a table.
 ghost use Rattle.std.specs.Prelude.{◌≡◌, IfOk, option_map};
 ghost use Rattle.toml.specs.View.{table_view, items_view};
-ghost use Rattle.table_fields.specs.Faults.{Gives};
+ghost use Rattle.card_digits.specs.Attempts.{Gives};
+ghost use Rattle.table_fields.specs.Faults.{is_memory};
 ghost use Rattle.table_fields.specs.Shapes.{tables_view, all_tables, rows_at, shape_of};
 
 use crate::fault::TableFault;
@@ -45,7 +46,7 @@ pub fn rows_at<'a>(
     root: &'a toml::Table,
     table: Table,
 ) -> Result<Vec<&'a toml::Table>, TableFault>
-    ensures { Gives (λ v. tables_view v.items) result (rows_at (table_view root.now) table) }
+    ensures { Gives is_memory (λ v. tables_view v.items) result (rows_at (table_view root.now) table) }
 {
     let Some(value) = get(root, table.word()) else {
         return Ok(Vec::new(alloc));

@@ -1,5 +1,5 @@
 -- Lines that are read row by row, beside what `toml` makes of the text.
-use Rattle.std.proofs.Common.{◌≡◌, eqb-true, ℕ, suc, ◌-◌, ◌<◌, ◌≤◌, ◌==◌, List, [], ◌∷◌, ◌++◌, length, Option, Some, None, option_map, option_and_then, refl, sym, ap, ◌∙◌, inl, inr, arith, append_assoc, length-drop, slice_index, ◌&&◌}
+use Rattle.std.proofs.Common.{◌≡◌, eqb-true, ℕ, suc, ◌-◌, ◌<◌, ◌≤◌, ◌==◌, List, [], ◌∷◌, ◌++◌, map, length, Option, Some, None, option_map, option_and_then, refl, sym, ap, ◌∙◌, inl, inr, arith, append_assoc, length-drop, slice_index, ◌&&◌}
 use Rattle.std.proofs.lemmas.Bool.{cases_Bool}
 use Rattle.std.proofs.lemmas.List.{append-nil}
 use Rattle.std.proofs.lemmas.Option.{none-some, same_Some}
@@ -9,7 +9,8 @@ use Rattle.toml.specs.Tables.{Node, Nodes, no_nodes, open_table, open_array, hea
 use Rattle.toml.specs.Parse.{lines, skip_bom, parse_document}
 use Rattle.toml.proofs.Turns.{lines_end, lines_more, at_key_new, at_key_ok, document_some}
 use Rattle.toml.proofs.NodeLaws.{get_node-replace, replace-self, replace-replace, get_node-insert, replace-insert}
-use Rattle.toml_rows.specs.Rows.{Pair, pair_line, AreLines, with_pairs, IsLine, ArePairs, table_line, row_line, AreRows, Section, AreSections, items_of, with_rows, with_sections, root_of, IsDocument}
+use Rattle.toml.specs.View.{items_of}
+use Rattle.toml_rows.specs.Rows.{Pair, pair_line, AreLines, with_pairs, IsLine, ArePairs, table_line, row_line, AreRows, Section, AreSections, with_rows, with_sections, root_of, IsDocument}
 use Rattle.toml_rows.proofs.Members.{close_insert, none_there}
 
 -- reading goes on with another document and less text
@@ -101,26 +102,26 @@ define_next_row word done last root section =
 abbrev pub rows_so_far : List Members → Nodes → List Members
 rows_so_far done last = done ++ close last ∷ []
 
-pushed : (done : List Members) (ms : Members) → push_item (items_of done) (table ms) ≡ items_of (done ++ ms ∷ [])
+pushed : (done : List Members) (ms : Members) → push_item (items_of (map table done)) (table ms) ≡ items_of (map table (done ++ ms ∷ []))
 pushed [] ms = refl
 pushed (m ∷ done) ms = ap (item (table m)) (pushed done ms)
 
 -- more rows of an array of tables that has some
 pub more_rows_lead : (word : List ℕ) (rows done : List Members) (last root : Nodes) (text rest : List ℕ) → AreRows word rows text rest
     → (all : List Members) × (end : Nodes) × (rows_so_far all end ≡ rows_so_far done last ++ rows)
-    × Leads (insert word (open_array (items_of done) last) root, word ∷ []) text (insert word (open_array (items_of all) end) root, word ∷ []) rest
+    × Leads (insert word (open_array (items_of (map table done)) last) root, word ∷ []) text (insert word (open_array (items_of (map table all)) end) root, word ∷ []) rest
 more_rows_lead word [] done last root text rest are = (done, last, sym (append-nil (rows_so_far done last)), rw (← are) (stays _ text))
 more_rows_lead word (members ∷ rows) done last root text rest are =
     let (next, here, below) = are in
-    let x = open_array (items_of done) last in
+    let x = open_array (items_of (map table done)) last in
     let so_far = rows_so_far done last in
-    let y = open_array (items_of so_far) no_nodes in
-    let step = rw (pushed done (close last)) at (define_next_row word (items_of done) last root (word ∷ [])) in
+    let y = open_array (items_of (map table so_far)) no_nodes in
+    let step = rw (pushed done (close last)) at (define_next_row word (items_of (map table done)) last root (word ∷ [])) in
     let header_leads = line_leads (row_line word) (insert word x root, word ∷ []) (insert word y root, word ∷ []) text here.below here.headed step in
-    let (new, same, row_leads) = below_leads (open_array (items_of so_far)) word members root here.below next (array_opens (items_of so_far)) here.paired in
+    let (new, same, row_leads) = below_leads (open_array (items_of (map table so_far))) word members root here.below next (array_opens (items_of (map table so_far))) here.paired in
     let (all, end, they_are, others) = more_rows_lead word rows so_far new root next rest below in
-    let z = open_array (items_of so_far) new in
-    let w = open_array (items_of all) end in
+    let z = open_array (items_of (map table so_far)) new in
+    let w = open_array (items_of (map table all)) end in
     let row = then_leads (insert word x root, word ∷ []) (insert word y root, word ∷ []) (insert word z root, word ∷ []) text here.below next header_leads row_leads in
     (all, end, they_are ∙ rw same (append_assoc so_far (members ∷ []) rows), then_leads (insert word x root, word ∷ []) (insert word z root, word ∷ []) (insert word w root, word ∷ []) text next rest row others)
 
@@ -135,7 +136,7 @@ section_leads word (members ∷ rows) root section text rest none are =
     let (new, same, row_leads) = below_leads (open_array no_items) word members root here.below next (array_opens no_items) here.paired in
     let (all, end, they_are, others) = more_rows_lead word rows [] new root next rest below in
     let z = open_array no_items new in
-    let w = open_array (items_of all) end in
+    let w = open_array (items_of (map table all)) end in
     let row = then_leads (root, section) (insert word y root, word ∷ []) (insert word z root, word ∷ []) text here.below next header_leads row_leads in
     let holds : close (insert word w root) ≡ with_rows word (members ∷ rows) (close root) =
     close_insert word w root ∙ rw (pushed all (close end), they_are, same) in

@@ -1,16 +1,17 @@
 -- What a root that sections make has at a word.
-use Rattle.std.proofs.Common.{◌≡◌, ℕ, Bool, true, not, ◌&&◌, List, [], ◌∷◌, ◌++◌, Option, Some, None, refl, ◌∙◌}
+use Rattle.std.proofs.Common.{◌≡◌, ℕ, Bool, true, not, ◌&&◌, List, [], ◌∷◌, ◌++◌, map, Option, Some, None, refl, ◌∙◌}
 use Rattle.std.proofs.lemmas.Bool.{and_parts, not-true}
 use Rattle.std.specs.List.{list_all}
-use Rattle.toml.specs.Data.{Data, Members, get_member, same_key, array}
-use Rattle.toml_rows.specs.Rows.{Section, items_of, with_rows, with_sections}
+use Rattle.toml.specs.Data.{Data, Members, get_member, same_key, array, table}
+use Rattle.toml.specs.View.{items_of}
+use Rattle.toml_rows.specs.Rows.{Section, with_rows, with_sections}
 use Rattle.toml_rows.proofs.Members.{get_put, get_other}
 use Rattle.toml_rows.proofs.Documents.{AreNew}
 
 -- the rows of an array of tables, which isn't there without rows
 abbrev pub array_of : List Members → Option Data
 array_of [] = None
-array_of (ms ∷ rows) = Some (array (items_of (ms ∷ rows)))
+array_of (ms ∷ rows) = Some (array (items_of (map table (ms ∷ rows))))
 
 abbrev pub is_apart : List ℕ → Section → Bool
 is_apart word s = not (same_key word s.word)
@@ -25,7 +26,7 @@ rows_other word s root apart = by_rows s.rows
   where
     by_rows : (rows : List Members) → get_member word (with_rows s.word rows root) ≡ get_member word root
     by_rows [] = refl
-    by_rows (ms ∷ rows) = get_other word s.word (array (items_of (ms ∷ rows))) root (not-true (same_key word s.word) apart)
+    by_rows (ms ∷ rows) = get_other word s.word (array (items_of (map table (ms ∷ rows)))) root (not-true (same_key word s.word) apart)
 
 pub sections_other : (word : List ℕ) (sections : List Section) (root : Members) → list_all (is_apart word) sections ≡ true → get_member word (with_sections sections root) ≡ get_member word root
 sections_other word [] root apart = refl
@@ -35,7 +36,7 @@ sections_other word (s ∷ sections) root apart =
 
 rows_there : (word : List ℕ) (rows : List Members) (root : Members) → get_member word root ≡ None → get_member word (with_rows word rows root) ≡ array_of rows
 rows_there word [] root none = none
-rows_there word (ms ∷ rows) root none = get_put word (array (items_of (ms ∷ rows))) root
+rows_there word (ms ∷ rows) root none = get_put word (array (items_of (map table (ms ∷ rows)))) root
 
 -- the rows of a section among others
 pub section_there : (before : List Section) (s : Section) (after : List Section) (root : Members) → list_all (is_apart s.word) before ≡ true → list_all (is_apart s.word) after ≡ true

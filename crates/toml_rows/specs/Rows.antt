@@ -1,9 +1,10 @@
 -- A document whose lines are a table and then arrays of tables: its rows, row by row, and the tree that they make.
-use Rattle.std.specs.Prelude.{◌≡◌, ℕ, ◌<◌, ◌==◌, Bool, true, false, List, [], ◌∷◌, length, Option, Some, option_map, option_and_then}
+use Rattle.std.specs.Prelude.{◌≡◌, ℕ, ◌<◌, ◌==◌, Bool, true, false, List, [], ◌∷◌, map, length, Option, Some, option_map, option_and_then}
 use Rattle.std.specs.Ordering.{nat_cmp, match_ordering}
 use Rattle.std.specs.Cmp.Lexicographic.{slice_cmp}
 use Rattle.toml_parser.specs.Lexical.{skip_blank}
-use Rattle.toml.specs.Data.{Data, array, table, Items, no_items, item, Members, no_members, member}
+use Rattle.toml.specs.Data.{Data, array, table, Members, no_members, member}
+use Rattle.toml.specs.View.{items_of}
 use Rattle.toml.specs.Tables.{Nodes, no_nodes, close, put, Expression, key_value, std_table, array_table}
 use Rattle.toml.specs.Parse.{line, skip_bom}
 
@@ -77,14 +78,10 @@ abbrev pub with_member : List ℕ → Data → Members → Members
 with_member k d no_members = member k d no_members
 with_member k d (member l e ms) = match_ordering (slice_cmp nat_cmp k l) (member k d (member l e ms)) (member l d ms) (member l e (with_member k d ms))
 
-abbrev pub items_of : List Members → Items
-items_of [] = no_items
-items_of (ms ∷ rows) = item (table ms) (items_of rows)
-
 -- a root with the rows of an array of tables; without rows there is no array
 abbrev pub with_rows : List ℕ → List Members → Members → Members
 with_rows word [] root = root
-with_rows word (ms ∷ rows) root = with_member word (array (items_of (ms ∷ rows))) root
+with_rows word (ms ∷ rows) root = with_member word (array (items_of (map table (ms ∷ rows)))) root
 
 abbrev pub with_sections : List Section → Members → Members
 with_sections [] root = root
