@@ -6,7 +6,7 @@ use Rattle.std.proofs.lemmas.List.{length-map}
 use Rattle.message_keys.specs.declared.keys.AdviceId.{AdviceId}
 use Rattle.advice_book.specs.declared.item.ItemName.{ItemName}
 use Rattle.advice_book.specs.declared.item.ItemName.TheVariants as names
-use Rattle.book_index.specs.Keys.{same_id}
+use Rattle.message_keys.specs.Keys.{identity_eq}
 use Rattle.advice_book.specs.Items.{Stored, name_of, name_eq, is_named, is_held, marked}
 use Rattle.advice_book.specs.Whole.{IsBook}
 use Rattle.advice_book.proofs.Names.{put_name}
@@ -45,16 +45,16 @@ held_marked m n (x ∷ xs) = elim (cases_Bool (is_named n x)) [
   | inr f ↦ (let e : is_named n (marked m x) ≡ false = marked_name m n x ∙ f in rw (e, f) (held_marked m n xs))
 ]
 
-any_more : (id k : AdviceId) (ks : List AdviceId) → list_any (same_id id) ks ≡ true → list_any (same_id id) (ks ++ k ∷ []) ≡ true
+any_more : (id k : AdviceId) (ks : List AdviceId) → list_any (identity_eq id) ks ≡ true → list_any (identity_eq id) (ks ++ k ∷ []) ≡ true
 any_more id k [] e = absurd (cc)
-any_more id k (j ∷ ks) e = elim (cases_Bool (same_id id j)) [
+any_more id k (j ∷ ks) e = elim (cases_Bool (identity_eq id j)) [
   | inl t ↦ rw t refl
   | inr f ↦ rw f (any_more id k ks (rw f at e))
 ]
 
-any_last : (id k : AdviceId) (ks : List AdviceId) → same_id id k ≡ true → list_any (same_id id) (ks ++ k ∷ []) ≡ true
+any_last : (id k : AdviceId) (ks : List AdviceId) → identity_eq id k ≡ true → list_any (identity_eq id) (ks ++ k ∷ []) ≡ true
 any_last id k [] e = rw e refl
-any_last id k (j ∷ ks) e = elim (cases_Bool (same_id id j)) [
+any_last id k (j ∷ ks) e = elim (cases_Bool (identity_eq id j)) [
   | inl t ↦ rw t refl
   | inr f ↦ rw f (any_last id k ks e)
 ]
@@ -71,7 +71,7 @@ module _ (items : List Stored) (known : List AdviceId) (reserved room held_room 
     fits = (let l = ap length grown in omega (arith, l, length-append items (x ∷ []), fits));
     knows =
         λ other e.
-        let K : List AdviceId → Type 0 = λ ks. list_any (same_id other) ks ≡ true in
+        let K : List AdviceId → Type 0 = λ ks. list_any (identity_eq other) ks ≡ true in
         let h : (is_held items (names.Advice other) || is_named (names.Advice other) x) ≡ true = sym (held_more items x (names.Advice other)) ∙ (ap (λ (xs : List Stored). is_held xs (names.Advice other)) (sym grown) ∙ e) in
         subst K (sym noted) (elim (cases_Bool (is_held items (names.Advice other))) [
           | inl t ↦ any_more other id known (b.knows other t)

@@ -12,7 +12,7 @@ use Rattle.advice_book.specs.declared.book.StoreFault.{StoreFault}
 use Rattle.advice_book.specs.declared.book.StoreFault.TheVariants as faults
 use Rattle.advice_book.specs.declared.book.GrantFault.{GrantFault}
 use Rattle.advice_book.specs.declared.book.GrantFault.TheVariants as grants
-use Rattle.book_index.specs.Keys.{same_id}
+use Rattle.message_keys.specs.Keys.{identity_eq}
 use Rattle.advice_book.specs.Items.{Stored, name_of, is_named, is_due, item_of, is_held, marked, advice_in, grant_in}
 
 -- the items in stored order, the identities that are known, how many places are reserved, for how many calls there is memory, the ticks
@@ -27,7 +27,7 @@ pub record BookView : Type 0 where
   pub visits : ℕ
 
 abbrev pub is_known : BookView → AdviceId → Bool
-is_known v id = list_any (same_id id) v.known
+is_known v id = list_any (identity_eq id) v.known
 
 -- the places that are taken
 abbrev pub load : BookView → ℕ

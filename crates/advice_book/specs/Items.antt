@@ -1,6 +1,6 @@
 -- Advices and grants in the order of their storing.
 use Rattle.std.specs.Prelude.{ℕ, Bool, true, false, ◌==◌, if◌then◌else◌, List, find, Option, Some, None, is_some}
-use Rattle.book_index.specs.Keys.{same_id}
+use Rattle.message_keys.specs.Keys.{identity_eq}
 use Rattle.network_law.specs.Decision.{is_due_again}
 use Rattle.network_law.specs.declared.grant.Grant.{Grant}
 use Rattle.advice_book.specs.declared.item.Advice.{Advice}
@@ -10,7 +10,7 @@ use Rattle.advice_book.specs.declared.item.ItemName.{ItemName}
 use Rattle.advice_book.specs.declared.item.ItemName.TheVariants as names
 
 abbrev pub name_eq : ItemName → ItemName → Bool
-name_eq (names.Advice a) (names.Advice b) = same_id a b
+name_eq (names.Advice a) (names.Advice b) = identity_eq a b
 name_eq (names.Grant a) (names.Grant b) = a == b
 name_eq (names.Advice a) (names.Grant b) = false
 name_eq (names.Grant a) (names.Advice b) = false

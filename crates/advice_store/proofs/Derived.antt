@@ -1,14 +1,9 @@
 -- The derived comparison of keys is the stated one.
-use Rattle.std.proofs.Common.{◌≡◌, Bool, List, [], ◌∷◌, cond, refl, ap, ◌∙◌, sym, Option}
-use Rattle.std.specs.Map.{lookup}
+use Rattle.std.proofs.Common.{◌≡◌, Bool, List, refl}
 use Rattle.book_index.specs.Found.{found}
 use Rattle.book_index.specs.declared.index.Place.{Place}
 use Rattle.message_keys.specs.declared.keys.AdviceKind.{AdviceKind}
 use Rattle.message_keys.specs.declared.keys.AdviceKind.TheVariants as kinds
-use Rattle.message_keys.specs.declared.keys.AdviceId.{AdviceId}
-use Rattle.message_keys.specs.contracts.keys.AdviceIdPartialEq.TheImpl as derived_ids
-use Rattle.std.specs.List.{list_any}
-use Rattle.book_index.specs.Keys.{same_id}
 use Rattle.advice_store.specs.Kept.{stored_eq}
 use Rattle.advice_store.specs.declared.key.StoredKey.{StoredKey}
 use Rattle.advice_store.specs.declared.key.StoredKey.TheVariants as keys

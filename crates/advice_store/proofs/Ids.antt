@@ -1,27 +1,19 @@
 -- Identities and keys of the store, however they are compared.
-use Rattle.std.proofs.Common.{◌≡◌, ℕ, ◌&&◌, ◌||◌, Bool, true, false, List, bytes_eq, refl, sym, ap, ◌∙◌, subst, inl, inr, eqb, eq-eqb}
-use Rattle.std.specs.List.{list_any}
+use Rattle.std.proofs.Common.{◌≡◌, ℕ, true, List, bytes_eq, refl, sym, ap, ◌∙◌, inl, inr, eqb, eq-eqb}
 use Rattle.std.proofs.lemmas.Bool.{cases_Bool, and_parts, eqb-true}
-use Rattle.message_keys.specs.Keys.{identity_eq, key_eq, same_kind}
-use Rattle.message_keys.specs.declared.keys.AdviceId.{AdviceId}
-use Rattle.message_keys.specs.declared.keys.AdviceKind.{AdviceKind}
-use Rattle.message_keys.specs.declared.keys.AdviceKind.TheVariants as kinds
-use Rattle.book_index.specs.Keys.{same_key}
 use Rattle.std.specs.Cmp.Lexicographic.{same_text}
-use Rattle.book_index.proofs.Identities.{id_refl, id_same}
-use Rattle.book_index.proofs.Texts.{text_refl, key_refl, key_same, keys_again}
-use Rattle.book_index.specs.Keys.{same_id}
+use Rattle.message_keys.proofs.Equality.{identity_eq_refl, identity_eq_is, bytes_eq_refl}
 use Rattle.advice_store.specs.Kept.{stored_eq}
 use Rattle.advice_store.specs.declared.key.StoredKey.{StoredKey}
 use Rattle.advice_store.specs.declared.key.StoredKey.TheVariants as keys
 use Rattle.advice_store.specs.declared.key.GrantNumber.{GrantNumber}
 
 pub stored_refl : (k : StoredKey) → stored_eq k k ≡ true
-stored_refl (keys.Advice a) = id_refl a
-stored_refl (keys.Grant g) = rw (text_refl g.lender, eq-eqb g.number g.number refl) refl
+stored_refl (keys.Advice a) = identity_eq_refl a
+stored_refl (keys.Grant g) = rw (bytes_eq_refl g.lender, eq-eqb g.number g.number refl) refl
 
 pub stored_same : (a b : StoredKey) → stored_eq a b ≡ true → a ≡ b
-stored_same (keys.Advice a) (keys.Advice b) e = ap keys.Advice (id_same a b e)
+stored_same (keys.Advice a) (keys.Advice b) e = ap keys.Advice (identity_eq_is a b e)
 stored_same (keys.Grant a) (keys.Grant b) e =
     let p = and_parts (bytes_eq a.lender b.lender) (eqb a.number b.number) e in
     let x = same_text a.lender b.lender (sym p.0) in

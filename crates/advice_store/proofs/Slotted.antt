@@ -1,20 +1,16 @@
 -- Slots, and the items in them.
-use Rattle.std.proofs.Common.{◌≡◌, ℕ, zero, suc, ◌+◌, ◌<◌, ◌≤◌, ◌&&◌, ◌||◌, not, Bool, true, false, cond, List, [], ◌∷◌, ◌++◌, length, get_or, set, map, filter, drop, Option, Some, None, refl, sym, ap, ◌∙◌, subst, inl, inr, arith, slice_get}
+use Rattle.std.proofs.Common.{◌≡◌, ℕ, zero, suc, ◌<◌, ◌≤◌, ◌||◌, Bool, true, false, List, [], ◌∷◌, length, get_or, set, map, Option, Some, None, refl, sym, ap, ◌∙◌, arith}
 use Rattle.std.specs.List.{list_any}
-use Rattle.std.proofs.lemmas.Bool.{cases_Bool}
 use Rattle.message_keys.specs.Keys.{identity_of, identity_eq}
 use Rattle.message_keys.specs.declared.keys.AdviceId.{AdviceId}
 use Rattle.node_machine.specs.Books.{Stored, Advised, Granted}
-use Rattle.node_machine.specs.Machine.{is_due, was_put}
+use Rattle.node_machine.specs.Machine.{was_put}
 use Rattle.book_index.specs.Found.{holds_at}
 use Rattle.book_index.proofs.Holding.{none_map, one_map, holds_item, holds_within}
-use Rattle.advice_store.specs.Advices.{marked_by, has_id}
-use Rattle.book_index.specs.Keys.{same_id}
-use Rattle.advice_store.specs.Kept.{stored_eq, key_of, slot_has, item_is, live, freed, marked_slot, slot_put, slot_at}
+use Rattle.advice_store.specs.Kept.{slot_has, item_is, live, freed, marked_slot, slot_put, slot_at}
 use Rattle.advice_store.specs.declared.key.StoredKey.{StoredKey}
 use Rattle.advice_store.specs.declared.key.StoredKey.TheVariants as keys
-use Rattle.book_index.proofs.Identities.{id_again, id_flip}
-use Rattle.advice_store.proofs.Ids.{stored_refl}
+use Rattle.book_index.proofs.Identities.{id_flip}
 
 pub live_few : (slots : List (Option Stored)) → length (live slots) ≤ length slots
 live_few [] = omega arith
@@ -43,7 +39,7 @@ or_false false = refl
 marked_stays : (id : AdviceId) (s : Option Stored) → slot_has (keys.Advice id) s ≡ false → marked_slot id s ≡ s
 marked_stays id None f = refl
 marked_stays id (Some (Advised a)) f =
-    let e : identity_eq id (identity_of a.message) ≡ false = sym (id_again id (identity_of a.message)) ∙ (id_flip id (identity_of a.message) ∙ f) in
+    let e : identity_eq id (identity_of a.message) ≡ false = id_flip id (identity_of a.message) ∙ f in
     rw (e, or_false a.put) refl
 marked_stays id (Some (Granted g)) f = refl
 
@@ -71,7 +67,7 @@ has_one k (Some x ∷ slots) (suc i) h = rw (has_one k slots i h) (go (item_is k
 
 put_has : (id : AdviceId) (s : Option Stored) → slot_has (keys.Advice id) s ≡ false → slot_put id s ≡ false
 put_has id None f = refl
-put_has id (Some (Advised a)) f = let e : identity_eq (identity_of a.message) id ≡ false = sym (id_again (identity_of a.message) id) ∙ f in rw e refl
+put_has id (Some (Advised a)) f = rw f refl
 put_has id (Some (Granted g)) f = refl
 
 any_slot : (id : AdviceId) (s : Option Stored) (slots : List (Option Stored)) → list_any (was_put id) (live (s ∷ slots)) ≡ (slot_put id s || list_any (was_put id) (live slots))

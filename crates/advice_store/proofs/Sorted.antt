@@ -1,5 +1,5 @@
 -- Places by class after a change.
-use Rattle.std.proofs.Common.{◌≡◌, ◌≢◌, ℕ, zero, suc, ◌+◌, ◌-◌, ◌*◌, ◌%◌, ◌/◌, ◌<◌, ◌≤◌, ◌&&◌, ◌||◌, not, Bool, true, false, cond, List, [], ◌∷◌, ◌++◌, length, get_or, set, map, filter, drop, Option, Some, None, refl, sym, ap, ◌∙◌, subst, inl, inr, arith, append_assoc, eqb, eq-eqb, eqb-true, replicate}
+use Rattle.std.proofs.Common.{◌≡◌, ◌≢◌, ℕ, zero, suc, ◌+◌, ◌-◌, ◌*◌, ◌%◌, ◌/◌, ◌<◌, ◌≤◌, ◌&&◌, not, Bool, true, false, cond, List, [], ◌∷◌, ◌++◌, length, get_or, set, map, filter, drop, Option, Some, None, refl, sym, ap, ◌∙◌, inl, inr, arith, append_assoc, eqb, eq-eqb, eqb-true, replicate}
 use Rattle.std.proofs.lemmas.Bool.{cases_Bool, cases_eq}
 use Rattle.std.proofs.lemmas.List.{length-set, get_or-set_same, get_or-set_other, length-map, get_or-replicate, length-replicate}
 use Rattle.std.proofs.lemmas.Bool.Decides.{nat_tests}
@@ -11,7 +11,7 @@ use Rattle.message_keys.specs.declared.keys.AdviceId.{AdviceId}
 use Rattle.node_machine.specs.Books.{Advised, Granted}
 use Rattle.node_machine.specs.Machine.{is_due}
 use Rattle.advice_store.specs.declared.key.StoredKey.{StoredKey}
-use Rattle.advice_store.specs.Kept.{slot_at, slot_has, freed, marked_slot, live, due_slot, due_at, in_class, class_at, class_places, upto, AreWaiting, AreBelow, AreSorted, is_live, count_of}
+use Rattle.advice_store.specs.Kept.{slot_at, slot_has, freed, marked_slot, live, due_slot, due_at, in_class, class_at, class_places, upto, AreBelow, AreSorted, is_live, count_of}
 
 filter_append : (f : ℕ → Bool) (xs ys : List ℕ) → filter f (xs ++ ys) ≡ filter f xs ++ filter f ys
 filter_append f [] ys = refl

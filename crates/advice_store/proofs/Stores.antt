@@ -1,15 +1,13 @@
 -- The store after a change.
-use Rattle.std.proofs.Common.{◌≡◌, ℕ, zero, suc, ◌+◌, ◌<◌, ◌≤◌, ◌&&◌, ◌||◌, not, Bool, true, false, cond, List, [], ◌∷◌, ◌++◌, length, get_or, set, map, filter, take, drop, Option, Some, None, refl, sym, ap, ◌∙◌, subst, inl, inr, arith, eqb, bytes_eq}
+use Rattle.std.proofs.Common.{◌≡◌, ℕ, zero, suc, ◌+◌, ◌&&◌, ◌||◌, not, Bool, true, false, cond, List, [], ◌∷◌, ◌++◌, length, set, map, filter, take, drop, Option, Some, None, refl, sym, ap, ◌∙◌, subst, inl, inr, arith, eqb}
 use Rattle.std.specs.List.{list_any}
 use Rattle.std.proofs.lemmas.Bool.{cases_Bool}
-use Rattle.std.proofs.lemmas.List.{length-map}
 use Rattle.std.proofs.Math.Seq.{take-append_seam}
-use Rattle.message_keys.specs.Keys.{identity_of, identity_eq}
+use Rattle.message_keys.specs.Keys.{identity_eq}
 use Rattle.message_keys.specs.declared.keys.AdviceId.{AdviceId}
 use Rattle.network_law.specs.declared.grant.GrantPacket.{GrantPacket}
 use Rattle.network_law.specs.declared.grant.GrantPacket.TheVariants as packets
 use Rattle.node_machine.specs.Books.{Stored, Advised, Granted}
-use Rattle.node_machine.specs.Lists.{is_among}
 use Rattle.book_index.specs.Found.{found, holds_at, Tells, joined}
 use Rattle.book_index.specs.declared.index.Place.{Place}
 use Rattle.book_index.specs.declared.index.Place.TheVariants as places
@@ -17,12 +15,10 @@ use Rattle.book_index.proofs.Holding.{holds_push}
 use Rattle.book_index.proofs.Telling.{tells_same, tells_joined}
 use Rattle.book_index.proofs.Texts.{any_push}
 use Rattle.advice_store.specs.Advices.{marked_by, has_id, packet_acked}
-use Rattle.book_index.specs.Keys.{same_id}
 use Rattle.advice_store.specs.Kept.{IsIndexed, AreKnown, stored_eq, key_of, slot_has, item_is, live, freed, marked_slot}
 use Rattle.advice_store.specs.declared.key.StoredKey.{StoredKey}
 use Rattle.advice_store.specs.declared.key.StoredKey.TheVariants as keys
-use Rattle.book_index.proofs.Identities.{id_again, id_flip}
-use Rattle.advice_store.proofs.Ids.{stored_refl, stored_same, stored_flip}
+use Rattle.advice_store.proofs.Ids.{stored_same, stored_flip}
 use Rattle.advice_store.proofs.Slotted.{free_none, free_one}
 
 and_true : (b : Bool) → b ≡ (b && true)
@@ -138,7 +134,7 @@ any_same_tests f g [] e = refl
 any_same_tests f g (x ∷ xs) e = rw (e x, any_same_tests f g xs e) refl
 
 is_by_id : (id : AdviceId) (x : Stored) → item_is (keys.Advice id) x ≡ has_id id x
-is_by_id id (Advised a) = id_again (identity_of a.message) id
+is_by_id id (Advised a) = refl
 is_by_id id (Granted g) = refl
 
 pub freed_by_id : (id : AdviceId) (xs : List Stored) → filter (λ a. not (item_is (keys.Advice id) a)) xs ≡ filter (λ a. not (has_id id a)) xs
@@ -165,10 +161,10 @@ grant_acks_none g xs = sym (none_acked (packets.Grant g) xs (acks g))
     acks g (Advised a) = refl
     acks g (Granted x) = refl
 
-pub known_more : (ids new : List AdviceId) (known : List AdviceId) (id : AdviceId) → ((q : AdviceId) → list_any (same_id q) new ≡ cond (same_id id q) true (list_any (same_id q) ids)) → AreKnown ids known → AreKnown new (known ++ id ∷ [])
-known_more ids new known id more h q = more q ∙ (rw (id_again id q, h q) refl ∙ sym (any_push (λ x. identity_eq x q) known id))
+pub known_more : (ids new : List AdviceId) (known : List AdviceId) (id : AdviceId) → ((q : AdviceId) → list_any (identity_eq q) new ≡ cond (identity_eq id q) true (list_any (identity_eq q) ids)) → AreKnown ids known → AreKnown new (known ++ id ∷ [])
+known_more ids new known id more h q = more q ∙ (rw (h q) refl ∙ sym (any_push (λ x. identity_eq x q) known id))
 
-pub known_again : (ids new : List AdviceId) (known : List AdviceId) → ((q : AdviceId) → list_any (same_id q) new ≡ list_any (same_id q) ids) → AreKnown ids known → AreKnown new known
+pub known_again : (ids new : List AdviceId) (known : List AdviceId) → ((q : AdviceId) → list_any (identity_eq q) new ≡ list_any (identity_eq q) ids) → AreKnown ids known → AreKnown new known
 known_again ids new known same h q = same q ∙ h q
 
 pub counted_none : (k : StoredKey) (slots new : List (Option Stored)) (place : Place) (len : ℕ) → new ≡ map (freed k) slots → len ≡ length (live slots) → Tells place (holds_at (slot_has k) slots) → place ≡ places.Nowhere → length (live new) ≡ len

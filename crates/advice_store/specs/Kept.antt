@@ -1,21 +1,19 @@
 -- How the store keeps what it keeps.
-use Rattle.std.specs.Prelude.{◌≡◌, ◌≤◌, ◌<◌, ◌+◌, ◌%◌, ℕ, zero, suc, Bool, true, false, ◌&&◌, ◌==◌, not, bytes_eq, List, [], ◌∷◌, ◌++◌, drop, filter, length, Option, Some, None, get_or, if◌then◌else◌, ⊤, is_some}
+use Rattle.std.specs.Prelude.{◌≡◌, ◌≤◌, ◌<◌, ◌+◌, ◌%◌, ℕ, zero, suc, Bool, false, ◌&&◌, ◌==◌, bytes_eq, List, [], ◌∷◌, ◌++◌, filter, length, Option, Some, None, get_or, if◌then◌else◌, ⊤, is_some}
 use Rattle.std.specs.List.{list_any}
-use Rattle.std.specs.Map.{lookup}
-use Rattle.message_keys.specs.Keys.{identity_of, same_kind}
+use Rattle.message_keys.specs.Keys.{identity_of, identity_eq}
 use Rattle.message_keys.specs.declared.keys.AdviceId.{AdviceId}
 use Rattle.node_machine.specs.Books.{Stored, Advised, Granted}
 use Rattle.node_machine.specs.Lists.{is_among}
 use Rattle.node_machine.specs.Machine.{is_due, was_put}
 use Rattle.book_index.specs.Found.{found, holds_at, Tells}
-use Rattle.book_index.specs.Keys.{same_id}
 use Rattle.book_index.specs.declared.index.Place.{Place}
 use Rattle.advice_store.specs.Advices.{marked_by}
 use Rattle.advice_store.specs.declared.key.StoredKey.{StoredKey}
 use Rattle.advice_store.specs.declared.key.StoredKey.TheVariants as keys
 
 abbrev pub stored_eq : StoredKey → StoredKey → Bool
-stored_eq (keys.Advice a) (keys.Advice b) = same_id a b
+stored_eq (keys.Advice a) (keys.Advice b) = identity_eq a b
 stored_eq (keys.Grant a) (keys.Grant b) = bytes_eq a.lender b.lender && a.number == b.number
 stored_eq (keys.Advice a) (keys.Grant b) = false
 stored_eq (keys.Grant a) (keys.Advice b) = false
@@ -94,7 +92,7 @@ abbrev pub IsIndexed : List (Option Stored) → List (StoredKey × Place) → Ty
 IsIndexed slots places = (k : StoredKey) → Tells (found (stored_eq k) places) (holds_at (slot_has k) slots)
 
 abbrev pub AreKnown : List AdviceId → List AdviceId → Type 0
-AreKnown ids known = (id : AdviceId) → list_any (same_id id) ids ≡ is_among id known
+AreKnown ids known = (id : AdviceId) → list_any (identity_eq id) ids ≡ is_among id known
 
 pub record HasRoom (room slots slots_capacity known known_capacity moved staged staged_capacity places ids : ℕ) : Type 0 where
   pub in_slots : slots + room ≤ slots_capacity

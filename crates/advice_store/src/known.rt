@@ -2,7 +2,7 @@
 ghost use Rattle.std.specs.Prelude.{◌≡◌, ◌≤◌, ◌+◌, OnOk, cond, true, false};
 ghost use Rattle.std.specs.HashSet.{spare};
 ghost use Rattle.std.specs.List.{list_any};
-ghost use Rattle.book_index.specs.Keys.{same_id};
+ghost use Rattle.message_keys.specs.Keys.{identity_eq};
 
 use message_keys::AdviceId;
 use std::alloc::{AllocError, Global};
@@ -17,7 +17,7 @@ pub(crate) struct KnownIds {
 impl KnownIds {
     /// No identity is known.
     pub fn new(alloc: Global) -> KnownIds
-        ensures { (id : AdviceId) → list_any (same_id id) result.ids.keys ≡ false }
+        ensures { (id : AdviceId) → list_any (identity_eq id) result.ids.keys ≡ false }
     {
         KnownIds {
             ids: HashSet::new(alloc),
@@ -26,14 +26,14 @@ impl KnownIds {
 
     /// The next n identities need no memory.
     pub fn reserve(&mut self, n: usize) -> Result<(), AllocError>
-        ensures keys { (id : AdviceId) → list_any (same_id id) self.new.ids.keys ≡ list_any (same_id id) self.old.ids.keys }
+        ensures keys { (id : AdviceId) → list_any (identity_eq id) self.new.ids.keys ≡ list_any (identity_eq id) self.old.ids.keys }
         ensures room { OnOk result (n ≤ spare self.new.ids) }
     {
         self.ids.reserve(n)
     }
 
     pub fn contains(&self, id: AdviceId) -> bool
-        ensures { result ≡ list_any (same_id id) self.now.ids.keys }
+        ensures { result ≡ list_any (identity_eq id) self.now.ids.keys }
     {
         self.ids.contains(&id)
     }
@@ -41,7 +41,7 @@ impl KnownIds {
     /// An identity more.
     pub fn insert(&mut self, id: AdviceId)
         requires { 1 ≤ spare self.old.ids }
-        ensures keys { (other : AdviceId) → list_any (same_id other) self.new.ids.keys ≡ cond (same_id id other) true (list_any (same_id other) self.old.ids.keys) }
+        ensures keys { (other : AdviceId) → list_any (identity_eq other) self.new.ids.keys ≡ cond (identity_eq id other) true (list_any (identity_eq other) self.old.ids.keys) }
         ensures room { spare self.old.ids ≤ spare self.new.ids + 1 }
     {
         let _ = self.ids.insert(id);

@@ -1,7 +1,7 @@
 //! The store of advices.
 ghost use Rattle.std.specs.Prelude.{◌≡◌, ◌+◌, ◌-◌, ◌<◌, ◌≤◌, [], ◌∷◌, ◌++◌, map, filter, not, OnOk, IfOk, length, drop};
 ghost use Rattle.std.specs.List.{list_any};
-ghost use Rattle.message_keys.specs.Keys.{identity_of};
+ghost use Rattle.message_keys.specs.Keys.{identity_of, identity_eq};
 ghost use Rattle.node_machine.specs.Lists.{is_among};
 ghost use Rattle.node_machine.specs.Books.{Advised, Granted};
 ghost use Rattle.node_machine.specs.Machine.{is_due, was_put};
@@ -10,7 +10,6 @@ ghost use Rattle.std.specs.HashMap.{spare};
 ghost use Rattle.std.specs.HashSet as sets;
 ghost use Rattle.std.specs.Vec.{vec_len, vec_capacity};
 ghost use Rattle.book_index.specs.Found.{found};
-ghost use Rattle.book_index.specs.Keys.{same_id};
 ghost use Rattle.advice_store.specs.Kept.{HasRoom, item_is, stored_eq};
 
 use crate::classes::{PlaceList, no_classes, prune, sort_all};
@@ -83,7 +82,7 @@ fn grow(
     ensures places { (k : StoredKey) → found (stored_eq k) places.new.index.places.entries ≡ found (stored_eq k) places.old.index.places.entries }
     ensures staged { staged.new.items ≡ staged.old.items }
     ensures known { known.new.items ≡ known.old.items }
-    ensures ids { (id : AdviceId) → list_any (same_id id) ids.new.ids.keys ≡ list_any (same_id id) ids.old.ids.keys }
+    ensures ids { (id : AdviceId) → list_any (identity_eq id) ids.new.ids.keys ≡ list_any (identity_eq id) ids.old.ids.keys }
     ensures room { OnOk result (HasRoom n (vec_len slots.new) (vec_capacity slots.new) (vec_len known.new) (vec_capacity known.new) 0 (vec_len staged.new) (vec_capacity staged.new) (spare places.new.index.places) (sets.spare ids.new.ids)) }
 {
     slots.reserve(n)?;

@@ -1,6 +1,6 @@
 -- The tests of keys, contents and identities tell whether they are equal.
-use Rattle.std.proofs.Common.{◌≡◌, ℕ, List, true, ◌&&◌, bytes_eq, refl}
-use Rattle.std.proofs.lemmas.Bool.{and_parts}
+use Rattle.std.proofs.Common.{◌≡◌, ℕ, List, true, false, ◌&&◌, bytes_eq, refl, sym, subst, ◌∙◌, inl, inr}
+use Rattle.std.proofs.lemmas.Bool.{cases_Bool, and_parts, false≢true}
 use Rattle.std.proofs.lemmas.Slice.Eq.{bytes_eq-Decides}
 use Rattle.card_digits.specs.declared.key.Key.{Key}
 use Rattle.message_keys.specs.declared.keys.AdviceKind.{AdviceKind}
@@ -19,12 +19,18 @@ key_eq_refl k = rw (bytes_eq_refl k.acquirer, bytes_eq_refl k.trace, bytes_eq_re
 
 pub key_eq_is : (a b : Key) → key_eq a b ≡ true → a ≡ b
 key_eq_is a b e =
-    let p = and_parts (bytes_eq a.acquirer b.acquirer && bytes_eq a.trace b.trace) (bytes_eq a.time b.time) e in
-    let q = and_parts (bytes_eq a.acquirer b.acquirer) (bytes_eq a.trace b.trace) p.0 in
-    let x = bytes_eq_is a.acquirer b.acquirer q.0 in
-    let y = bytes_eq_is a.trace b.trace q.1 in
-    let z = bytes_eq_is a.time b.time p.1 in
+    let p = and_parts (bytes_eq a.acquirer b.acquirer) (bytes_eq a.trace b.trace && bytes_eq a.time b.time) e in
+    let q = and_parts (bytes_eq a.trace b.trace) (bytes_eq a.time b.time) p.1 in
+    let x = bytes_eq_is a.acquirer b.acquirer p.0 in
+    let y = bytes_eq_is a.trace b.trace q.0 in
+    let z = bytes_eq_is a.time b.time q.1 in
     λ j. record { acquirer = x j; trace = y j; time = z j }
+
+pub key_eq_flip : (a b : Key) → key_eq a b ≡ false → key_eq b a ≡ false
+key_eq_flip a b f = elim (cases_Bool (key_eq b a)) [
+  | inl t ↦ absurd (false≢true (sym f ∙ subst (λ k. key_eq a k ≡ true) (sym (key_eq_is b a t)) (key_eq_refl a)))
+  | inr g ↦ g
+]
 
 pub content_eq_refl : (c : Content) → content_eq c c ≡ true
 content_eq_refl c = rw (bytes_eq_refl c.card, bytes_eq_refl c.processing, bytes_eq_refl c.amount, bytes_eq_refl c.currency) refl
@@ -55,9 +61,9 @@ identity_eq_refl i = rw (same_kind_refl i.kind, key_eq_refl i.key, bytes_eq_refl
 
 pub identity_eq_is : (a b : AdviceId) → identity_eq a b ≡ true → a ≡ b
 identity_eq_is a b e =
-    let p = and_parts (same_kind a.kind b.kind && key_eq a.key b.key) (bytes_eq a.forwarder b.forwarder) e in
-    let q = and_parts (same_kind a.kind b.kind) (key_eq a.key b.key) p.0 in
-    let x = same_kind_is a.kind b.kind q.0 in
-    let y = key_eq_is a.key b.key q.1 in
-    let z = bytes_eq_is a.forwarder b.forwarder p.1 in
+    let p = and_parts (same_kind a.kind b.kind) (key_eq a.key b.key && bytes_eq a.forwarder b.forwarder) e in
+    let q = and_parts (key_eq a.key b.key) (bytes_eq a.forwarder b.forwarder) p.1 in
+    let x = same_kind_is a.kind b.kind p.0 in
+    let y = key_eq_is a.key b.key q.0 in
+    let z = bytes_eq_is a.forwarder b.forwarder q.1 in
     λ j. record { kind = x j; key = y j; forwarder = z j }

@@ -40,8 +40,9 @@ unfoldable pub has_key : Fields → Bool
 unfolding has has_own_key
 has_key m = if is_04xx m.kind then has m 90 else has_own_key m
 
+-- the parts are joined as the derived comparison joins them, so that maps of keys and of identities compare by these
 abbrev pub key_eq : Key → Key → Bool
-key_eq a b = bytes_eq a.acquirer b.acquirer && bytes_eq a.trace b.trace && bytes_eq a.time b.time
+key_eq a b = bytes_eq a.acquirer b.acquirer && (bytes_eq a.trace b.trace && bytes_eq a.time b.time)
 
 -- card number, processing code, amount and currency
 pub record Content : Type 0 where
@@ -88,7 +89,7 @@ same_kind advices.Reversal advices.Reversal = true
 same_kind _ _ = false
 
 abbrev pub identity_eq : AdviceId → AdviceId → Bool
-identity_eq a b = same_kind a.kind b.kind && key_eq a.key b.key && bytes_eq a.forwarder b.forwarder
+identity_eq a b = same_kind a.kind b.kind && (key_eq a.key b.key && bytes_eq a.forwarder b.forwarder)
 
 -- the response code
 unfoldable pub code_of : Fields → List ℕ

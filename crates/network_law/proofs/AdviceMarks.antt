@@ -8,13 +8,13 @@ use Rattle.net_rows.specs.Network.{Network}
 use Rattle.network_law.specs.Tables.{node_id}
 use Rattle.network_law.specs.Traces.{Source, Gate, ByLink, ReadInput, Enter, Take, LinkUp, LinkDown, Tick, HostAnswer, NewDate, TakePacket, Lend, ReadOutput, Put, Post, In, Out, History, Handled, handled, Opening, opening, answer, answers, sent, has_00, is_00_of, brings_00, own_approval, Advice, advices, add_advice, add_made, acked_by, has_identity, late_key, failed_key, is_ok_ack, is_advice_group, is_ack_kind, as_kept, count_of, IsIn}
 use Rattle.network_law.specs.Decision.{sent_kind}
-use Rattle.network_law.proofs.Emits.{handled_as, is_kept_group, key_eq_is, bytes_eq_is}
+use Rattle.network_law.proofs.Emits.{handled_as, is_kept_group}
 use Rattle.network_law.proofs.Node.{NodeFacts, answer_is, answers_is, response_is_of_kind, answer_no_request, OpensNow, opening_in_cases}
 use Rattle.network_law.proofs.Elements.{reversal_kind, el_made}
 use Rattle.network_law.proofs.Late.{LateFacts, answer_when}
 use Rattle.network_law.proofs.Provenance.{as_kept_04xx, as_kept_content, as_kind_content, as_kind_key, made_stand_in_kind}
 use Rattle.network_law.proofs.Accounts.{Alike, Accounts}
-use Rattle.message_keys.proofs.Equality.{identity_eq_is}
+use Rattle.message_keys.proofs.Equality.{identity_eq_is, key_eq_is, bytes_eq_is}
 use Rattle.card_digits.specs.Numbers.{pad11}
 use Rattle.network_law.specs.Cards.{Bytes}
 use Rattle.message_keys.specs.declared.keys.AdviceKind.TheVariants.{StandIn, Reversal}

@@ -10,7 +10,8 @@ use Rattle.network_law.specs.Entries.{ReadEntry, read_history}
 use Rattle.network_law.proofs.ReadRuns.{IsFormed, IsLegalRead, IsReadRun}
 use Rattle.network_law.specs.Checked.{Ranks, IsRanked, IsChecked}
 use Rattle.network_law.specs.Claims.{LeadsToApproval, ApprovalsLead}
-use Rattle.network_law.proofs.Emits.{Allowed, forwarding, asking, standing_in, passing, declining, repeating, refusing, acking, sending, posting, putting_packet, OpenedFirst, Failed, ViaLink, ViaHost, decide_keeps, key_eq_is, bytes_eq_is, stays_open}
+use Rattle.message_keys.proofs.Equality.{key_eq_is, bytes_eq_is}
+use Rattle.network_law.proofs.Emits.{Allowed, forwarding, asking, standing_in, passing, declining, repeating, refusing, acking, sending, posting, putting_packet, OpenedFirst, Failed, ViaLink, ViaHost, decide_keeps, stays_open}
 use Rattle.network_law.proofs.Node.{NodeFacts, OpensNow, opening_in_cases, legal_facts, facts_out, keeps_issuers, answer_no_request, answer_is, response_is_of_kind, forwarded_has}
 use Rattle.network_law.proofs.Elements.{response_key}
 use Rattle.network_law.proofs.Used.{OwnFacts, Stood, own_case, own_in_entry, has_00_more, brings_more, ask_key_more, answer_has_00, reply_message, response_code, acked_kind, advice_no_answer}

@@ -4,7 +4,7 @@ use Rattle.std.proofs.lemmas.Bool.{and_right}
 use Rattle.std.specs.Option.{option_or}
 use Rattle.net_rows.specs.Network.{Network}
 use Rattle.network_law.specs.Traces.{ReadInput, ReadOutput, Out, History, opening, opened, answer, answers, sent, pending}
-use Rattle.network_law.proofs.Emits.{key_eq_is}
+use Rattle.message_keys.proofs.Equality.{key_eq_is}
 use Rattle.network_law.proofs.Node.{answers_is}
 use Rattle.iso_message.specs.Fields.{Fields}
 use Rattle.card_digits.specs.declared.key.Key.{Key}

@@ -13,7 +13,8 @@ use Rattle.network_law.proofs.ReadRuns.{IsLegalRead, NamesOwnLink, IsReadRun}
 use Rattle.network_law.specs.Checked.{Ranks, Falls, IsRanked, IsChecked}
 use Rattle.network_law.specs.Claims.{IsForward, IsAsk, OnePath, OpenedByThatPut}
 use Rattle.network_law.proofs.Ends.{legal_at, is_node, not_home, back, histories}
-use Rattle.network_law.proofs.Emits.{decide_keeps, key_eq_refl}
+use Rattle.message_keys.proofs.Equality.{key_eq_refl}
+use Rattle.network_law.proofs.Emits.{decide_keeps}
 use Rattle.network_law.proofs.Node.{NodeFacts, Sent, Opened, legal_facts, keeps_issuers, forwarded_has}
 use Rattle.iso_message.specs.Fields.{Fields, get, as_kind, el}
 use Rattle.message_elements.specs.declared.kind.Kind.TheVariants.{K0100}

@@ -13,7 +13,8 @@ use Rattle.network_law.specs.Entries.{ReadEntry, read_history}
 use Rattle.network_law.proofs.ReadRuns.{IsFormed, IsLegalRead, IsReadRun}
 use Rattle.network_law.specs.Claims.{is_response, IsForward}
 use Rattle.network_law.specs.Checked.{Ranks, IsRanked, IsChecked}
-use Rattle.network_law.proofs.Emits.{Allowed, forwarding, asking, standing_in, passing, declining, repeating, refusing, acking, sending, posting, putting_packet, handled_as, decide_keeps, from_link, stays_open, bytes_eq_refl}
+use Rattle.message_keys.proofs.Equality.{bytes_eq_refl}
+use Rattle.network_law.proofs.Emits.{Allowed, forwarding, asking, standing_in, passing, declining, repeating, refusing, acking, sending, posting, putting_packet, handled_as, decide_keeps, from_link, stays_open}
 use Rattle.network_law.proofs.Node.{NodeFacts, EntryFacts, legal_facts, facts_in, facts_out, keeps_issuers}
 use Rattle.network_law.proofs.Elements.{code_response}
 use Rattle.network_law.proofs.Chain.{OpenedByThatPut_holds}

@@ -20,7 +20,7 @@ use Rattle.message_elements.specs.declared.kind.Group.{Group}
 use Rattle.message_elements.specs.Groups.{group, is_request, is_answer, is_reversal, is_04xx}
 use Rattle.message_elements.specs.declared.kind.Kind.TheVariants.{K0100, K0101, K0110, K0120, K0121, K0130, K0400, K0401, K0410, K0420, K0421, K0430}
 use Rattle.card_digits.specs.declared.key.Key.{Key}
-pub use Rattle.message_keys.proofs.Equality.{bytes_eq_refl, bytes_eq_is, key_eq_refl, key_eq_is}
+use Rattle.message_keys.proofs.Equality.{key_eq_refl}
 use Rattle.message_keys.specs.Keys.{key_eq, key_of, content, content_eq, identity_of, code_of}
 use Rattle.message_elements.specs.Codes.{code_00, code_05, code_14, code_68, code_92, code_94, code_96}
 use Rattle.iso_message.specs.Made.{made_reversal, made_stand_in, response}

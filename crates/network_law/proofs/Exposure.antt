@@ -20,7 +20,8 @@ use Rattle.network_law.specs.Checked.{IsChecked, IsBounded, sum_below}
 use Rattle.network_law.specs.Claims.{WithinCeiling, AtMost, exposure, BorrowedWasLent, OneContent}
 use Rattle.network_law.proofs.ReadRuns.{IsLegalRead, IsReadRun}
 use Rattle.network_law.proofs.Ends.{legal_at, is_node, histories}
-use Rattle.network_law.proofs.Emits.{Allowed, forwarding, asking, standing_in, passing, declining, repeating, refusing, acking, sending, posting, putting_packet, PuttingPacket, decide_keeps, bytes_eq_refl, in_append}
+use Rattle.message_keys.proofs.Equality.{bytes_eq_refl}
+use Rattle.network_law.proofs.Emits.{Allowed, forwarding, asking, standing_in, passing, declining, repeating, refusing, acking, sending, posting, putting_packet, PuttingPacket, decide_keeps, in_append}
 use Rattle.network_law.proofs.Node.{legal_facts, keeps_issuers}
 use Rattle.network_law.proofs.Lending.{BorrowsNamed}
 use Rattle.network_law.proofs.Used.{cap_of, legal_used}

@@ -9,7 +9,8 @@ use Rattle.network_law.specs.Traces.{ReadInput, Tick, LinkDown, ReadOutput, Even
 use Rattle.network_law.specs.Decision.{decide, fail, fail_all, failing, send_all, due, standin, standin_code, keep, reply, reply_output}
 use Rattle.network_law.proofs.ReadRuns.{HasLengths}
 use Rattle.network_law.specs.Claims.{has_reversal}
-use Rattle.network_law.proofs.Emits.{standing, keep_keeps, fail_all_keeps, stays_open, key_eq_refl, decide_keeps, failing_ticks, FailsNow}
+use Rattle.message_keys.proofs.Equality.{key_eq_refl}
+use Rattle.network_law.proofs.Emits.{standing, keep_keeps, fail_all_keeps, stays_open, decide_keeps, failing_ticks, FailsNow}
 use Rattle.network_law.proofs.Node.{NodeFacts, keeps_issuers, answers_is, response_is_of_kind}
 use Rattle.network_law.proofs.Elements.{code_response, response_key}
 use Rattle.network_law.proofs.Codes.{standin_not_94}

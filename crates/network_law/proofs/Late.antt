@@ -12,7 +12,8 @@ use Rattle.network_law.specs.Refusals.{refusal}
 use Rattle.network_law.specs.Entries.{ReadEntry, read_history}
 use Rattle.network_law.proofs.ReadRuns.{IsReadRun, IsFormed, IsLegalRead, HasLengths}
 use Rattle.network_law.specs.Claims.{answered_by, takes_00, took_00, takes_answer, has_reversal, LateApprovalsUndone}
-use Rattle.network_law.proofs.Emits.{Allowed, forwarding, asking, standing_in, passing, declining, repeating, refusing, acking, sending, posting, putting_packet, OpenedFirst, Failed, Reversing, ViaLink, ViaHost, Kept, accepting, handled_as, decide_keeps, keep_keeps, key_eq_refl, key_eq_is, bytes_eq_refl, bytes_eq_is, stays_open, ask_key_asked, is_kept_group}
+use Rattle.message_keys.proofs.Equality.{key_eq_refl, bytes_eq_is}
+use Rattle.network_law.proofs.Emits.{Allowed, forwarding, asking, standing_in, passing, declining, repeating, refusing, acking, sending, posting, putting_packet, OpenedFirst, Failed, Reversing, ViaLink, ViaHost, Kept, accepting, handled_as, decide_keeps, keep_keeps, stays_open, ask_key_asked, is_kept_group}
 use Rattle.network_law.proofs.Node.{NodeFacts, EntryFacts, Opened, legal_facts, facts_in, facts_out, keeps_issuers, answer_no_request, answer_is, answers_is, response_is_of_kind, forwarded_has, asked_has, Sent}
 use Rattle.network_law.proofs.Elements.{code_response, response_key, made_reversal_key, reversal_kind}
 use Rattle.network_law.proofs.Used.{any_more, add_made_keeps, add_accepted_keeps, sent_reply, reply_message, response_code, acked_kind, advice_no_answer}
@@ -66,9 +67,9 @@ reversal_more t n (Out i o) h k r =
 same_identity_reverses : (k : Key) (x : Fields) (a : Advice) → is_04xx x.kind ≡ true → key_of x ≡ k → has_identity (identity_of x) a ≡ true → reverses_key k a ≡ true
 unfolding identity_of
 same_identity_reverses k x a r e same =
-    let p = and_parts (same_kind (advice_kind (is_04xx a.message.kind)) (advice_kind (is_04xx x.kind)) && key_eq (key_of a.message) (key_of x)) (bytes_eq (identity_of a.message).forwarder (identity_of x).forwarder) same in
-    let q = and_parts (same_kind (advice_kind (is_04xx a.message.kind)) (advice_kind (is_04xx x.kind))) (key_eq (key_of a.message) (key_of x)) p.0 in
-    and_from (is_04xx a.message.kind) (key_eq (key_of a.message) k) (kinds (is_04xx a.message.kind) (is_04xx x.kind) r q.0) (ap (key_eq (key_of a.message)) (sym e) ∙ q.1)
+    let p = and_parts (same_kind (advice_kind (is_04xx a.message.kind)) (advice_kind (is_04xx x.kind))) (key_eq (key_of a.message) (key_of x) && bytes_eq (identity_of a.message).forwarder (identity_of x).forwarder) same in
+    let q = and_parts (key_eq (key_of a.message) (key_of x)) (bytes_eq (identity_of a.message).forwarder (identity_of x).forwarder) p.1 in
+    and_from (is_04xx a.message.kind) (key_eq (key_of a.message) k) (kinds (is_04xx a.message.kind) (is_04xx x.kind) r p.0) (ap (key_eq (key_of a.message)) (sym e) ∙ q.0)
   where
     kinds : (b c : Bool) → c ≡ true → same_kind (advice_kind b) (advice_kind c) ≡ true → b ≡ true
     kinds true c r e = refl

@@ -27,7 +27,8 @@ use Rattle.network_law.specs.Refusals.{refusal, when, entered_kind, taken_kind, 
 use Rattle.network_law.specs.Entries.{ReadEntry, read_history}
 use Rattle.network_law.proofs.ReadRuns.{IsFormed, IsLegalRead}
 use Rattle.network_law.proofs.Refused.{or_none, when_none}
-use Rattle.network_law.proofs.Emits.{Allowed, StandingIn, Acking, OpenedFirst, Failed, decide_keeps, handled_as, handled_no_timer, stays_open, key_eq_is, key_eq_refl, in_append}
+use Rattle.message_keys.proofs.Equality.{key_eq_is, key_eq_refl}
+use Rattle.network_law.proofs.Emits.{Allowed, StandingIn, Acking, OpenedFirst, Failed, decide_keeps, handled_as, handled_no_timer, stays_open, in_append}
 use Rattle.network_law.proofs.Node.{NodeFacts, OpensNow, opening_in_cases, legal_facts, facts_out, keeps_issuers, response_is_of_kind, request_no_04xx, el_remove}
 use Rattle.network_law.proofs.Elements.{code_response, response_key}
 use Rattle.network_law.proofs.Used.{OwnFacts, own_now, own_stands, own_in_entry, has_00_more, brings_more, sent_reply, add_made_keeps}

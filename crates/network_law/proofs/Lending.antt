@@ -12,7 +12,7 @@ use Rattle.network_law.specs.declared.grant.GrantPacket.TheVariants as packets
 use Rattle.network_law.specs.Traces.{ReadInput, Enter, Take, LinkUp, LinkDown, Tick, HostAnswer, NewDate, TakePacket, Lend, In, History, IsIn, Lent, lent_acked, grants, has_number, taken, added, amount_for, borrowed, lent, allowance, used}
 use Rattle.network_law.specs.Refusals.{refusal, when, may_not_lend, may_not_borrow}
 use Rattle.network_law.proofs.Refused.{or_none, when_none}
-use Rattle.network_law.proofs.Emits.{bytes_eq_is}
+use Rattle.message_keys.proofs.Equality.{bytes_eq_is}
 
 -- a grant counts for a card and date, or doesn't
 pub amount_cases : (card date : List ℕ) (g : Grant) → (amount_for card date g ≡ 0) ⊎ ((g.card ≡ card) × (g.date ≡ date) × (amount_for card date g ≡ g.amount))

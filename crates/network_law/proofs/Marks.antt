@@ -12,7 +12,8 @@ use Rattle.network_law.specs.Refusals.{refusal}
 use Rattle.network_law.specs.Entries.{ReadEntry, read_history}
 use Rattle.network_law.proofs.ReadRuns.{IsLegalRead, IsFormed}
 use Rattle.network_law.specs.Legal.{marked_failed}
-use Rattle.network_law.proofs.Emits.{Allowed, forwarding, asking, standing_in, passing, declining, repeating, refusing, acking, sending, posting, putting_packet, decide_keeps, stays_open, handled_no_timer, key_eq_refl, key_eq_is, failing_ticks}
+use Rattle.message_keys.proofs.Equality.{key_eq_refl, key_eq_is}
+use Rattle.network_law.proofs.Emits.{Allowed, forwarding, asking, standing_in, passing, declining, repeating, refusing, acking, sending, posting, putting_packet, decide_keeps, stays_open, handled_no_timer, failing_ticks}
 use Rattle.network_law.proofs.Node.{NodeFacts, EntryFacts, OpensNow, opening_in_cases, legal_facts, facts_in, facts_out, keeps_issuers, answers_is}
 use Rattle.network_law.proofs.Elements.{response_key}
 use Rattle.network_law.proofs.Used.{reply_message, add_made_keeps, add_accepted_keeps, advice_no_answer}

@@ -12,7 +12,8 @@ use Rattle.network_law.proofs.Refused.{EnteredFacts, entered_facts}
 use Rattle.network_law.specs.Refusals.{refusal}
 use Rattle.network_law.specs.Entries.{ReadEntry, read_history}
 use Rattle.network_law.proofs.ReadRuns.{IsLegalRead, HasLengths, IsFormed}
-use Rattle.network_law.proofs.Emits.{Allowed, forwarding, asking, standing_in, passing, declining, repeating, refusing, acking, sending, posting, putting_packet, Forwarding, Asking, handled_as, Issued, KeepsIssuers, decide_keeps, stays_open, opening_now, opens_now, key_eq_is}
+use Rattle.message_keys.proofs.Equality.{key_eq_is}
+use Rattle.network_law.proofs.Emits.{Allowed, forwarding, asking, standing_in, passing, declining, repeating, refusing, acking, sending, posting, putting_packet, Forwarding, Asking, handled_as, Issued, KeepsIssuers, decide_keeps, stays_open, opening_now, opens_now}
 use Rattle.network_law.specs.Cards.{text_of, Bytes, card_of}
 use Rattle.iso_message.proofs.Changes.{get_set, get_remove}
 use Rattle.iso_message.specs.Fields.{Fields, el, set_element, remove_element, as_kind}

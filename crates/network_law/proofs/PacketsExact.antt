@@ -14,7 +14,7 @@ use Rattle.network_law.specs.declared.grant.GrantPacket.{GrantPacket}
 use Rattle.network_law.specs.declared.grant.GrantPacket.TheVariants as packets
 use Rattle.network_law.specs.Grants.{number_text, packet_bytes, is_word_and_digits, grant_at, card_size, read_packet}
 use Rattle.network_law.specs.PlainGrants.{PacketsAreExact}
-use Rattle.network_law.proofs.Emits.{bytes_eq_is}
+use Rattle.message_keys.proofs.Equality.{bytes_eq_is}
 use Rattle.network_law.proofs.Packets.{number_length, number_digits, number_read, all_take, all_drop, drop_more, decimal_below, take_full, length_drop}
 
 -- digits of one length that write one number are the same

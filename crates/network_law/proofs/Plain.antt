@@ -24,7 +24,8 @@ use Rattle.network_law.specs.Traces.{key_asked, ask_count, asks_in, put_count, p
 use Rattle.network_law.specs.Decision.{failing, decide, keep, on_code, on_answer, on_host}
 use Rattle.network_law.specs.Plain.{Asked, asked_in, all_asked, AskedByNumber, CountsAsks, CountsPuts, sets_link, sets_up, UpByLast, sets_date, date_in, DatedByLast, inputs, requests, request_of, openings, opened_key, OpenedByFirst, OpenedOnce, EachIsOfItsKey, FailInOpeningOrder, is_answer_of, said_in, said, AnsweredByFirst, OnLink, put_in, puts, ForwardedByFirst, link_in, links_put, is_tick, CountsTicks, UsedIsSum, LeavesLeast, LeavesOne, LeavesNoMore, LeavesAll, LateIsReversed}
 use Rattle.network_law.proofs.Used.{left_by_less, left_less}
-use Rattle.network_law.proofs.Emits.{key_eq_is, key_eq_refl, in_append}
+use Rattle.message_keys.proofs.Equality.{key_eq_is, key_eq_refl}
+use Rattle.network_law.proofs.Emits.{in_append}
 
 pub find_append : {X : Type 0} (p : X → Bool) (xs ys : List X) → find p (xs ++ ys) ≡ option_or (find p xs) (find p ys)
 find_append p [] ys = refl

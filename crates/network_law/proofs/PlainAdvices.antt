@@ -17,12 +17,12 @@ use Rattle.network_law.specs.Tables.{node_id}
 use Rattle.network_law.specs.Traces.{ReadInput, ReadOutput, Put, Answer, Ask, Post, PutPacket, Event, In, Out, History, IsIn, Has, Handled, handled, Opening, opening, opened, sent, has_00, is_00_of, brings_00, key_of_00, own_approval, Approval, approval_by, approval_of, approvals, Advice, advices, add_advice, add_made, add_accepted, acked_by, has_identity, late_key, failed_key, is_ok_ack, is_advice_group, as_kept, known, is_at_home, stored, pending, load, was_put, is_put_of, count_of}
 use Rattle.network_law.specs.Plain.{said_in, said, openings, opened_key}
 use Rattle.network_law.specs.PlainAdvices.{Has00BySaid, FirstOwn, ApprovedByFirst, FirstApproves, is_made, is_accepted, KnownAfterInput, KnownAfterOutput, AdvicesOnce, KnownHasAdvice, AdviceIsKnown, ReversedHasAdvice, AdviceReverses, StoredAreAdvices, AdvicesAreStored, WasPutHasPut, PutWasPut, LoadIsSum}
-use Rattle.network_law.proofs.Emits.{key_eq_refl, in_filter, filtered_in, in_reverse}
+use Rattle.network_law.proofs.Emits.{in_filter, filtered_in, in_reverse}
 use Rattle.network_law.proofs.Used.{own_now}
 use Rattle.network_law.proofs.Provenance.{identity_acked}
 use Rattle.network_law.proofs.Accounts.{any_is, is_any}
 use Rattle.network_law.proofs.Approvals.{is_00_parts}
-use Rattle.message_keys.proofs.Equality.{identity_eq_is, identity_eq_refl}
+use Rattle.message_keys.proofs.Equality.{identity_eq_is, identity_eq_refl, key_eq_refl}
 use Rattle.network_law.proofs.Leaves.{approval_cases, Reverses, by_reversed, reversed_by, reverses_parts}
 use Rattle.network_law.proofs.Plain.{keys_in_order}
 use Rattle.network_law.proofs.PlainGrants.{filter_reverse, reverse_length}

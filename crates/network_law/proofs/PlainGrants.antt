@@ -18,7 +18,7 @@ use Rattle.network_law.specs.declared.grant.GrantPacket.TheVariants as packets
 use Rattle.network_law.specs.Traces.{ReadInput, Enter, Take, LinkUp, LinkDown, Tick, HostAnswer, NewDate, TakePacket, Lend, Event, In, Out, History, count_of, Handled, handled, Opening, opening, sent, own_approval, Advice, advices, acked_by, add_advice, add_made, add_accepted, late_key, failed_key, is_ok_ack, is_advice_group, is_at_home, stored, Lent, lent_acked, grants, stored_grants, has_number, taken, borrowed, lent}
 use Rattle.network_law.specs.Decision.{Due, DueAdvice, DueGrant, grants_made_after, in_order, is_due_again, is_sent_again, due}
 use Rattle.network_law.specs.PlainGrants.{Lending, lends, numbered, GrantsAreLends, takes, TakenByFirst, TakenOnce, RepeatsAddNothing, NewAdds, BorrowedIsSum, LentIsSum, grants_of, advices_of, StoredGrantsAreDue, StoredAdvicesAreDue}
-use Rattle.network_law.proofs.Emits.{bytes_eq_is}
+use Rattle.message_keys.proofs.Equality.{bytes_eq_is}
 use Rattle.network_law.proofs.Plain.{find_append, summed, map_append, filter_append}
 
 -- sums

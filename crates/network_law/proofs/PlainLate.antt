@@ -14,7 +14,8 @@ use Rattle.net_rows.specs.Network.{Network}
 use Rattle.network_law.specs.Cards.{Bytes}
 use Rattle.network_law.specs.Traces.{ReadInput, Enter, Take, LinkUp, LinkDown, Tick, HostAnswer, NewDate, TakePacket, Lend, History, IsIn, answer, forwarded, ask_key, Advice, advices, reverses_key, code_is_not_00, comes_late, late_key, is_link}
 use Rattle.network_law.specs.PlainLate.{IsLate, LateIsSuch, SuchIsLate}
-use Rattle.network_law.proofs.Emits.{key_eq_refl, bytes_eq_is, bytes_eq_refl, is_link_is}
+use Rattle.message_keys.proofs.Equality.{key_eq_refl, bytes_eq_is, bytes_eq_refl}
+use Rattle.network_law.proofs.Emits.{is_link_is}
 use Rattle.network_law.proofs.Provenance.{any_in}
 use Rattle.network_law.proofs.Leaves.{any_member, reverses_parts}
 

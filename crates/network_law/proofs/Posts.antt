@@ -12,7 +12,8 @@ use Rattle.network_law.specs.Traces.{Source, Gate, ByLink, ReadInput, Enter, Tak
 use Rattle.network_law.specs.Decision.{decide, reply, reply_output, next_put, emit, sent_kind, keep, send, send_by, own_way, standin, standin_code, fail, fail_all, failing, send_all, Due, DueAdvice, DueGrant, due, send_grant, send_grant_by, send_newest, on_request, on_issuer, on_forward, on_repeat, on_reversal, on_advice, on_answer, on_host, on_code, as_code, on_group, answer_pending, other_content, first_up, same_source}
 use Rattle.network_law.specs.Entries.{ReadEntry, read_history}
 use Rattle.network_law.proofs.ReadRuns.{IsFormed, HasLengths, IsLegalRead}
-use Rattle.network_law.proofs.Emits.{handled_as, is_kept_group, key_eq_refl, stays_open, opening_now, opens_now, handled_no_timer, in_filter, due_from, IsDueFrom, from_link, request_from_group, answer_from_group}
+use Rattle.message_keys.proofs.Equality.{key_eq_refl}
+use Rattle.network_law.proofs.Emits.{handled_as, is_kept_group, stays_open, opening_now, opens_now, handled_no_timer, in_filter, due_from, IsDueFrom, from_link, request_from_group, answer_from_group}
 use Rattle.network_law.proofs.Node.{NodeFacts, answer_is, answers_is, response_is_of_kind, answer_no_request, OpensNow, opening_in_cases}
 use Rattle.network_law.proofs.Elements.{code_response, response_key, made_reversal_key}
 use Rattle.network_law.proofs.Used.{sent_reply, answer_has_00, acked_kind, advice_no_answer}

@@ -12,7 +12,8 @@ use Rattle.network_law.specs.Decision.{reply_output, sent_kind, other_content}
 use Rattle.network_law.proofs.Refused.{EnteredFacts, entered_facts, IsWhole}
 use Rattle.network_law.specs.Refusals.{refusal, strange_original}
 use Rattle.network_law.proofs.ReadRuns.{IsFormed}
-use Rattle.network_law.proofs.Emits.{Allowed, forwarding, asking, standing_in, passing, declining, repeating, refusing, acking, sending, posting, putting_packet, Acking, handled_as, Issued, key_eq_refl, bytes_eq_is, stays_open, is_kept_group, is_link_is, via_ticks, IsGood, handled_no_timer, Accepts}
+use Rattle.message_keys.proofs.Equality.{key_eq_refl, bytes_eq_is}
+use Rattle.network_law.proofs.Emits.{Allowed, forwarding, asking, standing_in, passing, declining, repeating, refusing, acking, sending, posting, putting_packet, Acking, handled_as, Issued, stays_open, is_kept_group, is_link_is, via_ticks, IsGood, handled_no_timer, Accepts}
 use Rattle.network_law.proofs.Node.{NodeFacts, EntryFacts, Opened, OpensNow, opening_in_cases, legal_facts, facts_in, facts_out, keeps_issuers, answer_no_request, response_is_of_kind, response_no_request, forwarded_has, asked_has, Sent, el_dated, el_remove, put_parts, put_case}
 use Rattle.network_law.proofs.Elements.{code_response, made_reversal_key, content_made_reversal}
 use Rattle.network_law.proofs.Used.{reversed_more, acked_kind, sent_reply, reply_message}

@@ -13,7 +13,8 @@ use Rattle.network_law.specs.Entries.{ReadEntry, read_history}
 use Rattle.network_law.proofs.ReadRuns.{IsFormed, IsLegalRead, IsReadRun}
 use Rattle.network_law.specs.Checked.{Ranks, IsRanked, IsChecked}
 use Rattle.network_law.specs.Claims.{NoRepeatReply}
-use Rattle.network_law.proofs.Emits.{Allowed, forwarding, asking, standing_in, passing, declining, repeating, refusing, acking, sending, posting, putting_packet, Forwarding, Sending, Acking, StandingIn, OpenedFirst, Failed, Reversing, ViaLink, ViaHost, Kept, due, reversing, standing, accepting, handled_as, Issued, decide_keeps, key_eq_refl, key_eq_is, bytes_eq_refl, bytes_eq_is, stays_open, ask_key_asked, is_kept_group, is_link_is, found_is_in, via_ticks, IsGood, from_link, handled_no_timer, Accepts}
+use Rattle.message_keys.proofs.Equality.{key_eq_refl}
+use Rattle.network_law.proofs.Emits.{Allowed, forwarding, asking, standing_in, passing, declining, repeating, refusing, acking, sending, posting, putting_packet, Forwarding, Sending, Acking, StandingIn, OpenedFirst, Failed, Reversing, ViaLink, ViaHost, Kept, due, reversing, standing, accepting, handled_as, Issued, decide_keeps, stays_open, ask_key_asked, is_kept_group, is_link_is, found_is_in, via_ticks, IsGood, from_link, handled_no_timer, Accepts}
 use Rattle.network_law.proofs.Node.{NodeFacts, EntryFacts, Opened, OpensNow, opening_in_cases, legal_facts, facts_in, facts_out, keeps_issuers, answer_no_request, response_is_of_kind, response_no_request, forwarded_has, asked_has, Sent, el_dated, el_remove, put_parts, put_case}
 use Rattle.network_law.proofs.Elements.{response_key}
 use Rattle.network_law.proofs.Used.{reversed_more, acked_kind, sent_reply, reply_message}

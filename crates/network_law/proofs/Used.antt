@@ -17,7 +17,8 @@ use Rattle.network_law.specs.Entries.{ReadEntry, read_history}
 use Rattle.network_law.proofs.ReadRuns.{IsFormed, IsLegalRead, IsReadRun}
 use Rattle.network_law.specs.Checked.{IsBounded}
 use Rattle.network_law.specs.Claims.{IsWithinLimits, NamedApprovers}
-use Rattle.network_law.proofs.Emits.{Allowed, forwarding, asking, standing_in, passing, declining, repeating, refusing, acking, sending, posting, putting_packet, Forwarding, Asking, StandingIn, Passing, Declining, Repeating, Refusing, Acking, Sending, Posting, is_kept_group, Issued, decide_keeps, key_eq_refl, key_eq_is, bytes_eq_refl, bytes_eq_is}
+use Rattle.message_keys.proofs.Equality.{key_eq_refl, bytes_eq_is}
+use Rattle.network_law.proofs.Emits.{Allowed, forwarding, asking, standing_in, passing, declining, repeating, refusing, acking, sending, posting, putting_packet, Forwarding, Asking, StandingIn, Passing, Declining, Repeating, Refusing, Acking, Sending, Posting, is_kept_group, Issued, decide_keeps}
 use Rattle.network_law.proofs.Node.{NodeFacts, EntryFacts, Opened, legal_facts, facts_in, facts_out, facts_decide, keeps_issuers, answers_is, response_is_of_kind}
 use Rattle.network_law.proofs.Elements.{code_response, response_key}
 use Rattle.network_law.proofs.Ends.{legal_at, histories}

@@ -3,7 +3,7 @@ use Rattle.std.specs.Prelude.{count_by}
 use Rattle.node_machine.specs.Books.{Stored}
 use Rattle.std.proofs.Common.{◌≡◌, ◌+◌, ◌*◌, length, List, [], ◌∷◌, ℕ, Bool, true, false, cond, Some, None, refl, sym, subst, ◌∙◌, ap, inl, inr}
 use Rattle.message_keys.specs.Keys.{key_eq}
-use Rattle.network_law.proofs.Emits.{key_eq_refl, key_eq_is}
+use Rattle.message_keys.proofs.Equality.{key_eq_refl, key_eq_is}
 use Rattle.network_law.specs.Traces.{IsIn}
 use Rattle.net_rows.specs.Network.{Network}
 use Rattle.node_machine.specs.Machine as machine

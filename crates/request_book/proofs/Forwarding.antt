@@ -9,7 +9,7 @@ use Rattle.card_digits.specs.declared.key.Key.{Key}
 use Rattle.iso_message.specs.Fields.{Fields}
 use Rattle.message_elements.specs.Groups.{is_request}
 use Rattle.message_keys.specs.Keys.{key_eq, key_of}
-use Rattle.network_law.proofs.Emits.{key_eq_is}
+use Rattle.message_keys.proofs.Equality.{key_eq_is}
 use Rattle.network_law.specs.Traces.{ReadOutput, Put, Answer, Ask, Post, PutPacket, forwards, answers, sent, is_link}
 use Rattle.node_machine.specs.Lists.{Row, of_key, row_key, row_has, row_after, row_pending}
 use Rattle.request_book.specs.declared.forwards.Forward.{Forward}

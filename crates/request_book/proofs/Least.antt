@@ -6,10 +6,9 @@ use Rattle.std.proofs.lemmas.Bool.{cases_Bool}
 use Rattle.std.proofs.lemmas.List.Folds.{list_any-append}
 use Rattle.card_digits.specs.declared.key.Key.{Key}
 use Rattle.message_keys.specs.Keys.{key_eq}
-use Rattle.network_law.proofs.Emits.{key_eq_is}
+use Rattle.message_keys.proofs.Equality.{key_eq_is}
 use Rattle.node_machine.specs.Lists.{Mark, is_marked, left_mark, left_marks}
-use Rattle.request_book.specs.Kept.{AreLeast, at_most, found_key}
-use Rattle.request_book.proofs.Found.{found_is}
+use Rattle.request_book.specs.Kept.{AreLeast, at_most}
 
 pub no_marks : AreLeast [] []
 no_marks = record { marked = λ k. refl; left = λ k amount. refl }
@@ -34,23 +33,22 @@ or_false true = refl
 or_false false = refl
 
 -- a mark more
-pub least_more : (marks : List Mark) (j : Mark) (es es' : List (Key × ℕ)) → AreLeast marks es → ((k : Key) → lookup (found_key k) es' ≡ cond (found_key j.key k) (Some (at_most (lookup (found_key j.key) es) j.actual)) (lookup (found_key k) es)) → AreLeast (marks ++ j ∷ []) es'
+pub least_more : (marks : List Mark) (j : Mark) (es es' : List (Key × ℕ)) → AreLeast marks es → ((k : Key) → lookup (key_eq k) es' ≡ cond (key_eq j.key k) (Some (at_most (lookup (key_eq j.key) es) j.actual)) (lookup (key_eq k) es)) → AreLeast (marks ++ j ∷ []) es'
 least_more marks j es es' a put = record {
   marked = λ k. elim (cases_Bool (key_eq j.key k)) [
-    | inl t ↦ (let s = found_is j.key k ∙ t in ap is_some (put k) ∙ rw (s, marked_more k marks j, t) (sym (or_true (is_marked k marks))))
-    | inr f ↦ (let s = found_is j.key k ∙ f in ap is_some (put k) ∙ rw (s, marked_more k marks j, f) (a.marked k ∙ sym (or_false (is_marked k marks))))
+    | inl t ↦ ap is_some (put k) ∙ rw (t, marked_more k marks j, t) (sym (or_true (is_marked k marks)))
+    | inr f ↦ ap is_some (put k) ∙ rw (f, marked_more k marks j, f) (a.marked k ∙ sym (or_false (is_marked k marks)))
   ];
   left = λ k amount. elim (cases_Bool (key_eq j.key k)) [
     | inl t ↦
         let same = key_eq_is j.key k t in
-        let s = found_is j.key k ∙ t in
-        ap (λ o. at_most o amount) (put k) ∙ rw (s, left_more k marks j amount, t) (min_min (lookup (found_key j.key) es) j.actual amount ∙ ap (λ n. min j.actual n) (ap (λ q. at_most (lookup (found_key q) es) amount) same ∙ a.left k amount))
-    | inr f ↦ (let s = found_is j.key k ∙ f in ap (λ o. at_most o amount) (put k) ∙ rw (s, left_more k marks j amount, f) (a.left k amount))
+        ap (λ o. at_most o amount) (put k) ∙ rw (t, left_more k marks j amount, t) (min_min (lookup (key_eq j.key) es) j.actual amount ∙ ap (λ n. min j.actual n) (ap (λ q. at_most (lookup (key_eq q) es) amount) same ∙ a.left k amount))
+    | inr f ↦ ap (λ o. at_most o amount) (put k) ∙ rw (f, left_more k marks j amount, f) (a.left k amount)
   ];
 }
 
 -- maps that find the same
-pub least_same : (marks : List Mark) (es es' : List (Key × ℕ)) → ((k : Key) → lookup (found_key k) es' ≡ lookup (found_key k) es) → AreLeast marks es → AreLeast marks es'
+pub least_same : (marks : List Mark) (es es' : List (Key × ℕ)) → ((k : Key) → lookup (key_eq k) es' ≡ lookup (key_eq k) es) → AreLeast marks es → AreLeast marks es'
 least_same marks es es' same a = record {
   marked = λ k. ap is_some (same k) ∙ a.marked k;
   left = λ k amount. ap (λ o. at_most o amount) (same k) ∙ a.left k amount;

@@ -1,4 +1,3 @@
-pub mod Found
 pub mod At
 pub mod Codes
 pub mod Unique

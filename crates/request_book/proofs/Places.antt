@@ -7,18 +7,17 @@ use Rattle.std.proofs.lemmas.Bool.{cases_Bool}
 use Rattle.std.proofs.lemmas.List.Sums.{sum_by-append, count_by-le-length}
 use Rattle.card_digits.specs.declared.key.Key.{Key}
 use Rattle.message_keys.specs.Keys.{key_eq}
-use Rattle.network_law.proofs.Emits.{key_eq_is}
 use Rattle.iso_message.specs.Fields.{Fields}
 use Rattle.network_law.specs.Traces.{ReadOutput, answers, sent, forwards}
 use Rattle.node_machine.specs.Lists.{Row, of_key, row_key, row_has, row_after, row_pending}
 use Rattle.request_book.specs.Values.{IsUnique, output_key, opened}
-use Rattle.request_book.specs.Kept.{AreKept, IsOver, place_of, bit, found_key, head_of, head_after, noted, newly, widened}
+use Rattle.request_book.specs.Kept.{AreKept, IsOver, place_of, bit, head_of, head_after, noted, newly, widened}
 use Rattle.request_book.specs.declared.forwards.Forward.{Forward}
 use Rattle.request_book.specs.declared.spans.Span.{Span}
 use Rattle.request_book.proofs.At.{last_at, at_mapped, at_got}
 use Rattle.request_book.proofs.Forwarding.{no_spans, no_forwards, spans_opened, spans_after, spans_same, forwards_after, forwards_opened, forwards_noted, forwards_pruned, forwards_same}
-use Rattle.request_book.proofs.Found.{found_is}
-use Rattle.request_book.proofs.Unique.{key_flip, quiet_all, unique_after, unique_more, quiet}
+use Rattle.message_keys.proofs.Equality.{key_eq_is, key_eq_flip}
+use Rattle.request_book.proofs.Unique.{quiet_all, unique_after, unique_more, quiet}
 
 pub no_rows : AreKept [] [] 0 [] [] []
 no_rows = record { unique = tt; keyed = λ k. refl; counted = refl; spanned = no_spans; forwarded = no_forwards }
@@ -80,7 +79,7 @@ changed_at o (r ∷ rs) i d u e = elim (cases_Bool (row_has (output_key o) r)) [
       let g : option_map (λ i. suc i) (place_of (output_key o) rs) ≡ Some i = rw f at e in
       let w = place_tail (place_of (output_key o) rs) i g in
       let is = w.2 in
-      let same = quiet o r (key_flip (row_key r) (output_key o) f) in
+      let same = quiet o r (key_eq_flip (row_key r) (output_key o) f) in
       rw (is, same) (ap (λ ys. r ∷ ys) (changed_at o rs w.0 d u.1 w.1))
 ]
 
@@ -141,7 +140,7 @@ count_set (x ∷ xs) (suc i) d r lt = (let a = count_cons x (set xs i r) in let 
 
 -- the book's facts
 
-pub kept_same : (rows : List Row) (es es' : List (Key × ℕ)) (n : ℕ) (spans spans' : List (ℕ × Span)) (list : List Forward) (heads heads' : List (ℕ × ℕ)) → ((k : Key) → lookup (found_key k) es' ≡ lookup (found_key k) es) → ((c : ℕ) → lookup (nat_eq c) spans' ≡ lookup (nat_eq c) spans) → ((l : ℕ) → head_of l heads' ≡ head_of l heads) → AreKept rows es n spans list heads → AreKept rows es' n spans' list heads'
+pub kept_same : (rows : List Row) (es es' : List (Key × ℕ)) (n : ℕ) (spans spans' : List (ℕ × Span)) (list : List Forward) (heads heads' : List (ℕ × ℕ)) → ((k : Key) → lookup (key_eq k) es' ≡ lookup (key_eq k) es) → ((c : ℕ) → lookup (nat_eq c) spans' ≡ lookup (nat_eq c) spans) → ((l : ℕ) → head_of l heads' ≡ head_of l heads) → AreKept rows es n spans list heads → AreKept rows es' n spans' list heads'
 kept_same rows es es' n spans spans' list heads heads' keys counts links a = record {
   unique = a.unique;
   keyed = λ k. keys k ∙ a.keyed k;
@@ -151,15 +150,15 @@ kept_same rows es es' n spans spans' list heads heads' keys counts links a = rec
 }
 
 pub kept_opened : (rows : List Row) (r : Row) (es es' : List (Key × ℕ)) (n : ℕ) (spans spans' : List (ℕ × Span)) (list : List Forward) (heads heads' : List (ℕ × ℕ)) → AreKept rows es n spans list heads → place_of (row_key r) rows ≡ None
-    → ((k : Key) → lookup (found_key k) es' ≡ cond (found_key (row_key r) k) (Some (length rows)) (lookup (found_key k) es))
+    → ((k : Key) → lookup (key_eq k) es' ≡ cond (key_eq (row_key r) k) (Some (length rows)) (lookup (key_eq k) es))
     → ((c : ℕ) → lookup (nat_eq c) spans' ≡ cond (nat_eq r.count c) (Some (widened (lookup (nat_eq r.count) spans) (length rows))) (lookup (nat_eq c) spans))
     → ((l : ℕ) → head_of l heads' ≡ head_after r.link (length list) l (head_of l heads))
     → AreKept (rows ++ r ∷ []) es' (n + bit (row_pending r)) spans' (noted (length rows) r.link heads list) heads'
 kept_opened rows r es es' n spans spans' list heads heads' a none put counts links = record {
   unique = unique_more r rows (found_none (row_key r) rows none) a.unique;
   keyed = λ k. elim (cases_Bool (key_eq (row_key r) k)) [
-    | inl t ↦ (let s = found_is (row_key r) k ∙ t in put k ∙ rw s (sym (place_last k rows r (subst (λ q. place_of q rows ≡ None) (key_eq_is (row_key r) k t) none) t)))
-    | inr f ↦ (let s = found_is (row_key r) k ∙ f in put k ∙ rw s (a.keyed k ∙ sym (place_same k rows r f)))
+    | inl t ↦ put k ∙ rw t (sym (place_last k rows r (subst (λ q. place_of q rows ≡ None) (key_eq_is (row_key r) k t) none) t))
+    | inr f ↦ put k ∙ rw f (a.keyed k ∙ sym (place_same k rows r f))
   ];
   counted = ap (λ m. m + bit (row_pending r)) a.counted ∙ sym (count_more rows r);
   spanned = spans_opened rows r spans spans' a.spanned counts;
@@ -204,13 +203,8 @@ opened_again r rows i at = let e = found_some (row_key r) rows i r at in rw e re
 
 -- a request that is pending, and one that is not, as an output changes them
 
-set_at : (rows : List Row) (i : ℕ) (r d : Row) → i < length rows → get_or (set rows i r) i d ≡ r
-set_at [] i r d lt = absurd (omega arith)
-set_at (x ∷ xs) zero r d lt = refl
-set_at (x ∷ xs) (suc i) r d lt = set_at xs i r d (omega arith)
-
-pub closed_open : (rows : List Row) (i : ℕ) (d e r : Row) (b : Bool) → i < length rows → row_pending (get_or rows i d) ≡ true → b ≡ row_pending (get_or (set rows i r) i e) → count_by row_pending (set rows i r) + bit (not b) ≡ count_by row_pending rows
-closed_open rows i d e r b lt was is = go b (is ∙ ap row_pending (set_at rows i r e lt))
+pub closed_open : (rows : List Row) (i : ℕ) (d r : Row) (b : Bool) → i < length rows → row_pending (get_or rows i d) ≡ true → b ≡ row_pending r → count_by row_pending (set rows i r) + bit (not b) ≡ count_by row_pending rows
+closed_open rows i d r b lt was is = go b is
   where
     go : (b : Bool) → b ≡ row_pending r → count_by row_pending (set rows i r) + bit (not b) ≡ count_by row_pending rows
     go true f = (let h = count_set rows i d r lt in let w = ap bit was in let n = ap bit f in omega (arith, h, w, n))
@@ -225,12 +219,6 @@ closed_stays o r f = go r.answer f
 
 pub closed_before : (o : ReadOutput) (rows : List Row) (i : ℕ) (d r : Row) → i < length rows → row_pending (get_or rows i d) ≡ false → r ≡ row_after o (get_or rows i d) → count_by row_pending (set rows i r) + 0 ≡ count_by row_pending rows
 closed_before o rows i d r lt was is = (let h = count_set rows i d r lt in let w = ap bit was in let n = ap bit (ap row_pending is ∙ closed_stays o (get_or rows i d) was) in omega (arith, h, w, n))
-
--- the row there, whatever stands for none
-pub row_at : (rows : List Row) (i : ℕ) (d e : Row) → i < length rows → get_or rows i d ≡ get_or rows i e
-row_at [] i d e lt = absurd (omega arith)
-row_at (x ∷ xs) zero d e lt = refl
-row_at (x ∷ xs) (suc i) d e lt = row_at xs i d e (omega arith)
 
 pub pending_few : (rows : List Row) (n : ℕ) → n ≡ count_by row_pending rows → length rows < 2 ^ 63 → n < 2 ^ 63
 pending_few rows n e lt = omega (arith, e, lt, count_by-le-length row_pending rows)

@@ -1,5 +1,5 @@
 -- The spelling of a message spells that message.
-use Rattle.std.proofs.Common.{◌≡◌, ℕ, List, Option, Ok, refl, sym, ap, ◌∙◌}
+use Rattle.std.proofs.Common.{◌≡◌, ℕ, List, Option, Ok, sym, ap, ◌∙◌}
 use Rattle.message_elements.specs.declared.kind.Kind.{Kind}
 use Rattle.iso_message.specs.Fields.{Fields, get}
 use Rattle.iso_message.specs.Messages.{read}

@@ -8,17 +8,10 @@ use Rattle.message_elements.specs.Groups.{is_request, is_answer}
 use Rattle.message_keys.specs.Keys.{code_of, key_of, key_eq}
 use Rattle.message_elements.specs.Codes.{code_94}
 use Rattle.network_law.specs.Traces.{ReadOutput, Put, Answer, Ask, Post, PutPacket, answers, forwards}
-use Rattle.network_law.proofs.Emits.{key_eq_refl, key_eq_is}
+use Rattle.message_keys.proofs.Equality.{key_eq_refl, key_eq_is, key_eq_flip}
 use Rattle.node_machine.specs.Lists.{Row, of_key, row_key, row_after}
 use Rattle.node_machine.proofs.Views.{found_after, found_more}
 use Rattle.request_book.specs.Values.{output_key, IsUnique, opened}
-
-pub key_flip : (a b : Key) → key_eq a b ≡ false → key_eq b a ≡ false
-key_flip a b e = go (key_eq b a) refl
-  where
-    go : (c : Bool) → key_eq b a ≡ c → c ≡ false
-    go false f = refl
-    go true f = let q : true ≡ false = sym (key_eq_refl b) ∙ subst (λ k. key_eq k b ≡ false) (sym (key_eq_is b a f)) e in cc
 
 pub or_none : {X : Type 0} (x : Option X) → option_or x None ≡ x
 or_none None = refl
@@ -62,7 +55,7 @@ tail_none k x xs e = rw (head_not k x xs e) at e
 
 pub quiet_all : (o : ReadOutput) (rows : List Row) → of_key (output_key o) rows ≡ None → map (row_after o) rows ≡ rows
 quiet_all o [] e = refl
-quiet_all o (x ∷ xs) e = rw (quiet o x (key_flip (row_key x) (output_key o) (head_not (output_key o) x xs e)), quiet_all o xs (tail_none (output_key o) x xs e)) refl
+quiet_all o (x ∷ xs) e = rw (quiet o x (key_eq_flip (row_key x) (output_key o) (head_not (output_key o) x xs e)), quiet_all o xs (tail_none (output_key o) x xs e)) refl
 
 pub after_at : (o : ReadOutput) (xs : List Row) (i : ℕ) (d : Row) → i < length xs → key_eq (output_key o) (row_key (get_or xs i d)) ≡ true → ((j : ℕ) → j < i → key_eq (output_key o) (row_key (get_or xs j d)) ≡ false) → IsUnique xs → set xs i (row_after o (get_or xs i d)) ≡ map (row_after o) xs
 after_at o [] i d p t f u = absurd (omega arith)
@@ -79,7 +72,7 @@ unique_after o (x ∷ xs) u = (found_after o (row_key x) xs ∙ ap (option_map (
 
 pub unique_more : (r : Row) (xs : List Row) → of_key (row_key r) xs ≡ None → IsUnique xs → IsUnique (xs ++ r ∷ [])
 unique_more r [] e u = (refl, tt)
-unique_more r (x ∷ xs) e u = (found_more (row_key x) xs r ∙ rw (u.0, key_flip (row_key x) (row_key r) (head_not (row_key r) x xs e)) refl, unique_more r xs (tail_none (row_key r) x xs e) u.1)
+unique_more r (x ∷ xs) e u = (found_more (row_key x) xs r ∙ rw (u.0, key_eq_flip (row_key x) (row_key r) (head_not (row_key r) x xs e)) refl, unique_more r xs (tail_none (row_key r) x xs e) u.1)
 
 pub unique_opened : (r : Row) (xs : List Row) → IsUnique xs → IsUnique (opened r xs)
 unique_opened r xs u = go (of_key (row_key r) xs) refl

@@ -1,17 +1,14 @@
 -- What a book of requests keeps beside its lists.
-use Rattle.std.specs.Prelude.{◌≡◌, ◌⊎◌, ◌+◌, ◌<◌, ◌≤◌, ℕ, suc, min, nat_eq, unwrap_or, slice_get, List, [], ◌∷◌, ◌++◌, Bool, true, false, ◌&&◌, bytes_eq, if◌then◌else◌, Option, Some, None, is_some, is_none, count_by}
+use Rattle.std.specs.Prelude.{◌≡◌, ◌⊎◌, ◌+◌, ◌<◌, ◌≤◌, ℕ, suc, min, nat_eq, unwrap_or, slice_get, List, [], ◌∷◌, ◌++◌, Bool, true, false, if◌then◌else◌, Option, Some, None, is_some, is_none, count_by}
 use Rattle.std.specs.Map.{lookup}
 use Rattle.std.specs.Option.{option_map}
 use Rattle.card_digits.specs.declared.key.Key.{Key}
+use Rattle.message_keys.specs.Keys.{key_eq}
 use Rattle.network_law.specs.Traces.{ReadOutput, forwards}
 use Rattle.node_machine.specs.Lists.{Row, Mark, row_has, row_key, row_pending, is_marked, left_marks}
 use Rattle.request_book.specs.declared.forwards.Forward.{Forward}
 use Rattle.request_book.specs.declared.spans.Span.{Span}
 use Rattle.request_book.specs.Values.{IsUnique, waits_on}
-
--- keys as a map compares them
-abbrev pub found_key : Key → Key → Bool
-found_key a b = bytes_eq a.acquirer b.acquirer && (bytes_eq a.trace b.trace && bytes_eq a.time b.time)
 
 -- the place of the request of a key
 abbrev pub place_of : Key → List Row → Option ℕ
@@ -34,8 +31,8 @@ pub record MarksView : Type 0 where
 
 -- the least actual amount of each marked key
 pub record AreLeast (marks : List Mark) (least : List (Key × ℕ)) : Type 0 where
-  pub marked : (k : Key) → is_some (lookup (found_key k) least) ≡ is_marked k marks
-  pub left : (k : Key) (amount : ℕ) → at_most (lookup (found_key k) least) amount ≡ left_marks k marks amount
+  pub marked : (k : Key) → is_some (lookup (key_eq k) least) ≡ is_marked k marks
+  pub left : (k : Key) (amount : ℕ) → at_most (lookup (key_eq k) least) amount ≡ left_marks k marks amount
 
 -- a place between the ends of a span
 abbrev pub InSpan : ℕ → Option Span → Type 0
@@ -89,7 +86,7 @@ pub record AreForwards (gap : ℕ → ℕ → Type 0) (rows : List Row) (list : 
 -- each key's request by its place, the number of the pending ones, and where those of a count and of a link stand
 pub record AreKept (rows : List Row) (places : List (Key × ℕ)) (pending : ℕ) (spans : List (ℕ × Span)) (list : List Forward) (heads : List (ℕ × ℕ)) : Type 0 where
   pub unique : IsUnique rows
-  pub keyed : (k : Key) → lookup (found_key k) places ≡ place_of k rows
+  pub keyed : (k : Key) → lookup (key_eq k) places ≡ place_of k rows
   pub counted : pending ≡ count_by row_pending rows
   pub spanned : AreSpans rows spans
   pub forwarded : AreForwards NoGap rows list heads

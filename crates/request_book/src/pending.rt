@@ -50,9 +50,10 @@ fn change(rows: &mut [Row], place: usize, output: PreparedOutput) -> bool
     ensures rows { rows.new ≡ map (row_after output) rows.old }
     ensures closed { count_by row_pending rows.new + bit result ≡ count_by row_pending rows.old }
 {
-    let was = rows[place].is_open();
-    rows[place].after(output);
-    was && !rows[place].is_open()
+    let row = &mut rows[place];
+    let was = row.is_open();
+    row.after(output);
+    was && !row.is_open()
 }
 
 /// The same of all requests.

@@ -7,8 +7,8 @@ use Rattle.book_index.specs.Sums.{amount_on}
 use Rattle.book_index.specs.Found.{holds_at, found, Tells, joined}
 use Rattle.book_index.specs.declared.index.Place.{Place}
 use Rattle.book_index.proofs.Holding.{none_map, one_map, holds_push}
-use Rattle.book_index.specs.Keys.{same_key}
-use Rattle.book_index.proofs.Texts.{text_refl, key_refl, key_same, key_flip, keys_again}
+use Rattle.message_keys.proofs.Equality.{bytes_eq_refl, key_eq_refl, key_eq_is, key_eq_flip}
+use Rattle.message_keys.specs.Keys.{key_eq}
 use Rattle.book_index.proofs.Telling.{tells_same, tells_joined}
 use Rattle.book_index.specs.declared.card_day.CardDay.{CardDay}
 use Rattle.standin_book.specs.Approvals.{used_on, day_of, lessened, is_of}
@@ -19,7 +19,7 @@ use Rattle.std.proofs.Math.Seq.{take-append_seam}
 use Rattle.std.proofs.lemmas.List.{length-map}
 
 used_self : (x : Take) → used_on (day_of x) x ≡ x.left
-used_self x = rw (text_refl x.card, text_refl x.date) refl
+used_self x = rw (bytes_eq_refl x.card, bytes_eq_refl x.date) refl
 
 pub own_part : (takes : List Take) (i : ℕ) (d : Take) → i < length takes → (get_or takes i d).left ≤ added (used_on (day_of (get_or takes i d))) takes
 own_part takes i d less =
@@ -58,24 +58,24 @@ or_and_false false true = refl
 or_and_false false false = refl
 
 -- the places after an approval more
-pub placed_more : (takes : List Take) (x : Take) (places new : List (Key × Place)) → ((k : Key) → found (same_key k) new ≡ cond (same_key x.key k) (joined (found (same_key x.key) places) (length takes)) (found (same_key k) places)) → ((k : Key) → Tells (found (same_key k) places) (holds_at (is_of k) takes)) → (k : Key) → Tells (found (same_key k) new) (holds_at (is_of k) (takes ++ x ∷ []))
-placed_more takes x places new more placed k = elim (cases_Bool (same_key x.key k)) [
+pub placed_more : (takes : List Take) (x : Take) (places new : List (Key × Place)) → ((k : Key) → found (key_eq k) new ≡ cond (key_eq x.key k) (joined (found (key_eq x.key) places) (length takes)) (found (key_eq k) places)) → ((k : Key) → Tells (found (key_eq k) places) (holds_at (is_of k) takes)) → (k : Key) → Tells (found (key_eq k) new) (holds_at (is_of k) (takes ++ x ∷ []))
+placed_more takes x places new more placed k = elim (cases_Bool (key_eq x.key k)) [
   | inl t ↦
-      let is : x.key ≡ k = key_same x.key k t in
-      let G : Key → Type 0 = λ z. Tells (joined (found (same_key z) places) (length takes)) (holds_at (is_of k) (takes ++ x ∷ [])) in
-      let own : is_of k x ≡ true = sym (keys_again k x.key) ∙ (let F : Key → Type 0 = λ z. same_key k z ≡ true in subst F (sym is) (key_refl k)) in
-      let e : found (same_key k) new ≡ joined (found (same_key x.key) places) (length takes) = more k ∙ rw t refl in
+      let is : x.key ≡ k = key_eq_is x.key k t in
+      let G : Key → Type 0 = λ z. Tells (joined (found (key_eq z) places) (length takes)) (holds_at (is_of k) (takes ++ x ∷ [])) in
+      let own : is_of k x ≡ true = (let F : Key → Type 0 = λ z. key_eq k z ≡ true in subst F (sym is) (key_eq_refl k)) in
+      let e : found (key_eq k) new ≡ joined (found (key_eq x.key) places) (length takes) = more k ∙ rw t refl in
       let H : Place → Type 0 = λ p. Tells p (holds_at (is_of k) (takes ++ x ∷ [])) in
-      subst H (sym e) (subst G (sym is) (tells_joined (found (same_key k) places) (length takes) (holds_at (is_of k) takes) (holds_at (is_of k) (takes ++ x ∷ [])) (λ i. holds_push (is_of k) takes x i ∙ rw own (ap (λ b. holds_at (is_of k) takes i || b) (sym (and_true (eqb i (length takes)))))) (placed k)))
+      subst H (sym e) (subst G (sym is) (tells_joined (found (key_eq k) places) (length takes) (holds_at (is_of k) takes) (holds_at (is_of k) (takes ++ x ∷ [])) (λ i. holds_push (is_of k) takes x i ∙ rw own (ap (λ b. holds_at (is_of k) takes i || b) (sym (and_true (eqb i (length takes)))))) (placed k)))
   | inr f ↦
-      let e : found (same_key k) new ≡ found (same_key k) places = more k ∙ rw f refl in
-      let other : is_of k x ≡ false = sym (keys_again k x.key) ∙ key_flip x.key k f in
+      let e : found (key_eq k) new ≡ found (key_eq k) places = more k ∙ rw f refl in
+      let other : is_of k x ≡ false = key_eq_flip x.key k f in
       let H : Place → Type 0 = λ p. Tells p (holds_at (is_of k) (takes ++ x ∷ [])) in
-      subst H (sym e) (tells_same (found (same_key k) places) (holds_at (is_of k) takes) (holds_at (is_of k) (takes ++ x ∷ [])) (λ i. holds_push (is_of k) takes x i ∙ rw other (or_and_false (holds_at (is_of k) takes i) (eqb i (length takes)))) (placed k))
+      subst H (sym e) (tells_same (found (key_eq k) places) (holds_at (is_of k) takes) (holds_at (is_of k) (takes ++ x ∷ [])) (λ i. holds_push (is_of k) takes x i ∙ rw other (or_and_false (holds_at (is_of k) takes i) (eqb i (length takes)))) (placed k))
 ]
 
 -- the places after less is left of an approval, or after they were kept anew
-pub placed_again : (takes : List Take) (places new : List (Key × Place)) → ((k : Key) → found (same_key k) new ≡ found (same_key k) places) → ((k : Key) → Tells (found (same_key k) places) (holds_at (is_of k) takes)) → (k : Key) → Tells (found (same_key k) new) (holds_at (is_of k) takes)
+pub placed_again : (takes : List Take) (places new : List (Key × Place)) → ((k : Key) → found (key_eq k) new ≡ found (key_eq k) places) → ((k : Key) → Tells (found (key_eq k) places) (holds_at (is_of k) takes)) → (k : Key) → Tells (found (key_eq k) new) (holds_at (is_of k) takes)
 placed_again takes places new same placed k = let H : Place → Type 0 = λ p. Tells p (holds_at (is_of k) takes) in subst H (sym (same k)) (placed k)
 
 pub holds_lessened : (k other : Key) (actual : ℕ) (takes : List Take) (i : ℕ) → holds_at (is_of k) (give_back_to other actual takes) i ≡ holds_at (is_of k) takes i
@@ -83,8 +83,8 @@ holds_lessened k other actual [] i = refl
 holds_lessened k other actual (x ∷ xs) zero = refl
 holds_lessened k other actual (x ∷ xs) (suc i) = holds_lessened k other actual xs i
 
-pub placed_lessened : (takes : List Take) (other : Key) (actual : ℕ) (places : List (Key × Place)) → ((k : Key) → Tells (found (same_key k) places) (holds_at (is_of k) takes)) → (k : Key) → Tells (found (same_key k) places) (holds_at (is_of k) (give_back_to other actual takes))
-placed_lessened takes other actual places placed k = tells_same (found (same_key k) places) (holds_at (is_of k) takes) (holds_at (is_of k) (give_back_to other actual takes)) (holds_lessened k other actual takes) (placed k)
+pub placed_lessened : (takes : List Take) (other : Key) (actual : ℕ) (places : List (Key × Place)) → ((k : Key) → Tells (found (key_eq k) places) (holds_at (is_of k) takes)) → (k : Key) → Tells (found (key_eq k) places) (holds_at (is_of k) (give_back_to other actual takes))
+placed_lessened takes other actual places placed k = tells_same (found (key_eq k) places) (holds_at (is_of k) takes) (holds_at (is_of k) (give_back_to other actual takes)) (holds_lessened k other actual takes) (placed k)
 
 pub lessened_whole : (xs ys : List Take) (k : Key) (actual n : ℕ) → xs ≡ give_back_to k actual ys → n ≡ length ys → take n (xs ++ drop (length xs) ys) ≡ give_back_to k actual ys
 lessened_whole xs ys k actual n e l =

@@ -6,12 +6,12 @@ use Rattle.std.proofs.lemmas.Bool.{cases_Bool, cases_eq}
 use Rattle.card_digits.specs.declared.key.Key.{Key}
 use Rattle.node_machine.specs.Lists.{Take}
 use Rattle.book_index.specs.Found.{holds_at, found, Tells}
-use Rattle.book_index.specs.Keys.{same_key}
 use Rattle.book_index.specs.declared.index.Place.{Place}
 use Rattle.book_index.specs.declared.index.Place.TheVariants as places
 use Rattle.book_index.proofs.Holding.{holds_within, holds_item}
 use Rattle.book_index.proofs.Telling.{tells_same}
-use Rattle.book_index.proofs.Texts.{key_refl, key_same, key_flip, keys_again}
+use Rattle.message_keys.proofs.Equality.{key_eq_refl, key_eq_is, key_eq_flip}
+use Rattle.message_keys.specs.Keys.{key_eq}
 use Rattle.standin_book.specs.Approvals.{is_of, times, skips, moved, counts_above, is_whole}
 
 pub holds_past : {X : Type 0} (p : X → Bool) (xs : List X) (i : ℕ) → length xs ≤ i → holds_at p xs i ≡ false
@@ -142,56 +142,56 @@ tells_moved (places.At i) gap has here t = (skips_before gap has ∙ here, only)
 tells_moved places.Several gap has here t = tt
 
 is_own : (k : Key) (x : Take) → x.key ≡ k → is_of k x ≡ true
-is_own k x e = let F : Key → Type 0 = λ z. same_key k z ≡ true in sym (keys_again k x.key) ∙ subst F (sym e) (key_refl k)
+is_own k x e = let F : Key → Type 0 = λ z. key_eq k z ≡ true in subst F (sym e) (key_eq_refl k)
 
-is_other : (k key : Key) (x : Take) → x.key ≡ key → same_key key k ≡ false → is_of k x ≡ false
-is_other k key x e f = let F : Key → Type 0 = λ z. same_key k z ≡ false in sym (keys_again k x.key) ∙ subst F (sym e) (key_flip key k f)
+is_other : (k key : Key) (x : Take) → x.key ≡ key → key_eq key k ≡ false → is_of k x ≡ false
+is_other k key x e f = let F : Key → Type 0 = λ z. key_eq k z ≡ false in subst F (sym e) (key_eq_flip key k f)
 
 pub own_key : (k : Key) (x : Take) → is_of k x ≡ true → x.key ≡ k
-own_key k x h = sym (key_same k x.key (keys_again k x.key ∙ h))
+own_key k x h = sym (key_eq_is k x.key h)
 
 -- the index after an approval more stands where it says
-pub gap_moves : (takes : List Take) (gap : ℕ) (d : Take) (key : Key) (old new : List (Key × Place)) → gap < length takes → key ≡ (get_or takes gap d).key → ((k : Key) → found (same_key k) new ≡ cond (same_key key k) (moved gap (found (same_key key) old)) (found (same_key k) old)) → ((k : Key) → Tells (found (same_key k) old) (skips gap (holds_at (is_of k) takes))) → (k : Key) → Tells (found (same_key k) new) (skips (gap + 1) (holds_at (is_of k) takes))
+pub gap_moves : (takes : List Take) (gap : ℕ) (d : Take) (key : Key) (old new : List (Key × Place)) → gap < length takes → key ≡ (get_or takes gap d).key → ((k : Key) → found (key_eq k) new ≡ cond (key_eq key k) (moved gap (found (key_eq key) old)) (found (key_eq k) old)) → ((k : Key) → Tells (found (key_eq k) old) (skips gap (holds_at (is_of k) takes))) → (k : Key) → Tells (found (key_eq k) new) (skips (gap + 1) (holds_at (is_of k) takes))
 gap_moves takes gap d key old new less is after t k =
-    let H : ℕ → Type 0 = λ n. Tells (found (same_key k) new) (skips n (holds_at (is_of k) takes)) in
-    subst H next (elim (cases_Bool (same_key key k)) [
+    let H : ℕ → Type 0 = λ n. Tells (found (key_eq k) new) (skips n (holds_at (is_of k) takes)) in
+    subst H next (elim (cases_Bool (key_eq key k)) [
       | inl same ↦
-          let e : key ≡ k = key_same key k same in
+          let e : key ≡ k = key_eq_is key k same in
           let here : holds_at (is_of k) takes gap ≡ true = holds_item (is_of k) takes gap d less ∙ is_own k (get_or takes gap d) (sym is ∙ e) in
-          let G : Key → Type 0 = λ z. found (same_key k) new ≡ moved gap (found (same_key z) old) in
-          let f : found (same_key k) new ≡ moved gap (found (same_key k) old) = subst G e (after k ∙ rw same refl) in
+          let G : Key → Type 0 = λ z. found (key_eq k) new ≡ moved gap (found (key_eq z) old) in
+          let f : found (key_eq k) new ≡ moved gap (found (key_eq k) old) = subst G e (after k ∙ rw same refl) in
           let P : Place → Type 0 = λ q. Tells q (skips (suc gap) (holds_at (is_of k) takes)) in
-          subst P (sym f) (tells_moved (found (same_key k) old) gap (holds_at (is_of k) takes) here (t k))
+          subst P (sym f) (tells_moved (found (key_eq k) old) gap (holds_at (is_of k) takes) here (t k))
       | inr differ ↦
           let other : holds_at (is_of k) takes gap ≡ false = holds_item (is_of k) takes gap d less ∙ is_other k key (get_or takes gap d) (sym is) differ in
-          let f : found (same_key k) new ≡ found (same_key k) old = after k ∙ rw differ refl in
+          let f : found (key_eq k) new ≡ found (key_eq k) old = after k ∙ rw differ refl in
           let P : Place → Type 0 = λ q. Tells q (skips (suc gap) (holds_at (is_of k) takes)) in
-          subst P (sym f) (tells_same (found (same_key k) old) (skips gap (holds_at (is_of k) takes)) (skips (suc gap) (holds_at (is_of k) takes)) (skips_same gap (holds_at (is_of k) takes) other) (t k))
+          subst P (sym f) (tells_same (found (key_eq k) old) (skips gap (holds_at (is_of k) takes)) (skips (suc gap) (holds_at (is_of k) takes)) (skips_same gap (holds_at (is_of k) takes) other) (t k))
     ])
   where
     next : suc gap ≡ gap + 1
     next = omega arith
 
-pub gap_closed : (takes : List Take) (n : ℕ) (entries : List (Key × Place)) → n ≡ length takes → ((k : Key) → Tells (found (same_key k) entries) (skips n (holds_at (is_of k) takes))) → (k : Key) → Tells (found (same_key k) entries) (holds_at (is_of k) takes)
+pub gap_closed : (takes : List Take) (n : ℕ) (entries : List (Key × Place)) → n ≡ length takes → ((k : Key) → Tells (found (key_eq k) entries) (skips n (holds_at (is_of k) takes))) → (k : Key) → Tells (found (key_eq k) entries) (holds_at (is_of k) takes)
 gap_closed takes n entries e t k =
-    let G : ℕ → Type 0 = λ m. Tells (found (same_key k) entries) (skips m (holds_at (is_of k) takes)) in
-    tells_same (found (same_key k) entries) (skips (length takes) (holds_at (is_of k) takes)) (holds_at (is_of k) takes) (skips_end (is_of k) takes) (subst G e (t k))
+    let G : ℕ → Type 0 = λ m. Tells (found (key_eq k) entries) (skips m (holds_at (is_of k) takes)) in
+    tells_same (found (key_eq k) entries) (skips (length takes) (holds_at (is_of k) takes)) (holds_at (is_of k) takes) (skips_end (is_of k) takes) (subst G e (t k))
 
 -- the index after the only approval of a key was taken out
-pub gap_opens : (takes : List Take) (key : Key) (i : ℕ) (d : Take) (old new : List (Key × Place)) → holds_at (is_of key) takes i ≡ true → times key takes ≡ 1 → ((k : Key) → found (same_key k) new ≡ cond (same_key key k) places.Nowhere (found (same_key k) old)) → ((k : Key) → Tells (found (same_key k) old) (holds_at (is_of k) takes)) → (k : Key) → Tells (found (same_key k) new) (skips i (holds_at (is_of k) (remove takes i)))
+pub gap_opens : (takes : List Take) (key : Key) (i : ℕ) (d : Take) (old new : List (Key × Place)) → holds_at (is_of key) takes i ≡ true → times key takes ≡ 1 → ((k : Key) → found (key_eq k) new ≡ cond (key_eq key k) places.Nowhere (found (key_eq k) old)) → ((k : Key) → Tells (found (key_eq k) old) (holds_at (is_of k) takes)) → (k : Key) → Tells (found (key_eq k) new) (skips i (holds_at (is_of k) (remove takes i)))
 gap_opens takes key i d old new here once after t k =
     let less = holds_within (is_of key) takes i here in
     let own : (get_or takes i d).key ≡ key = own_key key (get_or takes i d) (sym (holds_item (is_of key) takes i d less) ∙ here) in
     let P : Place → Type 0 = λ q. Tells q (skips i (holds_at (is_of k) (remove takes i))) in
-    elim (cases_Bool (same_key key k)) [
+    elim (cases_Bool (key_eq key k)) [
       | inl same ↦
-          let f : found (same_key k) new ≡ places.Nowhere = after k ∙ rw same refl in
+          let f : found (key_eq k) new ≡ places.Nowhere = after k ∙ rw same refl in
           let G : Key → Type 0 = λ z. (j : ℕ) → holds_at (is_of z) (remove takes i) j ≡ false in
-          subst P (sym f) (skips_none i (holds_at (is_of k) (remove takes i)) (subst G (key_same key k same) (once_removed (is_of key) takes i here once)))
+          subst P (sym f) (skips_none i (holds_at (is_of k) (remove takes i)) (subst G (key_eq_is key k same) (once_removed (is_of key) takes i here once)))
       | inr differ ↦
           let other : holds_at (is_of k) takes i ≡ false = holds_item (is_of k) takes i d less ∙ is_other k key (get_or takes i d) own differ in
-          let f : found (same_key k) new ≡ found (same_key k) old = after k ∙ rw differ refl in
-          subst P (sym f) (tells_same (found (same_key k) old) (holds_at (is_of k) takes) (skips i (holds_at (is_of k) (remove takes i))) (skips_removed (is_of k) takes i less other) (t k))
+          let f : found (key_eq k) new ≡ found (key_eq k) old = after k ∙ rw differ refl in
+          subst P (sym f) (tells_same (found (key_eq k) old) (holds_at (is_of k) takes) (skips i (holds_at (is_of k) (remove takes i))) (skips_removed (is_of k) takes i less other) (t k))
     ]
 
 -- one of a key's approvals passes a test
@@ -218,16 +218,16 @@ any_one p q (x ∷ xs) (suc i) d other less only =
 pub above_other : (k : Key) (actual : ℕ) (x : Take) → is_of k x ≡ false → counts_above k actual x ≡ false
 above_other k actual x f = rw f refl
 
-key_flipped : (a b : Key) → same_key a b ≡ same_key b a
-key_flipped a b = elim (cases_Bool (same_key a b)) [
-  | inl same ↦ (let G : Key → Type 0 = λ z. same_key z z ≡ true in let e = key_same a b same in let F : Key → Type 0 = λ z. same_key z a ≡ true in same ∙ sym (subst F e (key_refl a)))
-  | inr differ ↦ differ ∙ sym (key_flip a b differ)
+key_flipped : (a b : Key) → key_eq a b ≡ key_eq b a
+key_flipped a b = elim (cases_Bool (key_eq a b)) [
+  | inl same ↦ (let G : Key → Type 0 = λ z. key_eq z z ≡ true in let e = key_eq_is a b same in let F : Key → Type 0 = λ z. key_eq z a ≡ true in same ∙ sym (subst F e (key_eq_refl a)))
+  | inr differ ↦ differ ∙ sym (key_eq_flip a b differ)
 ]
 
-pub key_at : (takes : List Take) (place : ℕ) (d : Take) (k key : Key) → place < length takes → key ≡ (get_or takes place d).key → same_key key k ≡ holds_at (is_of k) takes place
+pub key_at : (takes : List Take) (place : ℕ) (d : Take) (k key : Key) → place < length takes → key ≡ (get_or takes place d).key → key_eq key k ≡ holds_at (is_of k) takes place
 key_at takes place d k key less e =
-    let G : Key → Type 0 = λ z. same_key key k ≡ same_key k z in
-    subst G e (key_flipped key k) ∙ (keys_again k (get_or takes place d).key ∙ sym (holds_item (is_of k) takes place d less))
+    let G : Key → Type 0 = λ z. key_eq key k ≡ key_eq k z in
+    subst G e (key_flipped key k) ∙ sym (holds_item (is_of k) takes place d less)
 
 pub whole_other : (k : Key) (x : Take) → is_of k x ≡ false → is_whole k x ≡ false
 whole_other k x f = rw f refl

@@ -4,7 +4,6 @@ use Rattle.card_digits.specs.declared.key.Key.{Key}
 use Rattle.message_keys.specs.Keys.{key_eq}
 use Rattle.network_law.specs.Traces.{added}
 use Rattle.node_machine.specs.Lists.{Take, in_use}
-use Rattle.book_index.specs.Keys.{same_key}
 use Rattle.book_index.specs.Found.{found, holds_at, Tells}
 use Rattle.book_index.specs.declared.index.Place.{Place}
 use Rattle.book_index.specs.declared.index.Place.TheVariants as places
@@ -62,7 +61,7 @@ moved i (places.At j) = places.At i
 moved i places.Several = places.Several
 
 pub record IsBook (takes : List Take) (places : List (Key × Place)) (sums : List (CardDay × ℕ)) (room len capacity places_room sums_room : ℕ) : Type 0 where
-  pub placed : (k : Key) → Tells (found (same_key k) places) (holds_at (is_of k) takes)
+  pub placed : (k : Key) → Tells (found (key_eq k) places) (holds_at (is_of k) takes)
   pub summed : AreSums used_on takes sums
   pub in_takes : len + room ≤ capacity
   pub in_places : room ≤ places_room

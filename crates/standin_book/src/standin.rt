@@ -6,7 +6,6 @@ ghost use Rattle.std.specs.Vec.{vec_len, vec_capacity};
 ghost use Rattle.node_machine.specs.Lists.{Take, give_back_to, used};
 ghost use Rattle.book_index.specs.Found.{found, holds_at, Tells};
 ghost use Rattle.standin_book.specs.Approvals.{lessened, used_on, is_of, times, without, counts_above, is_whole, skips, moved};
-ghost use Rattle.book_index.specs.Keys.{same_key};
 ghost use Rattle.standin_book.specs.Sums.{AreSums};
 ghost use Rattle.message_keys.specs.Keys.{key_eq};
 
@@ -168,7 +167,7 @@ fn moved_to(known: Place, place: usize) -> Place
 
 /// A key that has one place has this one.
 fn move_place(places: &mut PlaceIndex<Key>, key: &Key, place: usize)
-    ensures found { (k : Key) → found (same_key k) places.new.places.entries ≡ (if same_key key.now k then moved place (found (same_key key.now) places.old.places.entries) else found (same_key k) places.old.places.entries) }
+    ensures found { (k : Key) → found (key_eq k) places.new.places.entries ≡ (if key_eq key.now k then moved place (found (key_eq key.now) places.old.places.entries) else found (key_eq k) places.old.places.entries) }
     ensures room { spare places.new.places ≡ spare places.old.places }
 {
     if let Some(known) = places.places.get_mut(key) {
@@ -179,8 +178,8 @@ fn move_place(places: &mut PlaceIndex<Key>, key: &Key, place: usize)
 /// The approvals from the gap on stand one place earlier than the index has them.
 fn close_gap(takes: &[OwnApproval], places: &mut PlaceIndex<Key>, gap: usize)
     requires within { gap ≤ length takes.now }
-    requires places { (k : Key) → Tells (found (same_key k) places.old.places.entries) (skips gap (holds_at (is_of k) takes.now)) }
-    ensures places { (k : Key) → Tells (found (same_key k) places.new.places.entries) (holds_at (is_of k) takes.now) }
+    requires places { (k : Key) → Tells (found (key_eq k) places.old.places.entries) (skips gap (holds_at (is_of k) takes.now)) }
+    ensures places { (k : Key) → Tells (found (key_eq k) places.new.places.entries) (holds_at (is_of k) takes.now) }
     ensures room { spare places.new.places ≡ spare places.old.places }
 {
     for i in gap..takes.len() {

@@ -1,4 +1,4 @@
-use Rattle.std.proofs.Common.{◌≡◌, List, ℕ, [], replicate}
+use Rattle.std.proofs.Common.{◌≡◌, [], replicate}
 use Rattle.advice_store.proofs.classes.no_classes.Given as goal
 
 abbrev pub invariant-loop : goal.invariant-loop

@@ -1,4 +1,4 @@
-use Rattle.std.proofs.Common.{subst, refl, ◌∙◌, sym, arith, List, ℕ, drop, ap, ◌≡◌, get_or, ◌∷◌, ◌+◌}
+use Rattle.std.proofs.Common.{subst, refl, ◌∙◌, arith, List, ℕ, drop, ap, ◌≡◌, ◌+◌}
 use Rattle.advice_store.specs.Kept.{AreSorted}
 use Rattle.advice_store.proofs.Sorted.{drop_split}
 use Rattle.advice_store.proofs.classes.sort_all.Goals as goal

@@ -1,5 +1,5 @@
-use Rattle.std.proofs.Common.{sym, ◌∙◌, ◌≡◌, ◌<◌, Some, None, Result, Ok, Err, OnOk, subst, List, ℕ, IfSome}
-use Rattle.advice_store.specs.Kept.{AreSorted, class_at, slot_at}
+use Rattle.std.proofs.Common.{sym, Result, Ok, Err, OnOk, subst, List, ℕ}
+use Rattle.advice_store.specs.Kept.{AreSorted}
 use Rattle.advice_store.proofs.Sorted.{sorted_moved, sorted_dropped}
 use Rattle.advice_store.proofs.classes.sort_one.Goals as goal
 

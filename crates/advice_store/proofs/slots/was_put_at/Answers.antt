@@ -1,10 +1,10 @@
-use Rattle.std.proofs.Common.{◌∙◌, sym, subst, ℕ, None}
+use Rattle.std.proofs.Common.{◌∙◌, sym, subst, None}
 use Rattle.book_index.specs.Found.{Tells, holds_at}
 use Rattle.book_index.specs.declared.index.Place.{Place}
 use Rattle.book_index.proofs.Holding.{holds_within}
 use Rattle.advice_store.specs.Kept.{slot_has}
 use Rattle.advice_store.specs.declared.key.StoredKey.TheVariants as keys
-use Rattle.advice_store.proofs.Slotted.{free_none, free_one, mark_none, mark_one, has_none, has_one, put_none, put_one}
+use Rattle.advice_store.proofs.Slotted.{put_none, put_one}
 use Rattle.advice_store.proofs.slots.was_put_at.Goals as goal
 
 pub place_was_put-requires : goal.place_was_put-requires

@@ -2,12 +2,12 @@ use Rattle.std.proofs.Common.{◌≡◌}
 use Rattle.std.specs.HashMap.{spare}
 use Rattle.card_digits.specs.declared.key.Key.{Key}
 use Rattle.book_index.specs.Found.{found, holds_at, Tells}
-use Rattle.book_index.specs.Keys.{same_key}
+use Rattle.message_keys.specs.Keys.{key_eq}
 use Rattle.standin_book.specs.Approvals.{is_of, skips}
 use Rattle.standin_book.proofs.standin.close_gap.Given as goal
 
 abbrev pub invariant-loop-i : goal.invariant-loop-i
 invariant-loop-i l = record {
-  places : (k : Key) → Tells (found (same_key k) l.places.places.entries) (skips l.i (holds_at (is_of k) l.takes));
+  places : (k : Key) → Tells (found (key_eq k) l.places.places.entries) (skips l.i (holds_at (is_of k) l.takes));
   room : spare l.places.places ≡ spare l.fn.places.places;
 }

@@ -1,4 +1,4 @@
-use Rattle.std.proofs.Common.{sym, ap, ◌∙◌, refl, ◌≡◌, true, Result, Ok, Err, IsOk, OnOk}
+use Rattle.std.proofs.Common.{sym, ◌∙◌, refl, true, Result, Ok, Err, IsOk, OnOk}
 use Rattle.std.specs.HashSet.{Updates}
 use Rattle.book_index.proofs.Identities.{any_is, derived_id_is, derived_id_eq}
 use Rattle.advice_store.proofs.known.KnownIds.insert.Goals as goal

@@ -1,5 +1,5 @@
-use Rattle.std.proofs.Common.{sym, ap, ◌∙◌, refl}
-use Rattle.book_index.proofs.Identities.{any_is, derived_id_is}
+use Rattle.std.proofs.Common.{sym, ◌∙◌}
+use Rattle.book_index.proofs.Identities.{any_is}
 use Rattle.advice_store.proofs.known.KnownIds.reserve.Goals as goal
 
 pub returns-clause-keys : goal.returns-clause-keys

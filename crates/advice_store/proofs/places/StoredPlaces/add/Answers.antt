@@ -1,4 +1,4 @@
-use Rattle.std.proofs.Common.{sym, ap, ◌∙◌, refl}
+use Rattle.std.proofs.Common.{sym, ◌∙◌, refl}
 use Rattle.advice_store.proofs.Derived.{found_is, derived_is}
 use Rattle.advice_store.proofs.places.StoredPlaces.add.Goals as goal
 

@@ -1,5 +1,5 @@
-use Rattle.std.proofs.Common.{sym, ap, ◌∙◌, refl}
-use Rattle.advice_store.proofs.Derived.{found_is, derived_is}
+use Rattle.std.proofs.Common.{◌∙◌}
+use Rattle.advice_store.proofs.Derived.{found_is}
 use Rattle.advice_store.proofs.places.StoredPlaces.find.Goals as goal
 
 pub returns : goal.returns

@@ -1,5 +1,5 @@
-use Rattle.std.proofs.Common.{sym, ap, ◌∙◌, refl}
-use Rattle.advice_store.proofs.Derived.{found_is, derived_is}
+use Rattle.std.proofs.Common.{sym, ◌∙◌}
+use Rattle.advice_store.proofs.Derived.{found_is}
 use Rattle.advice_store.proofs.places.StoredPlaces.reserve.Goals as goal
 
 pub returns-clause-found : goal.returns-clause-found

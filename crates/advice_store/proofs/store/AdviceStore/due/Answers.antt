@@ -1,4 +1,4 @@
-use Rattle.std.proofs.Common.{arith, ap, sym, ◌∙◌, ◌≡◌, ◌<◌, ◌≤◌, ◌%◌, ◌++◌, drop, length, [], refl, mod-lt, get_or, subst, ℕ}
+use Rattle.std.proofs.Common.{arith, ap, sym, ◌∙◌, ◌≡◌, ◌<◌, ◌%◌, ◌++◌, drop, length, [], refl, mod-lt, get_or, subst, ℕ}
 use Rattle.advice_store.specs.Kept.{AreSorted, due_at}
 use Rattle.advice_store.proofs.Mapped.{same_default}
 use Rattle.advice_store.proofs.Sorted.{due_is}

@@ -1,5 +1,5 @@
 use Rattle.advice_store.specs.declared.key.StoredKey.TheVariants as keys
-use Rattle.std.proofs.Common.{◌≡◌, ap, ◌∙◌, sym, refl, length, map, arith, take, drop, ◌++◌, List, Option}
+use Rattle.std.proofs.Common.{◌≡◌, ap, ◌∙◌, sym, refl, length, map, arith, drop}
 use Rattle.std.proofs.lemmas.List.{length-map}
 use Rattle.advice_store.specs.Kept.{marked_slot, live}
 use Rattle.advice_store.proofs.Sorted.{sorted_marked}

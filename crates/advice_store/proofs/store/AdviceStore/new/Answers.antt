@@ -1,4 +1,4 @@
-use Rattle.std.proofs.Common.{arith, refl, ◌≡◌, ◌≤◌, ap, ◌∙◌, subst, List, ℕ, []}
+use Rattle.std.proofs.Common.{arith, refl, ◌≤◌, List, ℕ, []}
 use Rattle.advice_store.specs.Kept.{AreSorted}
 use Rattle.advice_store.proofs.Sorted.{no_places}
 use Rattle.advice_store.proofs.store.AdviceStore.new.Goals as goal

@@ -1,4 +1,4 @@
-use Rattle.std.proofs.Common.{rules, arith, ◌∙◌, ◌≡◌, refl, ap, true, Result, Ok, Err, IsOk, OnOk}
+use Rattle.std.proofs.Common.{arith, ◌≡◌, ap}
 use Rattle.advice_store.specs.Advices.{Store}
 use Rattle.advice_store.proofs.Stores.{known_more}
 use Rattle.advice_store.proofs.store.AdviceStore.note.Goals as goal

@@ -1,6 +1,6 @@
-use Rattle.std.proofs.Common.{rules, arith, ◌∙◌, ◌≡◌, ◌≤◌, ◌+◌, refl, ap, sym, length, drop, Fits, w64, Some, [], ◌∷◌, ◌++◌}
+use Rattle.std.proofs.Common.{arith, ◌∙◌, ◌≡◌, ◌≤◌, refl, ap, length, drop, Some, [], ◌∷◌, ◌++◌}
 use Rattle.advice_store.specs.Advices.{Store}
-use Rattle.advice_store.specs.Kept.{live, key_of}
+use Rattle.advice_store.specs.Kept.{live}
 use Rattle.advice_store.proofs.Slotted.{live_few}
 use Rattle.advice_store.proofs.Sorted.{sorted_more, drop_push}
 use Rattle.advice_store.proofs.Stores.{indexed_more, live_push}

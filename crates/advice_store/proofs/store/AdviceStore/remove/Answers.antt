@@ -1,8 +1,8 @@
-use Rattle.std.proofs.Common.{◌≡◌, ◌+◌, ◌≤◌, ap, ◌∙◌, sym, refl, length, map, arith, take, drop, ◌++◌, List, Option, subst, true, false, ℕ}
+use Rattle.std.proofs.Common.{◌≡◌, ap, ◌∙◌, sym, refl, length, map, arith, drop, subst}
 use Rattle.std.proofs.lemmas.List.{length-map}
 use Rattle.book_index.specs.Found.{Tells, holds_at}
 use Rattle.book_index.specs.declared.index.Place.{Place}
-use Rattle.advice_store.specs.Kept.{freed, live, slot_has, IsStore}
+use Rattle.advice_store.specs.Kept.{freed, live, slot_has}
 use Rattle.advice_store.proofs.Sorted.{sorted_freed}
 use Rattle.advice_store.proofs.Stores.{kept_whole, indexed_freed, live_freed, counted_one, counted_none}
 use Rattle.advice_store.proofs.store.AdviceStore.remove.Goals as goal

@@ -1,4 +1,4 @@
-use Rattle.std.proofs.Common.{arith, ap, sym, ◌∙◌, ◌≡◌, ◌≤◌, ◌+◌, drop, length, [], List, ℕ, subst, drop_of_length-le}
+use Rattle.std.proofs.Common.{arith, ap, sym, ◌∙◌, ◌≡◌, drop, length, [], List, ℕ, subst, drop_of_length-le}
 use Rattle.advice_store.specs.Kept.{AreSorted, IsStore}
 use Rattle.advice_store.proofs.Stores.{kept_whole, indexed_again, known_again}
 use Rattle.advice_store.proofs.store.AdviceStore.reserve.Goals as goal

@@ -1,4 +1,4 @@
-use Rattle.std.proofs.Common.{◌≡◌, ap, sym, refl, ◌∙◌, subst, List, filter, not}
+use Rattle.std.proofs.Common.{◌≡◌, ap, sym, subst, List, filter, not}
 use Rattle.network_law.specs.declared.grant.GrantPacket.{GrantPacket}
 use Rattle.node_machine.specs.Books.{Stored}
 use Rattle.advice_store.specs.Advices.{Store, packet_acked}

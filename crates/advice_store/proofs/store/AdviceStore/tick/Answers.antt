@@ -1,4 +1,4 @@
-use Rattle.std.proofs.Common.{arith, ◌∙◌, ◌≡◌, ◌<◌, ◌%◌, ap, drop, length, set, filter, get_or, [], List, ℕ, mod-lt, refl}
+use Rattle.std.proofs.Common.{arith, ◌∙◌, ◌≡◌, ◌<◌, ◌%◌, ap, drop, length, set, filter, get_or, [], ℕ, mod-lt, refl}
 use Rattle.std.proofs.lemmas.List.{length-set}
 use Rattle.advice_store.specs.Kept.{is_live, slot_at}
 use Rattle.advice_store.proofs.Sorted.{sorted_pruned}

@@ -6,7 +6,8 @@ use Rattle.std.specs.HashMap.{Updates}
 use Rattle.std.specs.Map.{lookup}
 use Rattle.card_digits.specs.declared.key.Key.{Key}
 use Rattle.node_machine.specs.Lists.{row_key}
-use Rattle.request_book.specs.Kept.{place_of, found_key, noted, head_of, head_after}
+use Rattle.message_keys.specs.Keys.{key_eq}
+use Rattle.request_book.specs.Kept.{place_of, noted, head_of, head_after}
 use Rattle.request_book.proofs.Places.{kept_opened, opened_new, opened_there, not_there, on_ok}
 use Rattle.request_book.proofs.pending.PendingBook.open.Goals as goal
 
@@ -14,10 +15,10 @@ len_is : (v : Vec Row Global) → vec_len v ≡ length v.items
 len_is v = let e = v.ok.0 in omega (arith, e)
 
 there : (c : goal.Joined-row) → is_some (place_of (row_key c.args.row) c.self.inside.rows.items) ≡ true
-there c = ap is_some (sym (c.self.invariant.0.keyed (row_key c.args.row))) ∙ (ap (λ (k : Key). is_some (lookup (found_key k) c.self.inside.places.entries)) (sym c.key.ensures.key) ∙ (sym c.contains_key.ensures ∙ c.if-contains_key.true))
+there c = ap is_some (sym (c.self.invariant.0.keyed (row_key c.args.row))) ∙ (ap (λ (k : Key). is_some (lookup (key_eq k) c.self.inside.places.entries)) (sym c.key.ensures.key) ∙ (sym c.contains_key.ensures ∙ c.if-contains_key.true))
 
 absent : (c : goal.After-push_reserved) → place_of (row_key c.args.row) c.self.inside.rows.items ≡ None
-absent c = not_there (row_key c.args.row) c.self.inside.rows.items (ap is_some (sym (c.self.invariant.0.keyed (row_key c.args.row))) ∙ (ap (λ (k : Key). is_some (lookup (found_key k) c.self.inside.places.entries)) (sym c.key.ensures.key) ∙ (sym c.contains_key.ensures ∙ c.if-contains_key.false)))
+absent c = not_there (row_key c.args.row) c.self.inside.rows.items (ap is_some (sym (c.self.invariant.0.keyed (row_key c.args.row))) ∙ (ap (λ (k : Key). is_some (lookup (key_eq k) c.self.inside.places.entries)) (sym c.key.ensures.key) ∙ (sym c.contains_key.ensures ∙ c.if-contains_key.false)))
 
 pub returns-then-contains_key : goal.returns-then-contains_key
 returns-then-contains_key c =
@@ -27,9 +28,9 @@ returns-then-contains_key c =
 pub invariant_of-self-2 : goal.invariant_of-self-2
 invariant_of-self-2 c =
     let i = c.self.inside in
-    let u : Updates found_key i.places c.insert.new.self c.key-2.result (Some c.len-place.result) = on_ok c.insert.result (c.insert.ensures.succeeds (search rules)) c.insert.ensures.updates in
+    let u : Updates key_eq i.places c.insert.new.self c.key-2.result (Some c.len-place.result) = on_ok c.insert.result (c.insert.ensures.succeeds (search rules)) c.insert.ensures.updates in
     let at : c.len-place.result ≡ length i.rows.items = c.len-place.ensures ∙ len_is i.rows in
-    let v : Updates found_key i.places c.insert.new.self (row_key c.args.row) (Some (length i.rows.items)) = rw (c.key-2.ensures.key, at) at u in
+    let v : Updates key_eq i.places c.insert.new.self (row_key c.args.row) (Some (length i.rows.items)) = rw (c.key-2.ensures.key, at) at u in
     let list : c.note.new.self.list.items ≡ noted (length i.rows.items) c.args.row.link i.forwards.heads.entries i.forwards.list.items = c.note.ensures.list ∙ (ap (λ n. noted n c.link.result i.forwards.heads.entries i.forwards.list.items) at ∙ ap (λ (m : Option ℕ). noted (length i.rows.items) m i.forwards.heads.entries i.forwards.list.items) c.link.ensures) in
     let spans = rw (c.count.ensures, at) at c.widen.ensures.spans in
     let kept = kept_opened i.rows.items c.args.row i.places.entries c.insert.new.self.entries i.pending i.spans.entries c.widen.new.spans.entries i.forwards.list.items i.forwards.heads.entries c.note.new.self.heads.entries c.self.invariant.0 (absent c) v.0 spans

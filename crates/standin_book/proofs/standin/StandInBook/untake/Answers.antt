@@ -3,7 +3,7 @@ use Rattle.network_law.specs.Traces.{added}
 use Rattle.card_digits.specs.declared.key.Key.{Key}
 use Rattle.node_machine.specs.Lists.{Take}
 use Rattle.book_index.specs.Found.{found, holds_at, Tells}
-use Rattle.book_index.specs.Keys.{same_key}
+use Rattle.message_keys.specs.Keys.{key_eq}
 use Rattle.book_index.proofs.Holding.{holds_within}
 use Rattle.standin_book.specs.Approvals.{Approvals, day_of, is_of, skips, times, used_on, without}
 use Rattle.standin_book.specs.Sums.{AreSums}
@@ -44,7 +44,7 @@ close_gap-requires-clause-places c =
     let once : times c.args.key i.takes.items ≡ 1 = ap (λ (v : Approvals). times c.args.key v.takes) c.self.view_is ∙ c.requires in
     let H : List Take → Type 0 = λ xs. holds_at (is_of c.args.key) xs at ≡ true in
     let here = subst H c.as_slice.ensures.value c.newest_place-place.ensures in
-    let G : List Take → Type 0 = λ xs. (k : Key) → Tells (found (same_key k) c.remove.new.self.places.entries) (skips at (holds_at (is_of k) xs)) in
+    let G : List Take → Type 0 = λ xs. (k : Key) → Tells (found (key_eq k) c.remove.new.self.places.entries) (skips at (holds_at (is_of k) xs)) in
     subst G (sym (c.as_slice-2.ensures.value ∙ c.remove-approval.ensures.items)) (gap_opens i.takes.items c.args.key at c.remove-approval.result i.places.places.entries c.remove.new.self.places.entries here once c.remove.ensures.found c.self.invariant.placed)
 
 pub invariant_of-self : goal.invariant_of-self
@@ -58,7 +58,7 @@ invariant_of-self c =
     let here = subst H c.as_slice.ensures.value c.newest_place-place.ensures in
     let less = holds_within (is_of c.args.key) i.takes.items at here in
     let n : c.value.result ≡ x.left = c.value.ensures.value ∙ c.left.ensures in
-    let P : List Take → Type 0 = λ xs. (k : Key) → Tells (found (same_key k) c.close_gap.new.places.places.entries) (holds_at (is_of k) xs) in
+    let P : List Take → Type 0 = λ xs. (k : Key) → Tells (found (key_eq k) c.close_gap.new.places.places.entries) (holds_at (is_of k) xs) in
     let S : List Take → Type 0 = λ xs. AreSums used_on xs c.lessen.new.self.amounts.entries in
     let len = r.len in
     let cap = r.capacity in
