@@ -1,9 +1,9 @@
 //! Readers and writers that fail at one of their calls.
 ghost use Rattle.std.specs.Prelude.{None};
 
-use crate::bundle::{BundleFault, run_bundle, run_text};
-use crate::tests::base;
-use crate::tests::networks::DIAMOND;
+use crate::base;
+use crate::networks::DIAMOND;
+use bundle_jobs::{BundleFault, run_bundle, run_text};
 use card_digits::{Counted, ReadFault, Sink, Source, WriteFault};
 use command_line::Job;
 use std::alloc::{AllocError, Global};

@@ -2,9 +2,9 @@
 use Rattle.std.proofs.Common.{◌≡◌, ℕ, ◌≤◌, List, length, Option, Some, None, subst, inl, inr}
 use Rattle.std.specs.Prelude.{IfSome}
 use Rattle.command_line.specs.declared.job.Job.{Job}
-use Rattle.card_switch.specs.declared.input.InputFault.TheVariants as cause
+use Rattle.bundle_jobs.specs.declared.input.InputFault.TheVariants as cause
 use Rattle.bundle_text.specs.Answers.{Said}
-use Rattle.card_switch.specs.Bundle.{IsAnswer, IsOutput, IsOfInput, IsCause, AnswersOrMemory}
+use Rattle.bundle_jobs.specs.Bundle.{IsAnswer, IsOutput, IsOfInput, IsCause, AnswersOrMemory}
 
 -- known bytes that were read are the input
 of_input : (job : Job) (remaining : Option (List ℕ)) (input : List ℕ) (said : Said) → IfSome remaining (λ x. input ≡ x) → length input ≤ 16_777_216 → IsAnswer job input said → IfSome remaining (λ x. (length x ≤ 16_777_216) × IsAnswer job x said)

@@ -1,5 +1,5 @@
 //! Faults of tables: the first network with one piece of its tables changed.
-use crate::tests::says_of_changed;
+use crate::answers::says_of_changed;
 use std::alloc::Global;
 use std::test::Fail;
 

@@ -1,6 +1,6 @@
 //! Plans, and what is printed for them.
-use crate::bundle::run_bundle;
-use crate::tests::networks::{IN_A_LINE, Sample, TWO_ACQUIRERS, TWO_NODES};
+use crate::networks::{IN_A_LINE, Sample, TWO_ACQUIRERS, TWO_NODES};
+use bundle_jobs::run_bundle;
 use card_digits::Counted;
 use command_line::Job;
 use std::alloc::Global;

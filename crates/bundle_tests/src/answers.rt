@@ -1,20 +1,10 @@
 //! Whole inputs and what is printed for them.
-use crate::bundle::run_text;
+use crate::base;
+use bundle_jobs::run_text;
 use card_digits::Counted;
 use command_line::Job;
 use std::alloc::{AllocError, Global};
 use std::test::Fail;
-
-mod base;
-mod changed;
-mod failing;
-mod faults;
-mod limits;
-mod made;
-mod networks;
-mod planned;
-mod replayed;
-mod worked;
 
 /// What is printed for an input of a job that needs no threads, and the status.
 pub(crate) fn answer(alloc: Global, job: Job, input: &[u8]) -> Option<(Vec<u8>, u8)> {

@@ -1,6 +1,7 @@
 //! Ranks that were made, checked.
-use crate::tests::networks::{NO_ROWS, ONE_WAY, Sample, TWO_HOMES, TWO_WAYS};
-use crate::tests::{answer, base, says};
+use crate::answers::{answer, says};
+use crate::base;
+use crate::networks::{NO_ROWS, ONE_WAY, Sample, TWO_HOMES, TWO_WAYS};
 use command_line::Job;
 use std::alloc::{AllocError, Global};
 use std::test::Fail;

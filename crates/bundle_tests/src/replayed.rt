@@ -1,8 +1,8 @@
 //! Scripts, and what is printed for each line.
-use crate::tests::networks::{
+use crate::answers::says;
+use crate::networks::{
     DIAMOND, DIAMOND_WITHOUT_STAND_IN, SHARED_LIMITS, STAND_IN_AT_A, Sample, TWO_ISSUERS, TWO_NODES,
 };
-use crate::tests::says;
 use command_line::Job;
 use std::alloc::Global;
 use std::test::Fail;

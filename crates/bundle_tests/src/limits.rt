@@ -1,5 +1,5 @@
 //! Too many rows, and other shapes of whole inputs.
-use crate::tests::says;
+use crate::answers::says;
 use command_line::Job;
 use sample_networks::SETTINGS;
 use std::alloc::{AllocError, Global};

@@ -1,7 +1,7 @@
 //! Scripts and plans that are cut short, and with one byte changed: each has a defined answer.
-use crate::bundle::run_bundle;
-use crate::tests::answer;
-use crate::tests::networks::TWO_NODES;
+use crate::answers::answer;
+use crate::networks::TWO_NODES;
+use bundle_jobs::run_bundle;
 use card_digits::Counted;
 use command_line::Job;
 use std::alloc::{AllocError, Global};

@@ -1,8 +1,8 @@
 use Rattle.std.proofs.Common.{OnErr, sym, subst}
 use Rattle.bundle_text.specs.Answers.{WroteFront}
-use Rattle.card_switch.specs.Bundle.{IsOutput}
+use Rattle.bundle_jobs.specs.Bundle.{IsOutput}
 use Rattle.command_line.specs.declared.job.Job.{Job}
-use Rattle.card_switch.proofs.bundle.run_bundle.Goals as goal
+use Rattle.bundle_jobs.proofs.bundle.run_bundle.Goals as goal
 
 -- what `run_threads` says of `Run` is said of the job, which is `Run` here
 pub returns-in-Run-clause-err : goal.returns-in-Run-clause-err

@@ -1,6 +1,6 @@
 //! Verdicts, ranks and messages that are worked out by hand.
-use crate::tests::networks::{NESTED, NO_ROWS, SHARED_CEILING, Sample, THERE_AND_BACK, TWO_NODES};
-use crate::tests::says;
+use crate::answers::says;
+use crate::networks::{NESTED, NO_ROWS, SHARED_CEILING, Sample, THERE_AND_BACK, TWO_NODES};
 use command_line::Job;
 use sample_networks::SETTINGS;
 use std::alloc::{AllocError, Global};
