@@ -1,7 +1,7 @@
 //! Ranks for all classes.
 use crate::walk::{MOST_NODES, Routes, Stop, Walk};
 use card_digits::{NodeNo, Prefix};
-use net_rows::{Tables, classes};
+use net_rows::{Route, Tables, classes};
 use rank_cert::Cert;
 use rows_in_force::InForce;
 use std::alloc::{AllocError, Global};
@@ -32,23 +32,37 @@ fn ranks(alloc: Global, tables: &Tables) -> Result<Made, AllocError> {
     let classes = classes(alloc, tables)?;
     let mut cert = Cert::with_room(alloc, count(tables, &classes))?;
     let mut in_force = InForce::new(alloc, tables.routes())?;
-    for class in &classes {
+    match add_classes(alloc, tables, &classes, &mut in_force, &mut cert) {
+        Ok(()) => Ok(Made::Ranks(cert)),
+        Err(other) => Ok(other),
+    }
+}
+
+/// Adds the ranks of all classes, or gives what is made instead.
+fn add_classes(
+    alloc: Global,
+    tables: &Tables,
+    classes: &[Prefix],
+    in_force: &mut InForce<'_, Route>,
+    cert: &mut Cert,
+) -> Result<(), Made> {
+    for class in classes {
         in_force.enter(*class);
         let Some(issuer) = tables.issuer_at(class) else {
             continue;
         };
         let routes = Routes {
             tables,
-            in_force: &in_force,
+            in_force: &*in_force,
             home: issuer.home,
         };
-        match add_ranks(alloc, &routes, class, &mut cert) {
+        match add_ranks(alloc, &routes, class, cert) {
             Ok(()) => {}
-            Err(Stop::Circle(nodes)) => return Ok(Made::Circle(*class, nodes)),
-            Err(Stop::GaveUp) => return Ok(Made::GaveUp),
+            Err(Stop::Circle(nodes)) => return Err(Made::Circle(*class, nodes)),
+            Err(Stop::GaveUp) => return Err(Made::GaveUp),
         }
     }
-    Ok(Made::Ranks(cert))
+    Ok(())
 }
 
 /// How many ranks there will be.

@@ -32,74 +32,167 @@ pub enum Sample {
 }
 
 fn two_nodes(alloc: Global) -> Result<String, AllocError> {
-    format!(in alloc; "{SETTINGS}{NODE_A}{NODE_H}{LINK_AH}{ACQUIRER_AT_A}{ISSUER_AT_H}{A_BY_AH}")
+    [
+        SETTINGS,
+        NODE_A,
+        NODE_H,
+        LINK_AH,
+        ACQUIRER_AT_A,
+        ISSUER_AT_H,
+        A_BY_AH,
+    ]
+    .concat(alloc)
 }
 
 fn two_acquirers(alloc: Global) -> Result<String, AllocError> {
     let two_nodes = two_nodes(alloc)?;
-    format!(in alloc; "{two_nodes}{SECOND_ACQUIRER_AT_A}")
+    [two_nodes.as_str(), SECOND_ACQUIRER_AT_A].concat(alloc)
 }
 
 fn limit_at_a(alloc: Global) -> Result<String, AllocError> {
-    format!(in alloc;
-        "{SETTINGS}{NODE_A}{NODE_H}{LINK_AH}{ACQUIRER_AT_A}{ISSUER_NAMES_A}{A_BY_AH}{A_1000}"
-    )
+    [
+        SETTINGS,
+        NODE_A,
+        NODE_H,
+        LINK_AH,
+        ACQUIRER_AT_A,
+        ISSUER_NAMES_A,
+        A_BY_AH,
+        A_1000,
+    ]
+    .concat(alloc)
 }
 
 /// The diamond's nodes, links and routes.
 fn diamond_ways(alloc: Global) -> Result<String, AllocError> {
-    let nodes = format!(in alloc; "{SETTINGS}{NODE_A}{NODE_P}{NODE_Q}{NODE_H}")?;
-    let links = format!(in alloc; "{LINK_AP}{LINK_AQ}{LINK_PH}{LINK_QH}")?;
-    format!(in alloc; "{nodes}{links}{ACQUIRER_AT_A}{A_BY_AP_OR_AQ}{P_BY_PH}{Q_BY_QH}")
+    [
+        SETTINGS,
+        NODE_A,
+        NODE_P,
+        NODE_Q,
+        NODE_H,
+        LINK_AP,
+        LINK_AQ,
+        LINK_PH,
+        LINK_QH,
+        ACQUIRER_AT_A,
+        A_BY_AP_OR_AQ,
+        P_BY_PH,
+        Q_BY_QH,
+    ]
+    .concat(alloc)
 }
 
 fn diamond(alloc: Global) -> Result<String, AllocError> {
     let ways = diamond_ways(alloc)?;
-    format!(in alloc; "{ways}{ISSUER_NAMES_A}{A_1000}")
+    [ways.as_str(), ISSUER_NAMES_A, A_1000].concat(alloc)
 }
 
 fn diamond_without_limit(alloc: Global) -> Result<String, AllocError> {
     let ways = diamond_ways(alloc)?;
-    format!(in alloc; "{ways}{ISSUER_AT_H}")
+    [ways.as_str(), ISSUER_AT_H].concat(alloc)
 }
 
 fn two_homes(alloc: Global) -> Result<String, AllocError> {
-    let nodes = format!(in alloc; "{SETTINGS}{NODE_A}{NODE_H}{NODE_B}{LINK_AH}{SHORT_LINK_AB}")?;
-    let issuers = format!(in alloc; "{ISSUER_AT_H}{SECOND_ISSUER_AT_B}")?;
-    format!(in alloc; "{nodes}{ACQUIRER_AT_A}{issuers}{A_BY_AH}{SECOND_BY_AB}")
+    [
+        SETTINGS,
+        NODE_A,
+        NODE_H,
+        NODE_B,
+        LINK_AH,
+        SHORT_LINK_AB,
+        ACQUIRER_AT_A,
+        ISSUER_AT_H,
+        SECOND_ISSUER_AT_B,
+        A_BY_AH,
+        SECOND_BY_AB,
+    ]
+    .concat(alloc)
 }
 
 fn shared_limits(alloc: Global) -> Result<String, AllocError> {
-    let nodes = format!(in alloc; "{SETTINGS}{NODE_A}{NODE_B}{NODE_H}{LINK_AB}{LINK_AH}{LINK_BH}")?;
-    let acquirers = format!(in alloc; "{ACQUIRER_AT_A}{SECOND_ACQUIRER_AT_B}")?;
-    format!(in alloc; "{nodes}{acquirers}{ISSUER_NAMES_A_AND_B}{A_BY_AH}{B_BY_BH}{A_300}{B_200}")
+    [
+        SETTINGS,
+        NODE_A,
+        NODE_B,
+        NODE_H,
+        LINK_AB,
+        LINK_AH,
+        LINK_BH,
+        ACQUIRER_AT_A,
+        SECOND_ACQUIRER_AT_B,
+        ISSUER_NAMES_A_AND_B,
+        A_BY_AH,
+        B_BY_BH,
+        A_300,
+        B_200,
+    ]
+    .concat(alloc)
 }
 
 fn line(alloc: Global) -> Result<String, AllocError> {
-    let nodes = format!(in alloc; "{SETTINGS}{NODE_A}{NODE_B}{NODE_H}{LINK_AB}{LINK_BH}")?;
-    format!(in alloc; "{nodes}{ACQUIRER_AT_A}{ISSUER_AT_H}{A_BY_AB}{B_BY_BH}")
+    [
+        SETTINGS,
+        NODE_A,
+        NODE_B,
+        NODE_H,
+        LINK_AB,
+        LINK_BH,
+        ACQUIRER_AT_A,
+        ISSUER_AT_H,
+        A_BY_AB,
+        B_BY_BH,
+    ]
+    .concat(alloc)
 }
 
 fn line_of_two_homes(alloc: Global) -> Result<String, AllocError> {
     let line = line(alloc)?;
-    format!(in alloc; "{line}{SECOND_ACQUIRER_AT_A}{SECOND_ISSUER_AT_B}{SECOND_BY_AB}")
+    [
+        line.as_str(),
+        SECOND_ACQUIRER_AT_A,
+        SECOND_ISSUER_AT_B,
+        SECOND_BY_AB,
+    ]
+    .concat(alloc)
 }
 
 fn limit_at_home(alloc: Global) -> Result<String, AllocError> {
-    let nodes = format!(in alloc;
-        "{SHORT_TIMERS}{NODE_A}{NODE_P}{NODE_H}{LINK_AP}{LINK_AH}{LINK_PH}"
-    )?;
-    let gates = format!(in alloc; "{ACQUIRER_AT_A}{SECOND_ACQUIRER_AT_H}")?;
-    let issuers = format!(in alloc; "{ISSUER_NAMES_A_AND_H}{SECOND_ISSUER_AT_H}")?;
-    format!(in alloc; "{nodes}{gates}{issuers}{A_BY_AP_OR_AH}{P_BY_PH}{A_1000_SINGLE_600}{H_500}")
+    [
+        SHORT_TIMERS,
+        NODE_A,
+        NODE_P,
+        NODE_H,
+        LINK_AP,
+        LINK_AH,
+        LINK_PH,
+        ACQUIRER_AT_A,
+        SECOND_ACQUIRER_AT_H,
+        ISSUER_NAMES_A_AND_H,
+        SECOND_ISSUER_AT_H,
+        A_BY_AP_OR_AH,
+        P_BY_PH,
+        A_1000_SINGLE_600,
+        H_500,
+    ]
+    .concat(alloc)
 }
 
 fn long_waits(alloc: Global) -> Result<String, AllocError> {
-    let nodes = format!(in alloc;
-        "{SLOW_ADVICES}{NODE_A}{NODE_H}{SLOW_LINK}{SPARE_LINK}{QUICK_LINK}"
-    )?;
-    let issuers = format!(in alloc; "{ISSUER_AT_H}{SECOND_ISSUER_AT_H}")?;
-    format!(in alloc; "{nodes}{ACQUIRER_AT_A}{issuers}{A_BY_SLOW_OR_SPARE}{SECOND_BY_QUICK}")
+    [
+        SLOW_ADVICES,
+        NODE_A,
+        NODE_H,
+        SLOW_LINK,
+        SPARE_LINK,
+        QUICK_LINK,
+        ACQUIRER_AT_A,
+        ISSUER_AT_H,
+        SECOND_ISSUER_AT_H,
+        A_BY_SLOW_OR_SPARE,
+        SECOND_BY_QUICK,
+    ]
+    .concat(alloc)
 }
 
 impl Sample {

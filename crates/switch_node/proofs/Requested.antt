@@ -23,7 +23,7 @@ use Rattle.node_machine.specs.Machine as machine
 use Rattle.node_machine.specs.Lists.{Lists, Row, of_key, row_answer, request_of, view}
 use Rattle.node_machine.specs.Steps as steps
 use Rattle.node_machine.specs.Steps.{Progress}
-use Rattle.switch_node.specs.Coming.{refusal_code}
+use Rattle.switch_node.specs.Coming.{first_code, refusal_code}
 
 -- where a request goes
 
@@ -106,10 +106,6 @@ plain_answer K0421 e = cc
 plain_answer K0430 e = cc
 
 -- refusals one after the other, of which the first gives the answer
-
-abbrev first_code : Bool → Bool → Bool → Bool → Option Bytes
-first_code good none other known =
-    if not good then Some code_14 else if none then Some code_92 else if other then Some code_94 else if known then Some code_00 else None
 
 abbrev first_reply : (Bytes → Progress) → Progress → Bool → Bool → Bool → Bool → Progress
 first_reply reply kept good none other known =

@@ -27,11 +27,10 @@ is_complete groups.Reversal m = has_identity m
 is_complete groups.AdviceResponse m = has_identity m
 is_complete groups.ReversalResponse m = true
 
--- the code of the response to a reversal or an advice that is not kept: of a bad card, without an issuer, of other content, known
+-- the code of a refusal: of a bad card, without an issuer, of other content, known
+abbrev pub first_code : Bool → Bool → Bool → Bool → Option Bytes
+first_code good none other known = if not good then Some code_14 else if none then Some code_92 else if other then Some code_94 else if known then Some code_00 else None
+
+-- the code of the response to a reversal or an advice that is not kept
 abbrev pub refusal_code : Network → Fields → Bool → Bool → Option Bytes
-refusal_code t m other known =
-    if not (is_good_card (el m 2)) then Some code_14
-    else if is_none (issuer t (card_of m)) then Some code_92
-    else if other then Some code_94
-    else if known then Some code_00
-    else None
+refusal_code t m other known = first_code (is_good_card (el m 2)) (is_none (issuer t (card_of m))) other known

@@ -4,7 +4,7 @@ use Rattle.table_checker.specs.declared.refusal.Kind.{Kind}
 use Rattle.table_checker.specs.Search.{first_some}
 use Rattle.table_checker.specs.Rules.{refusal_at}
 use Rattle.table_checker.specs.Firsts.{of_kind}
-use Rattle.table_checker.proofs.checker.firsts.Given as goal
+use Rattle.table_checker.proofs.checker.firsts_along.Given as goal
 
 abbrev pub invariant-loop-class : goal.invariant-loop-class
 invariant-loop-class l = record {

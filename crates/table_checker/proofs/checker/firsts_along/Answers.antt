@@ -2,7 +2,7 @@ use Rattle.std.proofs.Common.{◌∙◌, ◌≤◌, length, arith}
 use Rattle.table_checker.specs.Rules.{refusal_at}
 use Rattle.table_checker.specs.Firsts.{of_kind}
 use Rattle.table_checker.proofs.Searching.{first_some_next, first_some_end}
-use Rattle.table_checker.proofs.checker.firsts.Goals as goal
+use Rattle.table_checker.proofs.checker.firsts_along.Goals as goal
 
 pub loop-class-preserved : goal.loop-class-preserved
 loop-class-preserved c = record {
