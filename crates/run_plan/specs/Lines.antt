@@ -2,13 +2,11 @@
 use Rattle.std.specs.Prelude.{ℕ, ◌==◌, ◌&&◌, nat_le, List, codes, bytes_eq, Option, Some, None, if◌then◌else◌}
 use Rattle.std.specs.List.{position}
 use Rattle.std.specs.Option.{option_map}
-use Rattle.std.specs.Result.{result_ok}
 use Rattle.std.specs.Cmp.Lexicographic.{pointwise}
 use Rattle.card_digits.specs.Numbers.{pad11}
-use Rattle.card_digits.specs.Reading.{read_digits}
 use Rattle.net_rows.specs.Network.{Network}
 use Rattle.card_digits.specs.Steps.{◌>>=◌}
-use Rattle.replay_script.specs.Words.{word_and_rest, number_of, amount_of}
+use Rattle.replay_script.specs.Words.{word_and_rest, number_of}
 use Rattle.replay_script.specs.Lines.{node_of, loan}
 use Rattle.run_plan.specs.declared.line.Setting.{Setting}
 use Rattle.run_plan.specs.declared.line.Setting.TheVariants.{Host, Lose, Delay, Repeat, Lend}

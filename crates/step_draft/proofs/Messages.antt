@@ -10,18 +10,16 @@ use Rattle.message_elements.specs.declared.kind.Kind.TheVariants.{K0100, K0101, 
 use Rattle.message_keys.specs.declared.keys.AdviceId.{AdviceId}
 use Rattle.message_keys.specs.declared.keys.AdviceKind.TheVariants.{Reversal, StandIn}
 use Rattle.message_elements.specs.Groups.{group, is_04xx, response_kind}
-use Rattle.message_keys.specs.Keys.{key_of, own_key, original_key, part, identity_of, padded_or_zeros}
+use Rattle.message_keys.specs.Keys.{key_of, own_key, original_key, part, identity_of}
 use Rattle.iso_message.specs.Made.{has_own_key, response, made_reversal, made_stand_in, made_from}
-use Rattle.message_elements.specs.Codes.{code_00, code_68}
 use Rattle.iso_message.proofs.Found as found
 use Rattle.message_keys.proofs.KeyLemmas as keys
-use Rattle.iso_message.proofs.Changes.{get_set, get_set_same}
 use Rattle.network_law.specs.Cards.{Bytes}
 use Rattle.network_law.specs.Traces.{is_advice_group, as_kept}
 use Rattle.network_law.specs.Decision.{sent_kind}
 use Rattle.network_law.proofs.Node.{response_is_of_kind}
 use Rattle.network_law.proofs.Origins.{reversal_maker, stand_in_maker}
-use Rattle.network_law.proofs.Elements.{own_key_response, el_response, made_reversal_key, reversal_kind, made_base}
+use Rattle.network_law.proofs.Elements.{own_key_response, el_response, made_reversal_key, reversal_kind}
 use Rattle.network_law.proofs.AdviceMarks.{made_stand_in_key, as_kind_identity, kept_alike, reversal_reverses, stand_in_stands, identity_key}
 use Rattle.request_book.specs.Values.{IsKeyOf}
 
