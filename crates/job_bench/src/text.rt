@@ -1,0 +1,82 @@
+//! Text that is put together piece by piece.
+use itoa::Buffer;
+use std::alloc::{AllocError, Global};
+
+/// A text with one kind of line ends.
+#[derive(Drop)]
+pub(crate) struct Text {
+    bytes: Vec<u8>,
+    line_end: &'static [u8],
+}
+
+/// The last twelve digits of a number.
+fn twelve_digits(number: u64) -> [u8; 12] {
+    let mut digits = [b'0'; 12];
+    let mut rest = number;
+    for place in 0..12 {
+        digits[11 - place] = b'0' + (rest % 10) as u8;
+        rest /= 10;
+    }
+    digits
+}
+
+impl Text {
+    pub(crate) fn new(alloc: Global) -> Text {
+        Text {
+            bytes: Vec::new(alloc),
+            line_end: b"\n",
+        }
+    }
+
+    /// Its lines end in a carriage return and a line feed.
+    pub(crate) fn with_carriage_returns(alloc: Global) -> Text {
+        Text {
+            bytes: Vec::new(alloc),
+            line_end: b"\r\n",
+        }
+    }
+
+    pub(crate) fn as_bytes(&self) -> &[u8] {
+        self.bytes.as_slice()
+    }
+
+    pub(crate) fn len(&self) -> usize {
+        self.bytes.len()
+    }
+
+    pub(crate) fn clear(&mut self) {
+        self.bytes.clear();
+    }
+
+    pub(crate) fn push(&mut self, words: &[u8]) -> Result<(), AllocError> {
+        self.bytes.extend_from_slice(words)
+    }
+
+    pub(crate) fn push_byte(&mut self, byte: u8) -> Result<(), AllocError> {
+        self.bytes.push(byte)?;
+        Ok(())
+    }
+
+    pub(crate) fn end_line(&mut self) -> Result<(), AllocError> {
+        self.bytes.extend_from_slice(self.line_end)
+    }
+
+    /// Words that are a line.
+    pub(crate) fn line(&mut self, words: &[u8]) -> Result<(), AllocError> {
+        self.push(words)?;
+        self.end_line()
+    }
+
+    pub(crate) fn number(&mut self, number: u64) -> Result<(), AllocError> {
+        let mut buffer = Buffer::new();
+        self.bytes
+            .extend_from_slice(buffer.format(number).as_bytes())
+    }
+
+    /// The last so many digits of a number, at most twelve of them.
+    pub(crate) fn digits(&mut self, number: u64, count: usize) -> Result<(), AllocError> {
+        let digits = twelve_digits(number);
+        let count = count.min(12);
+        self.bytes.extend_from_slice(&digits[12 - count..])
+    }
+}
