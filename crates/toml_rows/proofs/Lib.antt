@@ -1,3 +1,5 @@
+mod Blanks
+mod Strings
 pub mod Keys
 pub mod Members
 pub mod Documents

@@ -2,8 +2,11 @@
 //! reads, and gives the same members; of any other text nothing is said, and it is for `toml` to read.
 #![tactic(auto)]
 
+mod blank;
+mod key;
 mod line;
 mod row;
+mod string;
 mod value;
 
 pub use row::{first_table, is_over, next_row, start};

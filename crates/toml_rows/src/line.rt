@@ -6,11 +6,12 @@ ghost use Rattle.toml.specs.View.{view};
 ghost use Rattle.toml_parser.specs.Lexical as lexical;
 ghost use Rattle.toml_rows.specs.Rows.{IsLine, table_line, row_line};
 
+use crate::blank::{skip_blank, skip_ws};
+use crate::key::{after_key, key};
 use crate::value::value;
 use std::alloc::Global;
 use toml::Value;
-use toml_parser::dotted_key;
-use toml_parser::text::{byte_at, first, skip, skip_blank, skip_ws};
+use toml_parser::text::{byte_at, first, skip};
 
 fn ends_line(s: &str) -> bool
     ensures { result ≡ spec.ends_line (lexical.skip_ws s.now) }
@@ -26,17 +27,15 @@ pub(crate) fn pair(alloc: Global, s: &str) -> Option<((String, Value), &str)>
     ensures value { IfSome result (λ p. spec.line s.now ≡ Some ((([], string_bytes p.0.0), key_value (view p.0.1)), p.1.now)) }
     ensures shorter { IfSome result (λ p. length p.1.now < length s.now) }
 {
-    let Ok((key, rest)) = dotted_key(alloc, s) else {
-        return None;
-    };
-    if !key.path.is_empty() || first(rest) != b'=' {
+    let (key, rest) = key(alloc, s)?;
+    if first(rest) != b'=' {
         return None;
     }
     let (value, rest) = value(alloc, skip_ws(skip(rest, 1)))?;
     if !ends_line(rest) {
         return None;
     }
-    Some(((key.last, value), rest))
+    Some(((key, value), rest))
 }
 
 /// What follows the word of a header and its closing bracket.
@@ -45,10 +44,8 @@ fn after_word<'a>(alloc: Global, s: &'a str, word: &str) -> Option<&'a str>
     ensures value { IfSome result (λ rest. spec.header_key s.now ≡ Some (([], word.now), rest.now)) }
     ensures shorter { IfSome result (λ rest. length rest.now < length s.now) }
 {
-    let Ok((key, rest)) = dotted_key(alloc, skip_ws(s)) else {
-        return None;
-    };
-    if !key.path.is_empty() || key.last.as_str() != word || first(rest) != b']' {
+    let rest = after_key(alloc, skip_ws(s), word)?;
+    if first(rest) != b']' {
         return None;
     }
     Some(skip(rest, 1))
@@ -59,7 +56,7 @@ fn after_word<'a>(alloc: Global, s: &'a str, word: &str) -> Option<&'a str>
 pub(crate) fn after_table_header<'a>(alloc: Global, s: &'a str, word: &str) -> Option<&'a str>
     ensures { IfSome result (λ rest. IsLine (table_line word.now) s.now rest.now) }
 {
-    let start = skip_blank(s, true);
+    let start = skip_blank(s);
     if first(start) != b'[' || byte_at(start, 1) == b'[' {
         return None;
     }
@@ -75,7 +72,7 @@ pub(crate) fn after_table_header<'a>(alloc: Global, s: &'a str, word: &str) -> O
 pub(crate) fn after_row_header<'a>(alloc: Global, s: &'a str, word: &str) -> Option<&'a str>
     ensures { IfSome result (λ rest. IsLine (row_line word.now) s.now rest.now) }
 {
-    let start = skip_blank(s, true);
+    let start = skip_blank(s);
     if first(start) != b'[' || byte_at(start, 1) != b'[' {
         return None;
     }

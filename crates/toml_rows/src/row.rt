@@ -4,10 +4,11 @@ ghost use Rattle.toml.specs.Parse as spec;
 ghost use Rattle.toml.specs.View.{table_view};
 ghost use Rattle.toml_rows.specs.Rows.{is_over, ArePairs, IsHeaded, table_line, row_line};
 
+use crate::blank::skip_blank;
 use crate::line::{after_row_header, after_table_header, pair};
 use std::alloc::Global;
 use toml::Table;
-use toml_parser::text::{byte_at, first, skip_blank};
+use toml_parser::text::{byte_at, first};
 
 /// Where a document begins: after its byte order mark, if it has one.
 pub fn start(text: &str) -> &str
@@ -24,7 +25,7 @@ pub fn start(text: &str) -> &str
 pub fn is_over(s: &str) -> bool
     ensures { result ≡ is_over s.now }
 {
-    skip_blank(s, true).is_empty()
+    skip_blank(s).is_empty()
 }
 
 /// The pairs of keys and values up to the next header, or up to the end. None where a key stands twice, and where a value is of
@@ -36,7 +37,7 @@ fn pairs(alloc: Global, s: &str) -> Option<(Table, &str)>
     let mut members = Table::new(alloc);
     let mut rest = s;
     'lines: loop {
-        let start = skip_blank(rest, true);
+        let start = skip_blank(rest);
         if start.is_empty() || first(start) == b'[' {
             return Some((members, rest));
         }

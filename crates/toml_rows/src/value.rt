@@ -5,10 +5,12 @@ ghost use Rattle.toml.specs.Parse as spec;
 ghost use Rattle.toml.specs.View.{view, array_view};
 ghost use Rattle.toml_parser.specs.Lexical as lexical;
 
+use crate::blank::skip_blank;
+use crate::string::string;
 use std::alloc::Global;
 use toml::Value;
-use toml_parser::text::{first, skip, skip_blank};
-use toml_parser::{Scalar, quoted, starts_string, unquoted};
+use toml_parser::text::{first, skip};
+use toml_parser::{Scalar, starts_string, unquoted};
 
 /// A string or a whole number.
 #[tactic(auto, unfolding(toml::specs::Parse::atom))]
@@ -17,9 +19,7 @@ fn atom(alloc: Global, s: &str) -> Option<(Value, &str)>
     ensures shorter { IfSome result (λ p. length p.1.now < length s.now) }
 {
     if starts_string(s) {
-        let Ok((text, rest)) = quoted(alloc, s) else {
-            return None;
-        };
+        let (text, rest) = string(alloc, s)?;
         return Some((Value::String(text), rest));
     }
     match unquoted(alloc, s) {
@@ -34,7 +34,7 @@ fn after_element(s: &str) -> Option<&str>
     ensures value { IfSome result (λ rest. spec.after_element lexical.right_bracket s.now ≡ Some rest.now) }
     ensures within { IfSome result (λ rest. length rest.now ≤ length s.now) }
 {
-    let rest = skip_blank(s, true);
+    let rest = skip_blank(s);
     if first(rest) == b',' {
         Some(skip(rest, 1))
     } else if first(rest) == b']' {
@@ -52,7 +52,7 @@ fn elements(alloc: Global, s: &str) -> Option<(Vec<Value>, &str)>
     let mut found = Vec::new(alloc);
     let mut rest = s;
     'elements: loop {
-        let start = skip_blank(rest, true);
+        let start = skip_blank(rest);
         if first(start) == b']' {
             return Some((found, skip(start, 1)));
         }
