@@ -16,11 +16,19 @@ fn bare_len(bytes: &[u8]) -> usize
     ensures within { result ≤ length bytes.now }
 {
     for at in 0..bytes.len() {
-        if !is_bare(bytes[at]) {
+        if !is_in_key(bytes[at]) {
             return at;
         }
     }
     bytes.len()
+}
+
+/// Whether a byte is of a bare key. Most are lower-case letters, so these are tried first.
+#[inline]
+fn is_in_key(byte: u8) -> bool
+    ensures { result ≡ is_bare byte }
+{
+    byte.is_ascii_lowercase() || is_bare(byte)
 }
 
 /// A bare key, and what follows it and the white space after it. None also where a dot comes next.
