@@ -2,3 +2,4 @@ pub mod PrintLemmas
 pub mod FrontLemmas
 pub mod WrittenLemmas
 pub mod LabelLemmas
+pub mod DigitLemmas

@@ -1,6 +1,7 @@
 //! The printed form of a message.
 ghost use Rattle.std.specs.Prelude.{◌≡◌, ◌++◌, ◌∷◌, ◌<◌, ◌^◌, [], drop, codes, decimal, is_ok, IfOk, OnOk, Some, None, Ok, Err};
 ghost use Rattle.std.specs.Option.{option_copied};
+ghost use Rattle.hex.specs.Hex.{encode_upper};
 ghost use Rattle.iso_message.specs.Fields.{Fields};
 ghost use Rattle.message_elements.specs.Types.{kind_text};
 ghost use Rattle.message_elements.specs.declared.fault.DecodeFault.{DecodeFault};
@@ -18,17 +19,28 @@ fn push_number(out: &mut Vec<u8>, number: u64) -> Result<(), AllocError>
     out.extend_from_slice(buffer.format(number).as_bytes())
 }
 
+/// Writes the bytes as hexadecimal digits. Eight bytes, as a binary element has, ask for no memory but the text's.
+#[tactic(auto, using(crate::proofs::DigitLemmas::capitals))]
+fn push_digits(out: &mut Vec<u8>, value: &[u8]) -> Result<(), AllocError>
+    ensures { OnOk result (out.new.items ≡ out.old.items ++ encode_upper value.now) }
+{
+    let mut digits = [0u8; 16];
+    if hex::encode_to_slice(value, &mut digits).is_ok() {
+        digits.make_ascii_uppercase();
+        return out.extend_from_slice(&digits);
+    }
+    let text = hex::encode_upper(*out.allocator(), value)?;
+    out.extend_from_slice(text.as_bytes())
+}
+
 /// Writes the bytes, for an element of eight bytes as hexadecimal digits.
 fn push_value(out: &mut Vec<u8>, number: u8, value: &[u8]) -> Result<(), AllocError>
     ensures { OnOk result (out.new.items ≡ out.old.items ++ value_text number value.now) }
 {
     if is_binary(number) {
-        let text = hex::encode_upper(*out.allocator(), value)?;
-        out.extend_from_slice(text.as_bytes())?;
-    } else {
-        out.extend_from_slice(value)?;
+        return push_digits(out, value);
     }
-    Ok(())
+    out.extend_from_slice(value)
 }
 
 /// Writes the number of an element and a space.
