@@ -1,6 +1,6 @@
 //! Packets that bad links hold back.
 ghost use Rattle.std.specs.Prelude.{◌≡◌, ◌⊎◌, [], replicate, IfOk};
-ghost use Rattle.link_rings.specs.Held.{HeldView, first_due, behind_due, due_packet, without_due, with_held};
+ghost use Rattle.link_rings.specs.Held.{HeldView, first_due, behind_due, is_due, is_due_next, due_packet, without_due, with_held};
 
 use crate::ROOM;
 use crate::packet::Packet;
@@ -66,6 +66,16 @@ impl HeldRing {
             _ => None,
         }
     }
+
+    // Whether the turn of the first packet has come.
+    fn is_due(&self, turn: u64) -> bool
+        ensures { result ≡ is_due turn self.now }
+    {
+        match self.packets.first() {
+            Some(first) => first.due <= turn,
+            None => false,
+        }
+    }
 }
 
 impl Held {
@@ -97,6 +107,14 @@ impl Held {
         ensures rings { self.new.rings ≡ self.old.rings }
     {
         self.turn = self.turn.saturating_add(1);
+    }
+
+    /// Whether the turn of a packet comes with the pump's next one.
+    pub fn is_due_next(&self) -> bool
+        ensures { result ≡ is_due_next self.now }
+    {
+        let next = self.turn.saturating_add(1);
+        self.rings.iter().any(|ring| ring.is_due(next))
     }
 
     /// The packet of a ring whose turn has come.
