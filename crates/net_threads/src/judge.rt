@@ -7,7 +7,7 @@ ghost use Rattle.network_law.specs.Traces.{IsIn};
 ghost use Rattle.net_threads.specs.Verdicts.{trace_of, WasAnswered, IsOf, AreOf, IsLinked, AreLinked, IsStrange, HasStrange, IsGiven, AreGiven, HasUngiven, Holds};
 
 use crate::ended::{Ended, LineEnd, SessionEnd, Verdict};
-use crate::puts::{PutPlaces, has_answer_from, has_put};
+use crate::puts::{AnswerPlaces, PutPlaces, has_answer_from, has_put};
 use crate::station::Station;
 use card_digits::{LinkNo, NodeNo};
 use net_rows::Tables;
@@ -83,7 +83,13 @@ fn strange_link(judged: &Judged<'_, '_>) -> Option<(LinkNo, u64)>
     None
 }
 
-fn was_answered(stations: &[Station<'_>], n: NodeNo, bytes: &[u8], from: &mut usize) -> bool
+fn was_answered(
+    stations: &[Station<'_>],
+    places: &[AnswerPlaces],
+    n: NodeNo,
+    bytes: &[u8],
+    from: &mut usize,
+) -> bool
     ensures { MatchBool result (WasAnswered (trace_of stations.now n) bytes.now) (¬ WasAnswered (trace_of stations.now n) bytes.now) }
 {
     let place = n.place();
@@ -91,26 +97,36 @@ fn was_answered(stations: &[Station<'_>], n: NodeNo, bytes: &[u8], from: &mut us
         return false;
     }
     let station = &stations[place];
-    has_answer_from(station.trace(), from, bytes)
+    has_answer_from(places.get(place), station.trace(), from, bytes)
 }
 
 /// Whether an answer stands in the trace of the node. Looks there from a place on first, which moves to that of the answer.
-fn is_given(stations: &[Station<'_>], n: NodeNo, end: &LineEnd, from: &mut usize) -> bool
+fn is_given(
+    stations: &[Station<'_>],
+    places: &[AnswerPlaces],
+    n: NodeNo,
+    end: &LineEnd,
+    from: &mut usize,
+) -> bool
     ensures { MatchBool result (IsGiven stations.now n end.now) (¬ IsGiven stations.now n end.now) }
 {
     match end {
-        LineEnd::Answer(bytes) => was_answered(stations, n, bytes.as_slice(), from),
+        LineEnd::Answer(bytes) => was_answered(stations, places, n, bytes.as_slice(), from),
         _ => true,
     }
 }
 
 /// The place of the first line whose answer was not given.
-fn strange_line(stations: &[Station<'_>], session: &SessionEnd) -> Option<usize>
+fn strange_line(
+    stations: &[Station<'_>],
+    places: &[AnswerPlaces],
+    session: &SessionEnd,
+) -> Option<usize>
     ensures { MatchOption result (All (IsGiven stations.now session.now.node) session.now.lines.items) (λ j. (end : _) × (slice_get session.now.lines.items j ≡ Some end) × ¬ IsGiven stations.now session.now.node end) }
 {
     let mut from = 0;
     for (j, end) in session.lines.iter().enumerate() {
-        if !is_given(stations, session.node, end, &mut from) {
+        if !is_given(stations, places, session.node, end, &mut from) {
             return Some(j);
         }
     }
@@ -118,11 +134,15 @@ fn strange_line(stations: &[Station<'_>], session: &SessionEnd) -> Option<usize>
 }
 
 /// The places of the first such session and its line.
-fn strange_answer(stations: &[Station<'_>], ended: &Ended) -> Option<(usize, usize)>
+fn strange_answer(
+    stations: &[Station<'_>],
+    places: &[AnswerPlaces],
+    ended: &Ended,
+) -> Option<(usize, usize)>
     ensures { MatchOption result (AreGiven stations.now ended.now) (λ p. HasUngiven stations.now ended.now p.0 p.1) }
 {
     for (i, session) in ended.sessions.iter().enumerate() {
-        if let Some(j) = strange_line(stations, session) {
+        if let Some(j) = strange_line(stations, places, session) {
             return Some((i, j));
         }
     }
@@ -150,7 +170,7 @@ fn strange_station(tables: &Tables, stations: &[Station<'_>]) -> Option<NodeNo>
     None
 }
 
-fn all_places(
+fn all_put_places(
     alloc: Global,
     stations: &[Station<'_>],
     links: usize,
@@ -160,6 +180,36 @@ fn all_places(
         places.push(PutPlaces::of(alloc, station.trace(), links)?)?;
     }
     Ok(places)
+}
+
+/// How many sessions at one node find their answers sooner one after the other than by an index.
+const FEW_SESSIONS: usize = 16;
+
+fn count_at(ended: &Ended, n: usize) -> usize {
+    ended
+        .sessions
+        .iter()
+        .filter(|session| session.node.place() == n)
+        .count()
+}
+
+/// The answers of the nodes with many sessions. Of the first stations only, where memory is wanting for more.
+fn all_answer_places(alloc: Global, stations: &[Station<'_>], ended: &Ended) -> Vec<AnswerPlaces> {
+    let mut all = Vec::new(alloc);
+    for (n, station) in stations.iter().enumerate() {
+        let trace = if count_at(ended, n) > FEW_SESSIONS {
+            station.trace()
+        } else {
+            &[]
+        };
+        let Ok(places) = AnswerPlaces::of(alloc, trace) else {
+            return all;
+        };
+        if all.push(places).is_err() {
+            return all;
+        }
+    }
+    all
 }
 
 /// What the stations show: stations first, then links, then answers.
@@ -178,7 +228,7 @@ pub(crate) fn judge(
     if let Some(n) = strange_station(tables, stations) {
         return Ok(Verdict::StationStrange(n));
     }
-    let places = all_places(alloc, stations, tables.links().len())?;
+    let places = all_put_places(alloc, stations, tables.links().len())?;
     let judged = Judged {
         tables,
         stations,
@@ -187,7 +237,8 @@ pub(crate) fn judge(
     if let Some((link, serial)) = strange_link(&judged) {
         return Ok(Verdict::LinkStrange(link, serial));
     }
-    if let Some((session, line)) = strange_answer(stations, ended) {
+    let places = all_answer_places(alloc, stations, ended);
+    if let Some((session, line)) = strange_answer(stations, places.as_slice(), ended) {
         return Ok(Verdict::AnswerStrange(session.saturating_add(1), line.saturating_add(1)));
     }
     Ok(Verdict::Linked)

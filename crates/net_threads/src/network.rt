@@ -178,8 +178,8 @@ impl<'n, 't> Network<'n, 't> {
     }
 
     /// The stations, and whether their traces are a run in which each answer of a session was given. The network is spent, also where
-    /// memory is wanting. Packets that still lie on rings are lost. The cost is that of a look at each entry, and of each answer's
-    /// way from the one before it in its session.
+    /// memory is wanting. Packets that still lie on rings are lost. The cost is that of a look at each entry, and at nodes with few
+    /// sessions of each answer's way from the one before it in its session.
     pub fn finish(self, ended: &Ended) -> Result<Finished<'t>, AllocError>
         ensures whole { IfOk result (λ f. vec_len f.stations ≡ length self.entry.t.nodes) }
         ensures legal { IfOk result (λ f. All (λ s. IsLegal s.t s.n s.trace) f.stations.items) }

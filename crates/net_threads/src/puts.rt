@@ -132,16 +132,133 @@ pub(crate) fn has_put(
         .any(|entry| entry_puts(entry, link, serial, bytes))
 }
 
+/// How many slots from that of its hash on an answer may stand in.
+const PROBES: usize = 16;
+
+/// An answer of a trace: the hash of its bytes, and the place of its entry.
+#[derive(Clone, Copy)]
+struct Hashed {
+    hash: u64,
+    entry: usize,
+}
+
+/// Where the answers of a trace stand, by the hashes of their bytes. Twice as many slots as answers; one that finds none free near its
+/// own is left out.
+#[derive(Drop)]
+pub(crate) struct AnswerPlaces {
+    slots: Vec<Option<Hashed>>,
+}
+
+fn hash_of(bytes: &[u8]) -> u64 {
+    let mut hash: u64 = 0xcbf2_9ce4_8422_2325;
+    for byte in bytes {
+        hash = (hash ^ *byte as u64).wrapping_mul(0x0000_0100_0000_01b3);
+    }
+    hash
+}
+
+fn count_answers(trace: &[Entry]) -> usize {
+    let mut count: usize = 0;
+    for entry in trace {
+        for output in entry.outputs().as_slice() {
+            if let Way::Answer = output.way() {
+                count = count.saturating_add(1);
+            }
+        }
+    }
+    count
+}
+
+fn is_answered_at(trace: &[Entry], k: usize, bytes: &[u8]) -> bool
+    ensures { IsTrue result → list_any (entry_answers bytes.now) trace.now ≡ true }
+{
+    match trace.get(k) {
+        Some(entry) => entry_answers(entry, bytes),
+        None => false,
+    }
+}
+
+impl AnswerPlaces {
+    pub(crate) fn of(alloc: Global, trace: &[Entry]) -> Result<AnswerPlaces, AllocError> {
+        let count = count_answers(trace).saturating_mul(2);
+        let mut places = AnswerPlaces {
+            slots: vec![in alloc; None; count]?,
+        };
+        for (k, entry) in trace.iter().enumerate() {
+            for output in entry.outputs().as_slice() {
+                if let Way::Answer = output.way() {
+                    places.add(hash_of(output.bytes()), k);
+                }
+            }
+        }
+        Ok(places)
+    }
+
+    /// The slot of a hash, or one behind it. None where there are no slots.
+    fn slot(&self, hash: u64, behind: usize) -> Option<usize> {
+        let count = self.slots.len() as u64;
+        if count == 0 {
+            return None;
+        }
+        Some((hash.wrapping_add(behind as u64) % count) as usize)
+    }
+
+    fn add(&mut self, hash: u64, entry: usize) {
+        for behind in 0..PROBES {
+            let Some(k) = self.slot(hash, behind) else {
+                return;
+            };
+            let Some(slot) = self.slots.get_mut(k) else {
+                return;
+            };
+            match slot {
+                None => {
+                    *slot = Some(Hashed { hash, entry });
+                    return;
+                }
+                Some(other) if other.hash == hash => return,
+                Some(_) => {}
+            }
+        }
+    }
+
+    /// The place of the entry that has the answer of a hash.
+    fn place(&self, hash: u64) -> Option<usize> {
+        for behind in 0..PROBES {
+            match self.slots.get(self.slot(hash, behind)?)? {
+                None => return None,
+                Some(answer) if answer.hash == hash => return Some(answer.entry),
+                Some(_) => {}
+            }
+        }
+        None
+    }
+}
+
 fn has_answer(trace: &[Entry], bytes: &[u8]) -> bool
     ensures { result ≡ list_any (entry_answers bytes.now) trace.now }
 {
     trace.iter().any(|entry| entry_answers(entry, bytes))
 }
 
-/// Whether the trace has this answer. Looks at the entries from a place on, which moves to that of the answer, and then at all of it.
-pub(crate) fn has_answer_from(trace: &[Entry], from: &mut usize, bytes: &[u8]) -> bool
+/// Whether the trace has this answer. Looks where it should stand, then at the entries from a place on, which moves on to that of the
+/// answer, and then at all of it.
+pub(crate) fn has_answer_from(
+    places: Option<&AnswerPlaces>,
+    trace: &[Entry],
+    from: &mut usize,
+    bytes: &[u8],
+) -> bool
     ensures { result ≡ list_any (entry_answers bytes.now) trace.now }
 {
+    if let Some(places) = places {
+        if let Some(k) = places.place(hash_of(bytes)) {
+            if is_answered_at(trace, k, bytes) {
+                *from = k.max(*from);
+                return true;
+            }
+        }
+    }
     for k in *from..trace.len() {
         if entry_answers(&trace[k], bytes) {
             *from = k;
