@@ -11,7 +11,7 @@ use run_plan::Session;
 use std::alloc::{AllocError, Global};
 
 /// The key of the message that the bytes spell. None also where memory is wanting.
-fn key_in(alloc: Global, bytes: &[u8]) -> Option<Key>
+pub(crate) fn key_in(alloc: Global, bytes: &[u8]) -> Option<Key>
     ensures { IfSome result (λ k. key_in bytes.now ≡ Some k) }
 {
     match decode(alloc, bytes) {

@@ -2,6 +2,7 @@
 #![tactic(auto)]
 
 mod fitting;
+mod news;
 mod running;
 mod threads;
 mod waiting;

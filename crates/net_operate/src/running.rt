@@ -4,7 +4,8 @@ ghost use Rattle.std.specs.List.{AllZip};
 ghost use Rattle.net_operate.specs.Sessions.{SessionFits};
 
 use crate::fitting::fitted;
-use crate::threads::{Shared, run_host, run_pump, run_session};
+use crate::news::Shared;
+use crate::threads::{run_host, run_pump, run_session};
 use iso_message::Message;
 use message_elements::Code;
 use net_threads::{Ended, LineEnd, Network, Station};
@@ -65,11 +66,8 @@ fn run_all<H: Host + Sync, R: Threads + Wait + Sync>(
     stations: &Vec<Mutex<Station<'_>>>,
     plan: &Plan<'_>,
     hosts: &[H],
+    shared: &Shared,
 ) -> Result<Vec<Vec<LineEnd>>, OperateFault> {
-    let Ok(shared) = Shared::new(alloc, stations.len(), plan.sessions.len() as u64) else {
-        return Err(OperateFault::Memory);
-    };
-    let shared = &shared;
     thread::scope(
         thread::scope_env(),
         rt,
@@ -141,10 +139,13 @@ pub fn operate<H: Host + Sync, R: Threads + Wait + Sync>(
     ensures { IfOk result (λ e. AllZip SessionFits plan.now.sessions.items e.sessions.items) }
 {
     let stations = network.stations();
+    let Ok(shared) = Shared::new(alloc, stations.len(), plan) else {
+        return Err(OperateFault::Memory);
+    };
     if lend_all(rt, alloc, stations, plan.loans.as_slice()).is_err() {
         return Err(OperateFault::Memory);
     }
-    let ends = run_all(rt, alloc, stations, plan, hosts)?;
+    let ends = run_all(rt, alloc, stations, plan, hosts, &shared)?;
     match fitted(alloc, plan.sessions.as_slice(), ends) {
         Ok(sessions) => Ok(Ended { sessions }),
         Err(_) => Err(OperateFault::Memory),

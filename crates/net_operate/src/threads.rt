@@ -1,97 +1,65 @@
 //! What each thread does.
 
 use crate::fitting::is_answer_to;
+use crate::news::{Answers, Shared};
 use crate::running::Host;
 use crate::waiting::{Cursor, Wanted, next_answer, next_ask};
+use card_digits::Key;
 use iso_message::decode;
-use link_rings::Held;
+use link_rings::{Held, ROOM};
+use message_keys::key_of;
 use net_threads::{LineEnd, Station, StationFault};
 use run_plan::{Plan, Session};
 use shared_bytes::SharedBytes;
 use std::alloc::{AllocError, Global};
-use std::sync::atomic::{AtomicBool, AtomicU64, Ordering};
 use std::sync::{Mutex, Wait};
 use std::thread;
 use switch_node::{Case, Input};
 
-/// What the threads tell each other beside the stations.
-#[derive(Drop)]
-pub(crate) struct Shared {
-    /// How many sessions have not ended.
-    live: AtomicU64,
-    /// Everything is to end.
-    stopped: AtomicBool,
-    /// How many pumps and hosts of each node have not ended.
-    working: Vec<AtomicU64>,
-    /// How many entries each node's trace has at least, so that who waits for more of them need not take the lock.
-    entries: Vec<AtomicU64>,
+/// How many turns a pump makes at most between looks at its rings, where nothing was told: others than the plan's threads may put
+/// packets there too, and make steps.
+const TURNS_BETWEEN_LOOKS: u64 = 64;
+
+/// What a pump knows of the packets on its rings.
+#[derive(Clone, Copy)]
+struct Pace {
+    /// How many packets it was told of.
+    told: u64,
+    /// After how many looks all of those are taken, as each look takes one from each ring that has any.
+    looks: u64,
+    /// How many turns went by since it looked.
+    turns: u64,
 }
 
-/// So many counts of 0.
-fn zeros(alloc: Global, count: usize) -> Result<Vec<AtomicU64>, AllocError> {
-    let mut counts = Vec::new(alloc);
-    for _ in 0..count {
-        counts.push(AtomicU64::new(0))?;
-    }
-    Ok(counts)
-}
-
-impl Shared {
-    pub(crate) fn new(alloc: Global, nodes: usize, sessions: u64) -> Result<Shared, AllocError> {
-        Ok(Shared {
-            live: AtomicU64::new(sessions),
-            stopped: AtomicBool::new(false),
-            working: zeros(alloc, nodes)?,
-            entries: zeros(alloc, nodes)?,
-        })
-    }
-
-    pub(crate) fn stop(&self) {
-        self.stopped.store(true, Ordering::SeqCst);
-    }
-
-    fn is_stopped(&self) -> bool {
-        self.stopped.load(Ordering::SeqCst)
-    }
-
-    /// Whether a pump or a host has nothing more to do.
-    fn is_over(&self) -> bool {
-        self.is_stopped() || self.live.load(Ordering::SeqCst) == 0
-    }
-
-    pub(crate) fn starts(&self, n: usize) {
-        if let Some(count) = self.working.get(n) {
-            count.fetch_add(1, Ordering::SeqCst);
+impl Pace {
+    /// The rings may be full already.
+    fn new() -> Pace {
+        Pace {
+            told: 0,
+            looks: ROOM as u64,
+            turns: 0,
         }
     }
 
-    fn ends(&self, n: usize) {
-        if let Some(count) = self.working.get(n) {
-            count.fetch_sub(1, Ordering::SeqCst);
+    /// Whether the rings are to be looked at in this turn, where so many packets were put there by now. They are in any case where it is
+    /// urgent.
+    fn is_look(&mut self, arrivals: u64, urgent: bool) -> bool {
+        self.looks = self
+            .looks
+            .saturating_add(arrivals.saturating_sub(self.told));
+        self.told = arrivals;
+        self.turns = self.turns.saturating_add(1);
+        if self.looks == 0 && self.turns < TURNS_BETWEEN_LOOKS && !urgent {
+            return false;
         }
+        self.looks = self.looks.saturating_sub(1);
+        self.turns = 0;
+        true
     }
 
-    /// Tells who waits how many entries a node's trace has. Called with the lock of its station held.
-    fn tell(&self, n: usize, station: &Station<'_>) {
-        if let Some(count) = self.entries.get(n) {
-            count.store(station.trace().len() as u64, Ordering::SeqCst);
-        }
-    }
-
-    /// Whether a node's trace has entries from this place on.
-    fn has_more(&self, n: usize, from: usize) -> bool {
-        match self.entries.get(n) {
-            Some(count) => count.load(Ordering::SeqCst) > from as u64,
-            None => false,
-        }
-    }
-
-    /// Whether the pump and the host of a node have ended, so that nothing comes any more.
-    fn is_idle(&self, n: usize) -> bool {
-        match self.working.get(n) {
-            Some(count) => count.load(Ordering::SeqCst) == 0,
-            None => true,
-        }
+    /// A look took something, so another may.
+    fn look_again(&mut self) {
+        self.looks = self.looks.max(1);
     }
 }
 
@@ -103,6 +71,7 @@ fn count_in<R: Wait>(rt: &R, station: &Mutex<Station<'_>>) -> usize {
 /// Pumps a turn, and says whether an entry came of it.
 fn pump_turn<R: Wait>(
     rt: &R,
+    alloc: Global,
     n: usize,
     station: &Mutex<Station<'_>>,
     plan: &Plan<'_>,
@@ -112,25 +81,28 @@ fn pump_turn<R: Wait>(
     let mut station = station.lock(rt);
     let before = station.trace().len();
     station.pump_by(&plan.faults, held);
-    shared.tell(n, &station);
+    shared.tell(alloc, n, &station, before);
     station.trace().len() != before
 }
 
 /// Applies what happens at a node, and tells who waits.
 fn apply_at<R: Wait>(
     rt: &R,
+    alloc: Global,
     n: usize,
     station: &Mutex<Station<'_>>,
     case: Case,
     shared: &Shared,
 ) -> Result<(), StationFault> {
     let mut station = station.lock(rt);
+    let before = station.trace().len();
     let done = station.apply(Input::new(case));
-    shared.tell(n, &station);
+    shared.tell(alloc, n, &station, before);
     done
 }
 
-/// Pumps a station, with a tick after so many turns. Goes on at once after a turn that took something.
+/// Pumps a station, with a tick after so many turns. Takes its lock only in turns in which something may lie on its rings, in which
+/// a packet that was held back is due, or behind which a tick comes, and goes on at once after a turn that took something.
 pub(crate) fn run_pump<R: Wait>(
     rt: &R,
     alloc: Global,
@@ -140,18 +112,27 @@ pub(crate) fn run_pump<R: Wait>(
     shared: &Shared,
 ) {
     if let Ok(mut held) = Held::new(alloc, count_in(rt, station)) {
+        let mut pace = Pace::new();
         let mut since_tick: u64 = 0;
         for _ in 0..plan.turns {
             if shared.is_over() {
                 break;
             }
-            let took = pump_turn(rt, n, station, plan, &mut held, shared);
             since_tick = since_tick.saturating_add(1);
-            if since_tick == plan.tick_every {
+            let ticks = since_tick == plan.tick_every;
+            let took = if pace.is_look(shared.arrivals(n), ticks || held.is_due_next()) {
+                pump_turn(rt, alloc, n, station, plan, &mut held, shared)
+            } else {
+                held.next_turn();
+                false
+            };
+            if ticks {
                 since_tick = 0;
-                let _ = apply_at(rt, n, station, Case::Tick, shared);
+                let _ = apply_at(rt, alloc, n, station, Case::Tick, shared);
             }
-            if !took {
+            if took {
+                pace.look_again();
+            } else {
                 thread::yield_now();
             }
         }
@@ -162,17 +143,16 @@ pub(crate) fn run_pump<R: Wait>(
 /// The next request to the host of a station.
 fn ask_at<R: Wait>(
     rt: &R,
-    alloc: Global,
     n: usize,
     station: &Mutex<Station<'_>>,
     cursor: &mut Cursor,
     shared: &Shared,
-) -> Option<(u64, Vec<u8>)> {
-    if !shared.has_more(n, cursor.entry) {
+) -> Option<(u64, SharedBytes)> {
+    if !shared.has_asks(n, cursor.entry) {
         return None;
     }
     let station = station.lock(rt);
-    next_ask(alloc, station.trace(), cursor)
+    next_ask(station.trace(), cursor)
 }
 
 /// Asks the host, with no lock held, and hands its answer to the station.
@@ -188,7 +168,7 @@ fn serve<H: Host, R: Wait>(
 ) {
     if let Ok(request) = decode(alloc, bytes) {
         let code = host.authorize(&request);
-        let _ = apply_at(rt, n, station, Case::HostAnswer(ask, code), shared);
+        let _ = apply_at(rt, alloc, n, station, Case::HostAnswer(ask, code), shared);
     }
 }
 
@@ -207,7 +187,7 @@ pub(crate) fn run_host<H: Host, R: Wait>(
         if shared.is_over() {
             break;
         }
-        match ask_at(rt, alloc, n, station, &mut cursor, shared) {
+        match ask_at(rt, n, station, &mut cursor, shared) {
             Some((ask, bytes)) => {
                 serve(rt, alloc, n, station, host, ask, bytes.as_slice(), shared)
             }
@@ -217,41 +197,87 @@ pub(crate) fn run_host<H: Host, R: Wait>(
     shared.ends(n);
 }
 
-/// Enters a line, and says where its entry stands.
-fn enter_at<R: Wait>(
-    rt: &R,
-    n: usize,
-    station: &Mutex<Station<'_>>,
-    bytes: SharedBytes,
-    shared: &Shared,
-) -> (usize, Result<(), StationFault>) {
-    let mut station = station.lock(rt);
-    let from = station.trace().len();
-    let entered = station.apply(Input::new(Case::Enter(bytes)));
-    shared.tell(n, &station);
-    (from, entered)
+/// What a session looks for: what the answer to its line has, and those that may be it, where the line has a key.
+#[derive(Clone, Copy)]
+struct Sought<'s> {
+    wanted: Wanted,
+    answers: Option<&'s Answers>,
 }
 
-fn answer_at<R: Wait>(
+/// What is looked for at a node after a line was entered there.
+fn sought_by<'s>(alloc: Global, n: usize, line: &[u8], shared: &'s Shared) -> Option<Sought<'s>> {
+    let message = decode(alloc, line).ok()?;
+    let wanted = Wanted::new(line, message.get(7)?, message.get(11)?)?;
+    let answers = match key_of(&message) {
+        Some(key) => shared.answers_to(n, &key),
+        None => None,
+    };
+    Some(Sought { wanted, answers })
+}
+
+/// Where a session has come that looks for an answer.
+#[derive(Clone, Copy)]
+struct Search {
+    cursor: Cursor,
+    /// How many of those that may be it were told of before.
+    seen: u64,
+}
+
+fn count_told(sought: Option<&Sought<'_>>) -> u64 {
+    match sought {
+        Some(
+            Sought {
+                wanted: _,
+                answers: Some(answers),
+            },
+        ) => answers.count(),
+        _ => 0,
+    }
+}
+
+/// Enters a line, and says where the search for its answer begins.
+fn enter_at<R: Wait>(
     rt: &R,
     alloc: Global,
     n: usize,
     station: &Mutex<Station<'_>>,
-    cursor: &mut Cursor,
-    wanted: &Wanted,
+    bytes: SharedBytes,
+    sought: Option<&Sought<'_>>,
     shared: &Shared,
+) -> (Search, Result<(), StationFault>) {
+    let mut station = station.lock(rt);
+    let before = station.trace().len();
+    let search = Search {
+        cursor: Cursor::at(before),
+        seen: count_told(sought),
+    };
+    let entered = station.apply(Input::new(Case::Enter(bytes)));
+    shared.tell(alloc, n, &station, before);
+    (search, entered)
+}
+
+/// The next answer that may be the wanted one. Where a single one was told of, the entries before it have none.
+fn answer_at<R: Wait>(
+    rt: &R,
+    alloc: Global,
+    station: &Mutex<Station<'_>>,
+    search: &mut Search,
+    sought: &Sought<'_>,
 ) -> Option<Vec<u8>> {
-    if !shared.has_more(n, cursor.entry) {
+    let answers = sought.answers?;
+    if answers.count() == search.seen {
         return None;
     }
     let station = station.lock(rt);
-    next_answer(alloc, station.trace(), cursor, wanted)
-}
-
-/// What the answer to a line has.
-fn wanted_by(alloc: Global, line: &[u8]) -> Option<Wanted> {
-    let message = decode(alloc, line).ok()?;
-    Wanted::new(line, message.get(7)?, message.get(11)?)
+    let count = answers.count();
+    if count == search.seen.saturating_add(1) {
+        search.cursor.skip_to(answers.newest() as usize);
+    }
+    let found = next_answer(alloc, station.trace(), &mut search.cursor, &sought.wanted);
+    if search.cursor.entry >= station.trace().len() {
+        search.seen = count;
+    }
+    found
 }
 
 /// Waits for the answer to a line, for the plan's turns, and no longer than something can come.
@@ -259,20 +285,17 @@ fn await_line<R: Wait>(
     rt: &R,
     alloc: Global,
     station: &Mutex<Station<'_>>,
-    from: usize,
     line: &[u8],
+    sought: &Sought<'_>,
+    search: &mut Search,
     session: &Session<'_>,
     plan: &Plan<'_>,
     shared: &Shared,
 ) -> LineEnd {
-    let Some(wanted) = wanted_by(alloc, line) else {
-        return LineEnd::Nothing;
-    };
     let n = session.node.place();
-    let mut cursor = Cursor::at(from);
     for _ in 0..plan.turns {
         let last = shared.is_stopped() || shared.is_idle(n);
-        match answer_at(rt, alloc, n, station, &mut cursor, &wanted, shared) {
+        match answer_at(rt, alloc, station, search, sought) {
             Some(bytes) => {
                 if is_answer_to(alloc, line, bytes.as_slice()) {
                     return LineEnd::Answer(bytes);
@@ -289,6 +312,39 @@ fn await_line<R: Wait>(
     LineEnd::Nothing
 }
 
+/// Enters a line, and waits for its answer.
+fn run_line<R: Wait>(
+    rt: &R,
+    alloc: Global,
+    station: &Mutex<Station<'_>>,
+    line: &[u8],
+    session: &Session<'_>,
+    plan: &Plan<'_>,
+    shared: &Shared,
+) -> Result<LineEnd, AllocError> {
+    let n = session.node.place();
+    let bytes = SharedBytes::from_slice(alloc, line)?;
+    let sought = sought_by(alloc, n, line, shared);
+    let (mut search, entered) = enter_at(rt, alloc, n, station, bytes, sought.as_ref(), shared);
+    if let Err(fault) = entered {
+        return Ok(LineEnd::Refused(fault));
+    }
+    let Some(sought) = sought else {
+        return Ok(LineEnd::Nothing);
+    };
+    Ok(await_line(
+        rt,
+        alloc,
+        station,
+        line,
+        &sought,
+        &mut search,
+        session,
+        plan,
+        shared,
+    ))
+}
+
 /// Enters the lines of a session, one after the other.
 fn run_lines<R: Wait>(
     rt: &R,
@@ -303,13 +359,7 @@ fn run_lines<R: Wait>(
         return Ok(ends);
     };
     for line in session.lines.iter() {
-        let bytes = SharedBytes::from_slice(alloc, *line)?;
-        let (from, entered) = enter_at(rt, session.node.place(), station, bytes, shared);
-        let end = match entered {
-            Ok(()) => await_line(rt, alloc, station, from, *line, session, plan, shared),
-            Err(fault) => LineEnd::Refused(fault),
-        };
-        ends.push(end)?;
+        ends.push(run_line(rt, alloc, station, *line, session, plan, shared)?)?;
     }
     Ok(ends)
 }
@@ -324,6 +374,6 @@ pub(crate) fn run_session<R: Wait>(
     shared: &Shared,
 ) -> Result<Vec<LineEnd>, AllocError> {
     let ends = run_lines(rt, alloc, station, session, plan, shared);
-    shared.live.fetch_sub(1, Ordering::SeqCst);
+    shared.session_ends();
     ends
 }

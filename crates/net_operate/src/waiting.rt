@@ -1,6 +1,7 @@
 //! What hosts and sessions wait for in a trace.
 
 use request_book::Way;
+use shared_bytes::SharedBytes;
 use std::alloc::Global;
 use switch_node::Entry;
 
@@ -46,6 +47,13 @@ impl Cursor {
         Cursor { entry, output: 0 }
     }
 
+    /// Moves before the first output of a later entry.
+    pub(crate) fn skip_to(&mut self, entry: usize) {
+        if entry > self.entry {
+            *self = Cursor::at(entry);
+        }
+    }
+
     /// Behind an output of an entry that has so many.
     fn behind(entry: usize, output: usize, count: usize) -> Cursor {
         let output = output.saturating_add(1);
@@ -58,10 +66,10 @@ impl Cursor {
 }
 
 /// The first request to the host among an entry's outputs from a place on, and its place.
-fn asked(entry: &Entry, from: usize) -> Option<(usize, u64, &[u8])> {
+fn asked(entry: &Entry, from: usize) -> Option<(usize, u64, &SharedBytes)> {
     for (place, output) in entry.outputs().as_slice().iter().enumerate().skip(from) {
         if let Way::Ask(ask) = output.way() {
-            return Some((place, ask, output.bytes()));
+            return Some((place, ask, output.shared_bytes()));
         }
     }
     None
@@ -79,24 +87,21 @@ fn answered<'e>(entry: &'e Entry, from: usize, wanted: &Wanted) -> Option<(usize
     None
 }
 
-/// The next request to the host in a trace. The cursor moves behind it; where there is no memory for a copy, it stays before it.
-pub(crate) fn next_ask(
-    alloc: Global,
-    trace: &[Entry],
-    cursor: &mut Cursor,
-) -> Option<(u64, Vec<u8>)> {
+/// The next request to the host in a trace. The cursor moves behind it; where its bytes have too many owners, it stays before it.
+pub(crate) fn next_ask(trace: &[Entry], cursor: &mut Cursor) -> Option<(u64, SharedBytes)> {
     for k in cursor.entry..trace.len() {
         if let Some((place, ask, bytes)) = asked(&trace[k], cursor.output) {
-            let copy = Vec::from_slice(alloc, bytes).ok()?;
+            let shared = bytes.share().ok()?;
             *cursor = Cursor::behind(k, place, trace[k].outputs().as_slice().len());
-            return Some((ask, copy));
+            return Some((ask, shared));
         }
         *cursor = Cursor::at(k + 1);
     }
     None
 }
 
-/// The next answer in a trace that may be the wanted one, in the same way. One entry may answer several requests.
+/// The next answer in a trace that may be the wanted one. The cursor moves behind it; where there is no memory for a copy, it stays before
+/// it. One entry may answer several requests.
 pub(crate) fn next_answer(
     alloc: Global,
     trace: &[Entry],

@@ -124,7 +124,7 @@ fn lent_by_plan<R: Threads + Wait + Sync>(
     }
 }
 
-fn lent_on<R: Threads + Wait + Sync>(
+pub(crate) fn lent_on<R: Threads + Wait + Sync>(
     rt: &R,
     alloc: Global,
     tables: &Tables,

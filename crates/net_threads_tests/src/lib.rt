@@ -4,6 +4,10 @@
 #[cfg(test)]
 mod lent;
 #[cfg(test)]
+mod many_runs;
+#[cfg(test)]
+mod many_sessions;
+#[cfg(test)]
 mod network;
 #[cfg(test)]
 mod overlapping;

@@ -19,7 +19,7 @@ use table_checker::{Accepted, check};
 
 /// A host that always gives the same answer.
 #[derive(Clone, Copy)]
-enum Always {
+pub(crate) enum Always {
     Approves,
     Declines,
 }
@@ -103,15 +103,15 @@ fn all_asks_and_posts(stations: &[Station<'_>]) -> (usize, usize) {
 
 /// What came of a plan with one session.
 #[derive(Clone, Copy, Debug, PartialEq, Eq)]
-struct Outcome {
+pub(crate) struct Outcome {
     /// How many lines the session has, how many of them got the code, and how many got nothing.
-    lines: usize,
-    coded: usize,
-    silent: usize,
+    pub lines: usize,
+    pub coded: usize,
+    pub silent: usize,
     /// How often a host was asked, and how many advices were posted.
-    asks: usize,
-    posts: usize,
-    verdict: Verdict,
+    pub asks: usize,
+    pub posts: usize,
+    pub verdict: Verdict,
 }
 
 fn ran<R: Threads + Wait + Sync>(
@@ -160,13 +160,13 @@ fn plan_text(alloc: Global, head: &str, count: usize) -> Result<String, AllocErr
 
 /// A plan for a network, and the code that its hosts give.
 #[derive(Clone, Copy)]
-struct Run {
-    sample: Sample,
-    head: &'static str,
-    requests: usize,
-    host: Always,
+pub(crate) struct Run {
+    pub sample: Sample,
+    pub head: &'static str,
+    pub requests: usize,
+    pub host: Always,
     /// The code that is looked for in the answers.
-    code: [u8; 2],
+    pub code: [u8; 2],
 }
 
 fn outcome_of_text<R: Threads + Wait + Sync>(
@@ -222,7 +222,11 @@ fn outcome_if_run<R: Threads + Wait + Sync>(
     }
 }
 
-fn outcome_of<R: Threads + Wait + Sync>(rt: &R, alloc: Global, run: Run) -> Result<Outcome, Fail> {
+pub(crate) fn outcome_of<R: Threads + Wait + Sync>(
+    rt: &R,
+    alloc: Global,
+    run: Run,
+) -> Result<Outcome, Fail> {
     let text = plan_text(alloc, run.head, run.requests)?;
     match outcome_if_run(rt, alloc, text.as_bytes(), &run)? {
         Some(outcome) => Ok(outcome),
@@ -231,7 +235,7 @@ fn outcome_of<R: Threads + Wait + Sync>(rt: &R, alloc: Global, run: Run) -> Resu
 }
 
 /// A hundred requests over two links, which the host approves.
-const HUNDRED: Run = Run {
+pub(crate) const HUNDRED: Run = Run {
     sample: Sample::LineOfTwoHomes,
     head: "PLAN 1\nturns 4000000000\ntick_every 0\n",
     requests: 100,
@@ -240,7 +244,7 @@ const HUNDRED: Run = Run {
 };
 
 /// One request over one link, which the host approves.
-const ONE: Run = Run {
+pub(crate) const ONE: Run = Run {
     sample: Sample::TwoNodes,
     head: "PLAN 1\nturns 4000000000\ntick_every 0\n",
     requests: 1,
@@ -249,7 +253,7 @@ const ONE: Run = Run {
 };
 
 /// Whether each request of the run gets its code, a host is asked so often, and what was done is a run.
-fn are_all_answered<R: Threads + Wait + Sync>(
+pub(crate) fn are_all_answered<R: Threads + Wait + Sync>(
     rt: &R,
     alloc: Global,
     run: Run,

@@ -32,7 +32,7 @@ fn take<R: Wait>(rt: &R, alloc: Global, network: &Network<'_, '_>) -> Result<boo
     Ok(step(rt, network, 1, Case::Take(LinkNo::new(0), 7, bytes)) == Some(Ok(())))
 }
 
-fn swap<R: Wait>(rt: &R, network: &Network<'_, '_>) -> bool {
+pub(crate) fn swap<R: Wait>(rt: &R, network: &Network<'_, '_>) -> bool {
     let stations = network.stations();
     match (stations.get(0), stations.get(1)) {
         (Some(first), Some(second)) => {
