@@ -5,4 +5,4 @@ mod Growing
 pub mod LineFields
 mod Pairs
 pub mod Together
-mod Ascending
+mod Marked

@@ -1,6 +1,7 @@
 pub mod Adding
 pub mod Kept
 pub mod Like
+pub mod Marks
 pub mod Ranks
 pub mod Reading
 pub mod Runs

@@ -1,7 +1,6 @@
 -- Rows of which those of one prefix stand together.
 use Rattle.std.specs.Prelude.{◌≡◌, ℕ, ◌≤◌, ◌==◌, Bool, true, false, List, [], ◌∷◌, length, drop, Option, Some, None, if◌then◌else◌, MatchOption}
-use Rattle.std.specs.Cmp.Lexicographic.{pointwise, slice_cmp}
-use Rattle.std.specs.Ordering.{is_lt, nat_cmp}
+use Rattle.std.specs.Cmp.Lexicographic.{pointwise}
 use Rattle.std.specs.List.{list_any}
 use Rattle.std.specs.Map.{lookup}
 use Rattle.rank_cert.specs.declared.cert.Rank.{Rank}
@@ -20,17 +19,6 @@ begins_with (r ∷ rs) prefix = pointwise ◌==◌ r.prefix prefix
 -- a row has the name
 abbrev pub has_name : List Rank → List ℕ → Bool
 has_name rows name = list_any (λ r. pointwise ◌==◌ r.node name) rows
-
--- a name comes behind the greatest
-abbrev pub is_behind : Option (List ℕ) → List ℕ → Bool
-is_behind None name = false
-is_behind (Some greatest) name = is_lt (slice_cmp nat_cmp greatest name)
-
--- no row's name comes behind the greatest, where one is known
-abbrev pub AreUpTo : Option (List ℕ) → List Rank → Type 0
-AreUpTo None rows = Unit {0}
-AreUpTo (Some greatest) [] = Unit {0}
-AreUpTo (Some greatest) (r ∷ rs) = (is_lt (slice_cmp nat_cmp greatest r.node) ≡ false) × AreUpTo (Some greatest) rs
 
 -- where the rows of a prefix begin
 abbrev pub begin_of : List (List ℕ × ℕ) → List ℕ → Option ℕ

@@ -4,6 +4,7 @@
 mod cert;
 mod fault;
 mod kept;
+mod marks;
 mod read;
 mod row;
 mod runs;

@@ -2,9 +2,11 @@
 ghost use Rattle.std.specs.Prelude.{◌≡◌, ◌≤◌, ◌==◌, ◌∷◌, ◌++◌, ◌≢◌, [], ℕ, List, true, false, is_some, length, drop, Some, None, Ok, IfOk, MatchOption, OnErr, if◌then◌else◌};
 ghost use Rattle.std.specs.Cmp.Lexicographic.{pointwise};
 ghost use Rattle.rank_cert.specs.Ranks.{rank_of, IsCert};
-ghost use Rattle.rank_cert.specs.Runs.{rank_in_run, begins_with, has_name, begin_of, is_behind, IsRun, HasNone, AreUpTo};
+ghost use Rattle.rank_cert.specs.Runs.{rank_in_run, begins_with, has_name, begin_of, IsRun, HasNone};
+ghost use Rattle.rank_cert.specs.Marks.{AreMarked};
 
 use crate::cert::{NEAR, Rank};
+use crate::marks::{Marks, place_of};
 use card_digits::{Name, Prefix};
 use indexmap::IndexSet;
 use std::alloc::{AllocError, Global};
@@ -20,21 +22,22 @@ pub(crate) struct Runs {
     begins: HashMap<Prefix, usize>,
     /// Where the run of the last row begins.
     last: usize,
-    /// The greatest name in that run: a greater one is none of them, and in ascending order each is greater.
-    greatest: Option<Name>,
+    /// The marks of the names in that run: of a name without one no row has to be looked at.
+    marks: Marks,
 }
 
 impl Model for Runs {
     ghost use Rattle.std.specs.Prelude.{List};
     ghost use Rattle.rank_cert.specs.declared.cert.Rank.{Rank};
     ghost use Rattle.std.specs.Prelude.{drop};
-    ghost use Rattle.rank_cert.specs.Runs.{AreRuns, AreUpTo};
+    ghost use Rattle.rank_cert.specs.Runs.{AreRuns};
+    ghost use Rattle.rank_cert.specs.Marks.{AreMarked};
 
     ghost Value = { List Rank };
 
     ghost view = { λ a. a.rows.items };
 
-    ghost invariant = { λ a. AreRuns a.rows.items a.begins.entries a.last × AreUpTo a.greatest (drop a.last a.rows.items) };
+    ghost invariant = { λ a. AreRuns a.rows.items a.begins.entries a.last × AreMarked a.marks (drop a.last a.rows.items) };
 }
 
 /// What became of a row that was to be added.
@@ -55,7 +58,7 @@ impl Runs {
             rows: Vec::new(alloc),
             begins: HashMap::new(alloc),
             last: 0,
-            greatest: None,
+            marks: Marks::none(),
         }
     }
 
@@ -67,7 +70,7 @@ impl Runs {
             rows: Vec::with_capacity(alloc, rows)?,
             begins: HashMap::new(alloc),
             last: 0,
-            greatest: None,
+            marks: Marks::none(),
         })
     }
 
@@ -98,12 +101,13 @@ impl Runs {
         ensures err { OnErr result (self.new ≡ self.old) }
     {
         if begins_with(rows_from(&self.rows, self.last), &row.prefix) {
-            return add_to_run(&mut self.rows, self.last, &mut self.greatest, row);
+            return add_to_run(&mut self.rows, self.last, &mut self.marks, row);
         }
         let place = self.rows.len();
         if begin_run(&mut self.rows, &mut self.begins, row)? {
             self.last = place;
-            self.greatest = Some(row.node);
+            self.marks = Marks::none();
+            self.marks.mark(place_of(row.node.as_slice()));
             Ok(Added::Yes)
         } else {
             Ok(Added::Apart)
@@ -160,41 +164,32 @@ fn has_name(rows: &[Rank], node: &Name) -> bool
 
 ghost use Rattle.rank_cert.specs.Adding.{Adds};
 
-/// Whether a name comes behind the greatest.
-fn is_behind(greatest: &Option<Name>, node: &Name) -> bool
-    ensures { result ≡ is_behind greatest.now node.now }
-{
-    match greatest {
-        Some(name) => name.cmp(node).is_lt(),
-        None => false,
-    }
-}
-
-/// Whether a row has the name, which none has where it comes behind the greatest.
-fn is_known(run: &[Rank], behind: bool, node: &Name) -> bool
-    requires { behind ≡ true → has_name run.now node.now ≡ false }
+/// Whether a row has the name, which none has where it has no mark.
+fn is_known(run: &[Rank], is_marked: bool, node: &Name) -> bool
+    requires { is_marked ≡ false → has_name run.now node.now ≡ false }
     ensures { result ≡ has_name run.now node.now }
 {
-    !behind && has_name(run, node)
+    is_marked && has_name(run, node)
 }
 
-/// Adds a row to the run that begins at a place and has its prefix. A name is compared with the greatest, and with all, no more than
-/// a run may have, only where it doesn't come behind that.
+/// Adds a row to the run that begins at a place and has its prefix. A name is compared with those of the run, no more than a run may have,
+/// only where it has a mark.
 fn add_to_run(
     rows: &mut Vec<Rank>,
     begin: usize,
-    greatest: &mut Option<Name>,
+    marks: &mut Marks,
     row: Rank,
 ) -> Result<Added, AllocError>
     requires within { begin ≤ length rows.old.items }
-    requires up_to { AreUpTo greatest.old (drop begin rows.old.items) }
+    requires marked { AreMarked marks.old (drop begin rows.old.items) }
     ensures ok { IfOk result (λ added. Adds (has_name (drop begin rows.old.items) row.node) rows.old.items row added rows.new.items) }
     ensures err { OnErr result (rows.new.items ≡ rows.old.items) }
-    ensures up_to { AreUpTo greatest.new (drop begin rows.new.items) }
+    ensures marked { AreMarked marks.new (drop begin rows.new.items) }
 {
-    let behind = is_behind(greatest, &row.node);
+    let place = place_of(row.node.as_slice());
+    let is_marked = marks.has(place);
     let run = rows_from(rows, begin);
-    if is_known(run, behind, &row.node) {
+    if is_known(run, is_marked, &row.node) {
         return Ok(Added::Twice);
     }
     if run.len() >= NEAR {
@@ -202,9 +197,7 @@ fn add_to_run(
     }
     rows.reserve(1)?;
     rows.push_reserved(row);
-    if behind {
-        *greatest = Some(row.node);
-    }
+    marks.mark(place);
     Ok(Added::Yes)
 }
 

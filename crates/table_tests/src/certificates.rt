@@ -137,6 +137,23 @@ fn finds_rows_that_stand_apart(rt: HostRuntime) -> Result<(), Fail> {
     Ok(())
 }
 
+/// The names AO and B0 have one mark, since their bytes are the digits of one number to the base 31.
+#[test]
+fn tells_names_of_one_mark_apart(rt: HostRuntime) -> Result<(), Fail> {
+    let prefix = Prefix::read(b"4").ok().ok_or("prefix")?;
+    let mut cert = Cert::new(rt.alloc());
+    assert!(rt; cert.add(b"AO", prefix, 9)?);
+    assert!(rt; cert.add(b"B0", prefix, 10)?);
+    assert!(rt; !cert.add(b"AO", prefix, 11)?);
+    assert!(rt; cert.add(b"BP", prefix, 65_535)?);
+    assert!(rt; !cert.add(b"B0", prefix, 0)?);
+    let text = b"RANKS 1\nAO 4 9\nB0 4 10\nBP 4 65535\nEND\n";
+    assert!(rt; write_cert(rt.alloc(), &cert)?.as_slice() == text.as_slice());
+    let twice = b"RANKS 1\nAO 4 9\nB0 4 10\nAO 4 9\nEND\n";
+    assert_eq!(rt; fault(rt.alloc(), twice), Some(CertFault::Twice(4)));
+    Ok(())
+}
+
 /// Another name for each of the first hundred numbers.
 fn pair_of_letters(number: u8) -> [u8; 2] {
     [b'a' + number / 10 % 10, b'a' + number % 10]

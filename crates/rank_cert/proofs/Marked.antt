@@ -1,0 +1,43 @@
+-- Marks of the names in a run.
+use Rattle.std.proofs.Common.{◌≡◌, ℕ, ◌==◌, ◌++◌, ◌≤◌, ◌<◌, Bool, true, false, List, [], ◌∷◌, refl, ◌∙◌, inl, inr, length, drop, get_or, set}
+use Rattle.std.specs.Cmp.Lexicographic.{pointwise}
+use Rattle.std.proofs.lemmas.Bool.{cases_Bool}
+use Rattle.std.proofs.lemmas.Bool.Decides.{eqb_tells}
+use Rattle.std.proofs.lemmas.List.{drop-append-le, get_or-set_same, get_or-set_other}
+use Rattle.std.proofs.Math.Seq.{drop-append_seam}
+use Rattle.rank_cert.specs.declared.cert.Rank.{Rank}
+use Rattle.rank_cert.specs.Runs.{has_name}
+use Rattle.rank_cert.specs.Marks.{place_of, is_marked, Keeps, AreMarked}
+use Rattle.rank_cert.proofs.Growing.{digits_are}
+
+not_both : (b : Bool) → b ≡ true → b ≡ false → ⊥
+not_both true is not = absurd cc
+not_both false is not = absurd cc
+
+-- a name without a mark is none of the run's
+pub unmarked_none : (marks : List Bool) (rows : List Rank) (name : List ℕ) → AreMarked marks rows → is_marked marks (place_of name) ≡ false → has_name rows name ≡ false
+unmarked_none marks [] name marked is = refl
+unmarked_none marks (r ∷ rows) name marked is = elim (cases_Bool (pointwise ◌==◌ r.node name)) [
+  | inl same ↦ absurd (not_both (is_marked marks (place_of name)) (rw (digits_are r.node name same) at marked.0) is)
+  | inr other ↦ rw other (unmarked_none marks rows name marked.1 is)
+]
+
+-- one mark more keeps the others
+pub stays : (marks : List Bool) (place : ℕ) → place < length marks → Keeps marks (set marks place true)
+stays marks place within other is = elim (eqb_tells other place) [
+  | inl same ↦ rw same.1 (get_or-set_same marks place true false within)
+  | inr differs ↦ get_or-set_other marks place other true false differs.1 ∙ is
+]
+
+marked-push : (old new : List Bool) (rows : List Rank) (r : Rank) → Keeps old new → is_marked new (place_of r.node) ≡ true → AreMarked old rows → AreMarked new (rows ++ r ∷ [])
+marked-push old new [] r keeps is marked = (is, tt)
+marked-push old new (s ∷ rows) r keeps is marked = (keeps (place_of s.node) marked.0, marked-push old new rows r keeps is marked.1)
+
+-- a row more in a run
+pub push_marked : (old new : List Bool) (rows : List Rank) (begin : ℕ) (r : Rank) → Keeps old new → is_marked new (place_of r.node) ≡ true → begin ≤ length rows → AreMarked old (drop begin rows)
+    → AreMarked new (drop begin (rows ++ r ∷ []))
+push_marked old new rows begin r keeps is within marked = rw (drop-append-le begin rows (r ∷ []) within) (marked-push old new (drop begin rows) r keeps is marked)
+
+-- a row that begins a run
+pub push_first : (marks : List Bool) (rows : List Rank) (r : Rank) → is_marked marks (place_of r.node) ≡ true → AreMarked marks (drop (length rows) (rows ++ r ∷ []))
+push_first marks rows r is = rw (drop-append_seam rows (r ∷ [])) (is, tt)
