@@ -1,5 +1,5 @@
 //! Ranks for all classes.
-use crate::walk::{MOST_NODES, Routes, Stop, Walk};
+use crate::walk::{Routes, Stop, Walk};
 use card_digits::{NodeNo, Prefix};
 use net_rows::{Route, Tables, classes};
 use rank_cert::Cert;
@@ -46,6 +46,7 @@ fn add_classes(
     in_force: &mut InForce<'_, Route>,
     cert: &mut Cert,
 ) -> Result<(), Made> {
+    let mut walk = Walk::new(alloc);
     for class in classes {
         in_force.enter(*class);
         let Some(issuer) = tables.issuer_at(class) else {
@@ -56,7 +57,7 @@ fn add_classes(
             in_force: &*in_force,
             home: issuer.home,
         };
-        match add_ranks(alloc, &routes, class, cert) {
+        match add_ranks(&mut walk, &routes, class, cert) {
             Ok(()) => {}
             Err(Stop::Circle(nodes)) => return Err(Made::Circle(*class, nodes)),
             Err(Stop::GaveUp) => return Err(Made::GaveUp),
@@ -77,10 +78,15 @@ fn count(tables: &Tables, classes: &[Prefix]) -> usize {
 }
 
 /// Adds the ranks of a class.
-fn add_ranks(alloc: Global, routes: &Routes, class: &Prefix, cert: &mut Cert) -> Result<(), Stop> {
-    let mut walk = Walk::new(alloc);
+fn add_ranks(
+    walk: &mut Walk,
+    routes: &Routes,
+    class: &Prefix,
+    cert: &mut Cert,
+) -> Result<(), Stop> {
+    walk.start_anew();
     for (i, row) in routes.tables.nodes().iter().enumerate() {
-        let rank = walk.rank(routes, NodeNo::new(i), MOST_NODES)?;
+        let rank = walk.rank(routes, NodeNo::new(i))?;
         if !cert.add_rank(row.name, *class, rank)? {
             return Err(Stop::GaveUp);
         }

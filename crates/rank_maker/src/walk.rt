@@ -6,7 +6,7 @@ use net_rows::{Route, Tables};
 use rows_in_force::InForce;
 use std::alloc::{AllocError, AllocFailed, Global};
 
-pub(crate) const MOST_NODES: usize = 64;
+const MOST_NODES: usize = 64;
 
 /// What is known of a node.
 #[derive(Clone, Copy, Debug)]
@@ -73,20 +73,35 @@ impl Walk {
         }
     }
 
-    /// The number of links of the longest walk from the node. No path is longer than all nodes, so `depth` is enough.
-    pub(crate) fn rank(
-        &mut self,
-        routes: &Routes,
-        node: NodeNo,
-        depth: usize,
-    ) -> Result<u16, Stop> {
+    /// Forgets all ranks, for another class.
+    pub(crate) fn start_anew(&mut self) {
+        self.marks = [Mark::New; MOST_NODES];
+        self.path.clear();
+    }
+
+    /// The number of links of the longest walk from the node.
+    #[inline]
+    pub(crate) fn rank(&mut self, routes: &Routes, node: NodeNo) -> Result<u16, Stop> {
+        match self.known(node) {
+            Some(rank) => Ok(rank),
+            None => self.rank_anew(routes, node, MOST_NODES),
+        }
+    }
+
+    /// The rank of a node that has one already, as most ends of links have.
+    #[inline]
+    fn known(&self, node: NodeNo) -> Option<u16> {
         match self.marks[node.place()] {
-            Mark::Ranked(rank) => return Ok(rank),
-            Mark::OnPath => {
-                let nodes = circle(self.alloc, &self.path, node)?;
-                return Err(Stop::Circle(nodes));
-            }
-            Mark::New => {}
+            Mark::Ranked(rank) => Some(rank),
+            Mark::New | Mark::OnPath => None,
+        }
+    }
+
+    /// The rank of a node that has none yet. No path is longer than all nodes, so `depth` is enough.
+    fn rank_anew(&mut self, routes: &Routes, node: NodeNo, depth: usize) -> Result<u16, Stop> {
+        if let Mark::OnPath = self.marks[node.place()] {
+            let nodes = circle(self.alloc, &self.path, node)?;
+            return Err(Stop::Circle(nodes));
         }
         if depth == 0 {
             return Err(Stop::GaveUp);
@@ -95,8 +110,12 @@ impl Walk {
         self.path.push(node)?;
         let mut rank = 0u16;
         for link in routes.links(node) {
-            let far = self.rank(routes, routes.tables.other_end(node, *link), depth - 1)?;
-            rank = rank.max(far.saturating_add(1));
+            let far = routes.tables.other_end(node, *link);
+            let far_rank = match self.known(far) {
+                Some(known) => known,
+                None => self.rank_anew(routes, far, depth - 1)?,
+            };
+            rank = rank.max(far_rank.saturating_add(1));
         }
         self.path.pop();
         self.marks[node.place()] = Mark::Ranked(rank);
