@@ -5,3 +5,4 @@ pub mod Members
 pub mod Documents
 pub mod Pairs
 pub mod Found
+pub mod Texts

@@ -13,7 +13,8 @@ use std::alloc::Global;
 use toml::Value;
 use toml_parser::text::{byte_at, first, skip};
 
-fn ends_line(s: &str) -> bool
+/// Whether nothing but white space and a comment is left of the line.
+pub(crate) fn ends_line(s: &str) -> bool
     ensures { result ≡ spec.ends_line (lexical.skip_ws s.now) }
 {
     let end = skip_ws(s);

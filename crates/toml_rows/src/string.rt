@@ -1,6 +1,7 @@
 //! Strings.
-ghost use Rattle.std.specs.Prelude.{◌≡◌, ◌<◌, ◌≤◌, true, false, length, string_bytes, Some, IfSome};
+ghost use Rattle.std.specs.Prelude.{◌≡◌, ◌==◌, ◌<◌, ◌≤◌, true, false, length, string_bytes, Some, IfSome};
 ghost use Rattle.std.specs.List.{prefix_len};
+ghost use Rattle.toml_parser.specs.Lexical as lexical;
 ghost use Rattle.toml_parser.specs.Strings as strings;
 
 use std::alloc::Global;
@@ -30,7 +31,8 @@ fn is_plain(byte: u8) -> bool
 }
 
 /// What stands between two quotes, and what follows them. None where it is empty or has an escape, and for the other kinds of strings.
-fn plain_string(s: &str) -> Option<(&str, &str)>
+pub(crate) fn plain_string(s: &str) -> Option<(&str, &str)>
+    ensures begins { IfSome result (λ _. (lexical.first s.now == lexical.quote) ≡ true) }
     ensures value { IfSome result (λ p. strings.quoted s.now ≡ Some (p.0.now, p.1.now)) }
     ensures shorter { IfSome result (λ p. length p.1.now < length s.now) }
 {

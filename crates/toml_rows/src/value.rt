@@ -30,7 +30,7 @@ fn atom(alloc: Global, s: &str) -> Option<(Value, &str)>
 
 /// What follows the comma after an element, or the closing bracket.
 #[tactic(auto, unfolding(toml::specs::Parse::after_element))]
-fn after_element(s: &str) -> Option<&str>
+pub(crate) fn after_element(s: &str) -> Option<&str>
     ensures value { IfSome result (λ rest. spec.after_element lexical.right_bracket s.now ≡ Some rest.now) }
     ensures within { IfSome result (λ rest. length rest.now ≤ length s.now) }
 {

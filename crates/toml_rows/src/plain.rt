@@ -1,0 +1,147 @@
+//! Rows whose keys are known before they are read: each pair is read where it stands, and no tree is made of it. None says only that the
+//! line is of another form, or another line, or that memory was refused; it is for `next_row` to read.
+ghost use Rattle.std.specs.Prelude.{◌≡◌, ℕ, ◌==◌, ◌<◌, false, [], length, Some, IfSome};
+ghost use Rattle.toml.specs.Data.{string, integer};
+ghost use Rattle.toml.specs.Parse as spec;
+ghost use Rattle.toml_parser.specs.Lexical as lexical;
+ghost use Rattle.toml_rows.specs.Rows.{IsLine, row_line, pair_line};
+ghost use Rattle.toml_rows.specs.Texts.{IsOpened, IsText, IsClosed};
+
+use crate::blank::{skip_blank, skip_ws};
+use crate::key::after_key;
+use crate::line::{after_row_header, ends_line};
+use crate::string::plain_string;
+use crate::value::after_element;
+use std::alloc::Global;
+use toml_parser::text::{first, skip};
+use toml_parser::{Scalar, starts_string, unquoted};
+
+/// What follows the header `[[word]]`, where it comes next.
+pub fn row_header<'a>(alloc: Global, s: &'a str, word: &str) -> Option<&'a str>
+    ensures { IfSome result (λ rest. IsLine (row_line word.now) s.now rest.now) }
+{
+    after_row_header(alloc, s, word)
+}
+
+/// What follows the key of this word, its `=` and the white space after it.
+#[tactic(auto, unfolding(toml::specs::Parse::key_equals))]
+fn after_equals<'a>(alloc: Global, s: &'a str, word: &str) -> Option<&'a str>
+    ensures value { IfSome result (λ rest. spec.key_equals s.now ≡ Some (([], word.now), rest.now)) }
+    ensures shorter { IfSome result (λ rest. length rest.now < length s.now) }
+{
+    let rest = after_key(alloc, s, word)?;
+    if first(rest) != b'=' {
+        return None;
+    }
+    Some(skip_ws(skip(rest, 1)))
+}
+
+/// What stands between two quotes, as a value.
+fn plain_text(s: &str) -> Option<(&str, &str)>
+    ensures value { IfSome result (λ p. (depth : ℕ) → spec.val depth s.now ≡ Some (string p.0.now, p.1.now)) }
+    ensures shorter { IfSome result (λ p. length p.1.now < length s.now) }
+{
+    let (text, rest) = plain_string(s)?;
+    Some((text, rest))
+}
+
+/// A whole number.
+#[tactic(auto, unfolding(toml::specs::Parse::atom))]
+fn whole_atom(alloc: Global, s: &str) -> Option<(i64, &str)>
+    ensures value { IfSome result (λ p. spec.atom s.now ≡ Some (integer p.0, p.1.now)) }
+    ensures shorter { IfSome result (λ p. length p.1.now < length s.now) }
+{
+    if starts_string(s) {
+        return None;
+    }
+    match unquoted(alloc, s) {
+        Ok((Scalar::Integer(number), rest)) => Some((number, rest)),
+        _ => None,
+    }
+}
+
+/// A whole number, as a value.
+fn whole_number(alloc: Global, s: &str) -> Option<(i64, &str)>
+    ensures value { IfSome result (λ p. spec.val 80 s.now ≡ Some (integer p.0, p.1.now)) }
+    ensures shorter { IfSome result (λ p. length p.1.now < length s.now) }
+{
+    if first(s) == b'[' || first(s) == b'{' {
+        return None;
+    }
+    whole_atom(alloc, s)
+}
+
+/// The text at a key, and what follows its line. None where it is empty or has an escape, and for the other kinds of strings.
+#[tactic(auto, unfolding(toml::specs::Parse::line, toml::specs::Parse::expression))]
+pub fn text_pair<'a>(alloc: Global, s: &'a str, word: &str) -> Option<(&'a str, &'a str)>
+    ensures { IfSome result (λ p. IsLine (pair_line (word.now, string p.0.now)) s.now p.1.now) }
+{
+    let start = skip_blank(s);
+    if first(start) == b'[' {
+        return None;
+    }
+    let (text, rest) = plain_text(after_equals(alloc, start, word)?)?;
+    if !ends_line(rest) {
+        return None;
+    }
+    Some((text, rest))
+}
+
+/// The whole number at a key, and what follows its line.
+#[tactic(auto, unfolding(toml::specs::Parse::line, toml::specs::Parse::expression))]
+pub fn number_pair<'a>(alloc: Global, s: &'a str, word: &str) -> Option<(i64, &'a str)>
+    ensures { IfSome result (λ p. IsLine (pair_line (word.now, integer p.0)) s.now p.1.now) }
+{
+    let start = skip_blank(s);
+    if first(start) == b'[' {
+        return None;
+    }
+    let (number, rest) = whole_number(alloc, after_equals(alloc, start, word)?)?;
+    if !ends_line(rest) {
+        return None;
+    }
+    Some((number, rest))
+}
+
+/// What follows the opening bracket of the list at a key.
+pub fn open_texts<'a>(alloc: Global, s: &'a str, word: &str) -> Option<&'a str>
+    ensures { IfSome result (λ inside. IsOpened word.now s.now inside.now) }
+{
+    let start = skip_blank(s);
+    if first(start) == b'[' {
+        return None;
+    }
+    let value = after_equals(alloc, start, word)?;
+    if first(value) != b'[' {
+        return None;
+    }
+    Some(skip(value, 1))
+}
+
+/// The text that comes next in a list, and what follows it and its comma. None as for a pair, and at the end of the list.
+pub fn next_text(s: &str) -> Option<(&str, &str)>
+    ensures { IfSome result (λ p. IsText p.0.now s.now p.1.now) }
+{
+    let start = skip_blank(s);
+    if first(start) == b']' {
+        return None;
+    }
+    let (text, after) = plain_text(start)?;
+    let rest = after_element(after)?;
+    Some((text, rest))
+}
+
+/// What follows the line that a list ends, where its closing bracket comes next.
+pub fn close_texts(s: &str) -> Option<&str>
+    ensures { IfSome result (λ rest. IsClosed s.now rest.now) }
+{
+    let start = skip_blank(s);
+    if first(start) != b']' {
+        return None;
+    }
+    let rest = skip(start, 1);
+    if !ends_line(rest) {
+        return None;
+    }
+    Some(rest)
+}
