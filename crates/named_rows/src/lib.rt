@@ -9,4 +9,4 @@ mod several;
 pub use named_rows::{Named, NamedRows};
 pub use node::node_at;
 pub use node_prefixes::{NodePrefixes, new_prefix_at};
-pub use several::{links_at, nodes_at};
+pub use several::{are_own, links_at, nodes_at};

@@ -1,7 +1,8 @@
 //! Rows that are found by their names.
-ghost use Rattle.std.specs.Prelude.{◌≡◌, ◌<◌, length, map, IfOk};
+ghost use Rattle.std.specs.Prelude.{◌≡◌, ◌<◌, length, map, IfOk, IfSome};
 ghost use Rattle.named_rows.specs.Rows.{AreNamed};
 ghost use Rattle.named_rows.specs.Reading.{named};
+ghost use Rattle.named_rows.specs.Plain.{IsNamed};
 
 use card_digits::Name;
 use indexmap::IndexSet;
@@ -68,6 +69,16 @@ impl<R: Named> NamedRows<R> {
         self.names
             .get_index_of(name)
             .ok_or(TableFault::UnknownName(at))
+    }
+
+    /// The place of the row whose name the text is.
+    pub fn find(&self, text: &str) -> Option<usize>
+        ensures value { IfSome result (λ i. IsNamed (map R.name_of self.now) text.now i) }
+        ensures within { IfSome result (λ i. i < length self.now) }
+        ensures few { IfSome result (λ i. i < R.most) }
+    {
+        let name = Name::read(text.as_bytes())?;
+        self.names.get_index_of(&name)
     }
 
     /// The rows.

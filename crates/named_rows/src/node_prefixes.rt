@@ -1,5 +1,5 @@
 //! Rows at a node, with a prefix that is new there.
-ghost use Rattle.std.specs.Prelude.{◌≡◌, ◌==◌, ◌<◌, not, length, slice_set, OnOk, OnErr, IfOk};
+ghost use Rattle.std.specs.Prelude.{◌≡◌, ◌==◌, ◌<◌, true, false, not, length, slice_set, OnOk, OnErr, IfOk};
 ghost use Rattle.indexmap.specs.IndexSet.{insert_key};
 ghost use Rattle.std.specs.Cmp.Lexicographic.{pointwise};
 ghost use Rattle.card_digits.specs.Attempts.{Gives};
@@ -7,6 +7,7 @@ ghost use Rattle.table_fields.specs.Faults.{is_memory};
 ghost use Rattle.table_fields.specs.Fields.{row_view};
 ghost use Rattle.named_rows.specs.Rows.{node_names, prefixes_at, AreEmpty, IsTaken, is_among};
 ghost use Rattle.named_rows.specs.Reading.{new_prefix_at};
+ghost use Rattle.named_rows.specs.Plain.{IsNewPrefix};
 
 use crate::named_rows::NamedRows;
 use crate::node::node_at;
@@ -62,6 +63,22 @@ impl NodePrefixes {
         ensures stays { OnErr result (self.new ≡ self.old) }
     {
         Ok(self.sets[node.place()].insert(prefix)?)
+    }
+
+    /// Takes a prefix for one row more of a node. Nothing is taken, and the answer is false, where the node has 4,096 rows, where the
+    /// prefix isn't new there, and where memory is refused.
+    pub fn take(&mut self, node: NodeNo, prefix: Prefix) -> bool
+        requires { node < length self.old }
+        ensures taken { result ≡ true → IsNewPrefix node prefix self.old self.new }
+        ensures stays { result ≡ false → self.new ≡ self.old }
+    {
+        if self.count(node) >= MOST_ROWS {
+            return false;
+        }
+        match self.insert(node, prefix) {
+            Ok(is_new) => is_new,
+            Err(_) => false,
+        }
     }
 }
 

@@ -1,5 +1,5 @@
 //! Fields that name several rows.
-ghost use Rattle.std.specs.Prelude.{◌≡◌, ◌≤◌, [], map, IfOk, true};
+ghost use Rattle.std.specs.Prelude.{◌≡◌, ◌==◌, ◌≤◌, ◌&&◌, [], map, not, IfOk, true};
 ghost use Rattle.std.specs.List.{list_all};
 ghost use Rattle.card_digits.specs.Attempts.{Gives};
 ghost use Rattle.table_fields.specs.Faults.{is_memory};
@@ -145,4 +145,12 @@ pub fn links_at(
         return Err(TableFault::Twice(row.place(key)));
     }
     Ok(found)
+}
+
+/// Whether each of the links has the node as an end, and none stands twice.
+pub fn are_own(links: &NamedRows<Link>, node: NodeNo, found: &Links) -> bool
+    ensures { result ≡ (list_all (is_end links.now node) found.now && not (is_twice ◌==◌ found.now)) }
+{
+    let found = found.as_slice();
+    all_at(links.as_slice(), node, found) && !is_twice(found)
 }
