@@ -20,7 +20,7 @@ rows_more word (m ∷ rows) ms text next rest are is =
 same_Ok : {R : Type 0} (a b : List R) → ◌≡◌ {A = Result (List R) TableFault} (Ok a) (Ok b) → a ≡ b
 same_Ok a b e = cc
 
-each_more : {A R : Type 0} (read : List R → A → Result R TableFault) (done rows : List R) (xs : List A) (x : A) (r : R) → each read done xs ≡ Ok rows → read rows x ≡ Ok r → each read done (xs ++ x ∷ []) ≡ Ok (rows ++ r ∷ [])
+pub each_more : {A R : Type 0} (read : List R → A → Result R TableFault) (done rows : List R) (xs : List A) (x : A) (r : R) → each read done xs ≡ Ok rows → read rows x ≡ Ok r → each read done (xs ++ x ∷ []) ≡ Ok (rows ++ r ∷ [])
 each_more read done rows [] x r are is = rw (same_Ok done rows are, is)
 each_more {R = R} read done rows (y ∷ xs) x r are is = by_first (read done y) are (λ s more. each_more read (done ++ s ∷ []) rows xs x r more is)
   where

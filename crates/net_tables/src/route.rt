@@ -10,11 +10,13 @@ ghost use Rattle.net_tables.specs.Reading.{route_of};
 ghost use Rattle.net_tables.specs.InOrder.{AreNext};
 ghost use Rattle.table_fields.specs.declared.place.Table.TheVariants as table;
 
+use crate::plain::{node_named, plain_links, prefix_of};
 use crate::rows::{RowReader, next_rows, read_rows};
 use named_rows::{NamedRows, NodePrefixes, links_at, new_prefix_at};
 use net_rows::{Link, Node, Route};
 use std::alloc::Global;
 use table_fields::{Key, Row, Table, TableFault};
+use toml_rows::{row_header, text_pair};
 
 #[derive(Clone, Copy)]
 struct RouteReader<'a> {
@@ -56,6 +58,53 @@ impl<'a> RowReader for RouteReader<'a> {
             prefix,
             links,
         })
+    }
+
+    fn plain<'t>(
+        &self,
+        taken: &mut NodePrefixes,
+        _done: &[Route],
+        table: Table,
+        text: &'t str,
+    ) -> Option<(Route, &'t str)> {
+        let Some((route, rest)) = self.untaken(table, text) else {
+            return None;
+        };
+        if !taken.take(route.node, route.prefix) {
+            return None;
+        }
+        Some((route, rest))
+    }
+}
+
+impl<'a> RouteReader<'a> {
+    ghost use Rattle.std.specs.Prelude.{◌≡◌, ◌<◌, true, length, IfSome};
+    ghost use Rattle.std.specs.List.{list_all};
+    ghost use Rattle.net_rows.specs.Sound.{is_end};
+    ghost use Rattle.named_rows.specs.Rows.{node_names};
+    ghost use Rattle.net_tables.specs.Rows.{route_prefixes};
+    ghost use Rattle.net_tables.specs.Reading.{route_of};
+    ghost use Rattle.net_tables.specs.Plain.{IsRowIfNew};
+
+    /// The route that comes next, where its keys stand in the order of the documents. Of its prefix nothing is asked yet.
+    fn untaken<'t>(&self, table: Table, text: &'t str) -> Option<(Route, &'t str)>
+        ensures value { IfSome result (λ p. IsRowIfNew table (route_of (node_names self.now.nodes.now) self.now.links.now) route_prefixes p.0.node p.0.prefix p.0 text.now p.1.now) }
+        ensures within { IfSome result (λ p. p.0.node < length self.now.nodes.now) }
+        ensures own { IfSome result (λ p. list_all (is_end self.now.links.now p.0.node) p.0.links ≡ true) }
+        ensures shorter { IfSome result (λ p. length p.1.now < length text.now) }
+    {
+        let rest = row_header(self.alloc, text, table.word())?;
+        let (name, rest) = text_pair(self.alloc, rest, Key::Node.word())?;
+        let node = node_named(self.nodes, name)?;
+        let (digits, rest) = text_pair(self.alloc, rest, Key::Prefix.word())?;
+        let prefix = prefix_of(digits)?;
+        let (links, rest) = plain_links(self.alloc, rest, node, self.links)?;
+        let route = Route {
+            node,
+            prefix,
+            links,
+        };
+        Some((route, rest))
     }
 }
 

@@ -15,11 +15,12 @@ use toml_rows::next_row;
 
 /// How a table's rows are read.
 pub(crate) trait RowReader {
-    ghost use Rattle.std.specs.Prelude.{List, Result, [], ◌∷◌, ◌++◌, IfOk};
+    ghost use Rattle.std.specs.Prelude.{List, Result, [], ◌∷◌, ◌++◌, ◌<◌, length, IfOk, IfSome, IfNone};
     ghost use Rattle.card_digits.specs.Attempts.{Gives};
     ghost use Rattle.table_fields.specs.Faults.{is_memory};
     ghost use Rattle.table_fields.specs.Fields.{RowText, row_view};
     ghost use Rattle.table_fields.specs.declared.fault.TableFault.{TableFault};
+    ghost use Rattle.net_tables.specs.Plain.{IsRowNext};
 
     type Read: Drop;
 
@@ -46,6 +47,25 @@ pub(crate) trait RowReader {
         ensures value { Gives is_memory (λ r. r) result (reads self.now done.now (row_view row.now)) }
         ensures taken { IfOk result (λ r. knows self.now taken.new (done.now ++ r ∷ [])) }
         ensures fits { IfOk result (fits self.now) };
+
+    /// The row that comes next in a text, after the rows before it, and what follows it. None, and nothing is taken, where it isn't written
+    /// in the form that this looks for, and where it has a fault or memory is refused: then it is for `read`. By itself no form is looked for.
+    fn plain<'t>(
+        &self,
+        _taken: &mut Self::Taken,
+        _done: &[Self::Read],
+        _table: Table,
+        _text: &'t str,
+    ) -> Option<(Self::Read, &'t str)>
+        requires { knows self.now _taken.old _done.now }
+        ensures value { IfSome result (λ p. IsRowNext _table (reads self.now) _done.now p.0 _text.now p.1.now) }
+        ensures shorter { IfSome result (λ p. length p.1.now < length _text.now) }
+        ensures taken { IfSome result (λ p. knows self.now _taken.new (_done.now ++ p.0 ∷ [])) }
+        ensures stays { IfNone result (knows self.now _taken.new _done.now) }
+        ensures fits { IfSome result (λ p. fits self.now p.0) }
+    {
+        None
+    }
 }
 
 fn each_row<R: RowReader>(
@@ -92,9 +112,9 @@ pub(crate) fn read_rows<R: RowReader>(
     each_row(alloc, &rows, table, reader, taken)
 }
 
-/// The rows of a table that come next in a text, what they have taken, and what follows them. None where a row has a fault or memory was
-/// refused.
-pub(crate) fn next_rows<'a, R: RowReader>(
+/// The rows of a table that come next in a text as long as they are plain, what they have taken, and what follows them. None where
+/// memory was refused.
+fn plain_rows<'a, R: RowReader>(
     alloc: Global,
     text: &'a str,
     table: Table,
@@ -109,6 +129,36 @@ pub(crate) fn next_rows<'a, R: RowReader>(
     let mut taken = taken;
     let mut done = Vec::new(alloc);
     let mut rest = text;
+    'rows: loop {
+        let Some((read, after)) = reader.plain(&mut taken, &done, table, rest) else {
+            return Some(((done, taken), rest));
+        };
+        let Ok(()) = done.push(read) else {
+            return None;
+        };
+        rest = after;
+    }
+}
+
+/// The rows of a table that come next in a text, what they have taken, and what follows them. None where a row has a fault or memory was
+/// refused. Plain rows are read where they stand. From the first row on that isn't plain the members of each row are made into a table, so
+/// that at most one row is looked at twice.
+pub(crate) fn next_rows<'a, R: RowReader>(
+    alloc: Global,
+    text: &'a str,
+    table: Table,
+    reader: &R,
+    taken: R::Taken,
+) -> Option<((Vec<R::Read>, R::Taken), &'a str)>
+    requires { R.knows reader.now taken [] }
+    ensures value { IfSome result (λ p. AreNext table (R.reads reader.now) p.0.0.items text.now p.1.now) }
+    ensures taken { IfSome result (λ p. R.knows reader.now p.0.1 p.0.0.items) }
+    ensures fits { IfSome result (λ p. AllByRecursion (R.fits reader.now) p.0.0.items) }
+{
+    let ((plain, taken), after_plain) = plain_rows(alloc, text, table, reader, taken)?;
+    let mut taken = taken;
+    let mut done = plain;
+    let mut rest = after_plain;
     'rows: loop {
         let Some((members, after)) = next_row(alloc, rest, table.word()) else {
             return Some(((done, taken), rest));

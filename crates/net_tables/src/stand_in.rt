@@ -9,14 +9,17 @@ ghost use Rattle.net_tables.specs.Reading.{stand_in_of};
 ghost use Rattle.net_tables.specs.InOrder.{AreNext};
 ghost use Rattle.table_fields.specs.declared.place.Table.TheVariants as table;
 
+use crate::plain::{amount_of, node_named, prefix_of};
 use crate::rows::{RowReader, next_rows, read_rows};
 use named_rows::{NamedRows, NodePrefixes, new_prefix_at};
 use net_rows::{Node, StandIn};
 use std::alloc::Global;
 use table_fields::{Key, Row, Table, TableFault};
+use toml_rows::{number_pair, row_header, text_pair};
 
 #[derive(Clone, Copy)]
 struct StandInReader<'a> {
+    alloc: Global,
     nodes: &'a NamedRows<Node>,
 }
 
@@ -54,6 +57,54 @@ impl<'a> RowReader for StandInReader<'a> {
             single,
         })
     }
+
+    fn plain<'t>(
+        &self,
+        taken: &mut NodePrefixes,
+        _done: &[StandIn],
+        table: Table,
+        text: &'t str,
+    ) -> Option<(StandIn, &'t str)> {
+        let Some((stand_in, rest)) = self.untaken(table, text) else {
+            return None;
+        };
+        if !taken.take(stand_in.node, stand_in.prefix) {
+            return None;
+        }
+        Some((stand_in, rest))
+    }
+}
+
+impl<'a> StandInReader<'a> {
+    ghost use Rattle.std.specs.Prelude.{◌<◌, length, IfSome};
+    ghost use Rattle.named_rows.specs.Rows.{node_names};
+    ghost use Rattle.net_tables.specs.Rows.{stand_in_prefixes};
+    ghost use Rattle.net_tables.specs.Reading.{stand_in_of};
+    ghost use Rattle.net_tables.specs.Plain.{IsRowIfNew};
+
+    /// The stand-in row that comes next, where its keys stand in the order of the documents. Of its prefix nothing is asked yet.
+    fn untaken<'t>(&self, table: Table, text: &'t str) -> Option<(StandIn, &'t str)>
+        ensures value { IfSome result (λ p. IsRowIfNew table (stand_in_of (node_names self.now.nodes.now)) stand_in_prefixes p.0.node p.0.prefix p.0 text.now p.1.now) }
+        ensures within { IfSome result (λ p. p.0.node < length self.now.nodes.now) }
+        ensures shorter { IfSome result (λ p. length p.1.now < length text.now) }
+    {
+        let rest = row_header(self.alloc, text, table.word())?;
+        let (name, rest) = text_pair(self.alloc, rest, Key::Node.word())?;
+        let node = node_named(self.nodes, name)?;
+        let (digits, rest) = text_pair(self.alloc, rest, Key::Prefix.word())?;
+        let prefix = prefix_of(digits)?;
+        let (number, rest) = number_pair(self.alloc, rest, Key::Day.word())?;
+        let day = amount_of(number)?;
+        let (number, rest) = number_pair(self.alloc, rest, Key::Single.word())?;
+        let single = amount_of(number)?;
+        let stand_in = StandIn {
+            node,
+            prefix,
+            day,
+            single,
+        };
+        Some((stand_in, rest))
+    }
 }
 
 /// All stand-in rows, at most 4,096 at a node, in the order of the text.
@@ -65,7 +116,7 @@ pub(crate) fn stand_ins(
     ensures { Gives is_memory (λ v. v.items) result (all_rows (table_view root.now) table.StandIn (stand_in_of (node_names nodes.now))) }
 {
     let taken = NodePrefixes::new(alloc, nodes.as_slice().len())?;
-    let reader = StandInReader { nodes };
+    let reader = StandInReader { alloc, nodes };
     let (rows, _taken) = read_rows(alloc, root, Table::StandIn, &reader, taken)?;
     Ok(rows)
 }
@@ -81,7 +132,7 @@ pub(crate) fn next_stand_ins<'a>(
     let Ok(taken) = NodePrefixes::new(alloc, nodes.as_slice().len()) else {
         return None;
     };
-    let reader = StandInReader { nodes };
+    let reader = StandInReader { alloc, nodes };
     let ((rows, _taken), rest) = next_rows(alloc, text, Table::StandIn, &reader, taken)?;
     Some((rows, rest))
 }

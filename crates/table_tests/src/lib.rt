@@ -14,6 +14,8 @@ mod networks;
 #[cfg(test)]
 mod plain_rows;
 #[cfg(test)]
+mod row_forms;
+#[cfg(test)]
 mod rows;
 #[cfg(test)]
 mod tries;
