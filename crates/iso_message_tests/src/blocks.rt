@@ -106,3 +106,94 @@ fn values(rt: HostRuntime) -> Result<(), Fail> {
     );
     Ok(())
 }
+
+/// A line for each value of element 48.
+const VALUES: &str = "\
+
+a
+ab
+abc
+abcd
+abcde
+abcdef
+abcdefg
+abcdefgh
+abcdefghi
+abcdefghij
+abcdefghijk
+abcdefghijkl
+abcdefghijklm
+abcdefghijklmn
+abcdefghijklmno
+abcdefghijklmnop
+abcdefghijklmnopq
+abcdefghijklmnopqr
+abcdefghijklmnopqrs
+abcdefghijklmnopqrst
+abcdefghijklmnopqrstu
+abcdefghijklmnopqrstuv
+abcdefghijklmnopqrstuvw
+abcdefghijklmnopqrstuvwx
+abcdefghijklmnopqrstuvwxy
+abcdefghijklmnopqrstuvwxyz
+abcdefghijklmnopqrstuvwxyz0
+abcdefghijklmnopqrstuvwxyz01
+abcdefghijklmnopqrstuvwxyz012
+abcdefghijklmnopqrstuvwxyz0123
+abcdefghijklmnopqrstuvwxyz01234
+abcdefghijklmnopqrstuvwxyz012345
+abcdefghijklmnopqrstuvwxyz0123456
+abcdefghijklmnopqrstuvwxyz01234567
+abcdefghijklmnopqrstuvwxyz012345678
+abcdefghijklmnopqrstuvwxyz0123456789
+abcdefghijklmnopqrstuvwxyz0123456789A
+abcdefghijklmnopqrstuvwxyz0123456789AB
+abcdefghijklmnopqrstuvwxyz0123456789ABC
+abcdefghijklmnopqrstuvwxyz0123456789ABCD
+abcdefghijklmnopqrstuvwxyz0123456789ABCDE
+";
+
+#[test]
+fn values_of_many_lengths(rt: HostRuntime) -> Result<(), Fail> {
+    let alloc = rt.alloc();
+    for value in VALUES.lines() {
+        let (tens, ones) = (value.len() / 10, value.len() % 10);
+        let input = format!(in alloc; "010000000000000100000{tens}{ones}{value}")?;
+        let text = format!(in alloc; "message 1\ntype 0100\n48 {value}\n")?;
+        assert!(rt; answers(&rt, &input, &text, true)?, "{value}");
+    }
+    Ok(())
+}
+
+#[test]
+fn numbers_of_three_digits(rt: HostRuntime) -> Result<(), Fail> {
+    assert!(rt;
+        answers(
+            &rt,
+            "0100E0000000000000010000000010000001191234567890123456789123456fedcba987654321011123456789010123456789abcdef",
+            "message 1\ntype 0100\n2 1234567890123456789\n3 123456\n64 FEDCBA9876543210\n100 12345678901\n128 0123456789ABCDEF\n",
+            true
+        )?
+    );
+    Ok(())
+}
+
+/// Elements 46 to 48 and 55 to 63, each with as many bytes as it takes.
+#[test]
+fn longest_values(rt: HostRuntime) -> Result<(), Fail> {
+    let alloc = rt.alloc();
+    let mut input = String::from_str(alloc, "010000000000000703FE")?;
+    let mut text = String::from_str(alloc, "message 1\ntype 0100\n")?;
+    for number in [46, 47, 48, 55, 56, 57, 58, 59, 60, 61, 62, 63] {
+        let line = format!(in alloc; "{number} ")?;
+        input.push_str("999")?;
+        text.push_str(&line)?;
+        for _ in 0..27 {
+            input.push_str("abcdefghijklmnopqrstuvwxyz0123456789.")?;
+            text.push_str("abcdefghijklmnopqrstuvwxyz0123456789.")?;
+        }
+        text.push_str("\n")?;
+    }
+    assert!(rt; answers(&rt, &input, &text, true)?);
+    Ok(())
+}

@@ -11,6 +11,11 @@ one_digit n h =
 pub two_digits : (n : ℕ) → 10 ≤ n → n < 100 → decimal n ≡ (48 + n / 10 % 10) ∷ (48 + n % 10) ∷ []
 two_digits n le h = decimal_step n le (omega (arith, h)) ∙ ap (λ ds. ds ++ (48 + n % 10) ∷ []) (one_digit (n / 10) (omega (arith, h)))
 
+pub two_plain : (n : ℕ) → 10 ≤ n → n < 100 → decimal n ≡ (48 + n / 10) ∷ (48 + n % 10) ∷ []
+two_plain n le h =
+    let same : n / 10 % 10 ≡ n / 10 = omega (arith, h) in
+    two_digits n le h ∙ ap (λ d. (48 + d) ∷ (48 + n % 10) ∷ []) same
+
 pub three_digits : (n : ℕ) → 100 ≤ n → n < 256 → decimal n ≡ (48 + n / 100) ∷ (48 + n / 10 % 10) ∷ (48 + n % 10) ∷ []
 three_digits n le h =
     let front : n / 10 / 10 % 10 ≡ n / 100 = omega (arith, h) in

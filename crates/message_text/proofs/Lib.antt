@@ -2,4 +2,5 @@ pub mod PrintLemmas
 pub mod FrontLemmas
 pub mod WrittenLemmas
 pub mod LabelLemmas
+pub mod RowLemmas
 pub mod DigitLemmas

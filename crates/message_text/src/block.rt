@@ -80,7 +80,7 @@ fn push_elements(out: &mut Vec<u8>, message: &Message) -> Result<(), AllocError>
 }
 
 /// The line of a type.
-fn kind_line(kind: Kind) -> &'static [u8]
+pub(crate) fn kind_line(kind: Kind) -> &'static [u8]
     ensures { result.now ≡ codes "type " ++ (kind_text kind ++ codes "\n") }
 {
     match kind {

@@ -5,6 +5,7 @@ mod answer;
 mod block;
 mod fault;
 mod parts;
+mod row;
 mod sending;
 
 pub use answer::{decode_frames, decode_lines};

@@ -7,6 +7,7 @@ ghost use Rattle.message_elements.specs.declared.fault.DecodeFault.TheVariants.{
 ghost use Rattle.message_text.specs.Printed.{block, Sends, SendsBlock, SendsFront};
 
 use crate::block::push_item;
+use crate::row::put_item;
 use card_digits::{Sink, WriteFault, write_all};
 use iso_message::Message;
 use itoa::Buffer;
@@ -16,10 +17,15 @@ use std::alloc::{AllocError, Global};
 /// From so many bytes on, what waits is written.
 pub const MOST_WAITING: usize = 65_536;
 
+/// So many bytes has the row in which a block is printed: more than the block of any message that the table of elements allows.
+const ROW: usize = 16_384;
+
 /// What waits to be written, and the memory in which a message is read and printed.
 #[derive(Drop)]
 pub(crate) struct Buffers {
     pub waiting: Vec<u8>,
+    row: [u8; ROW],
+    /// For a block that the row has no room for.
     text: Vec<u8>,
     message: Message,
 }
@@ -30,6 +36,7 @@ impl Buffers {
     {
         Ok(Buffers {
             waiting: Vec::with_capacity(alloc, MOST_WAITING)?,
+            row: [0; ROW],
             text: Vec::new(alloc),
             message: Message::new(alloc, Kind::K0100),
         })
@@ -38,6 +45,24 @@ impl Buffers {
     /// Prints the block of a message, of a frame that is cut where it has no bytes, behind what waits, and says whether it has no
     /// fault. Where memory is refused the block names that.
     pub(crate) fn add<W: Sink>(
+        &mut self,
+        writer: &mut W,
+        number: u64,
+        item: Option<&[u8]>,
+    ) -> Result<bool, WriteFault>
+        ensures ok { IfOk result (SendsBlock number (option_copied item.entry) (W.written writer.old) (W.written writer.new) self.old.waiting.items self.new.waiting.items) }
+        ensures err { OnErr result (SendsFront number (option_copied item.entry) (W.written writer.old) (W.written writer.new) self.old.waiting.items) }
+        ensures failed { OnErr result (0 < W.failures writer.new) }
+    {
+        let Some((end, good)) = put_item(&mut self.row, &mut self.message, number, item) else {
+            return self.add_longer(writer, number, item);
+        };
+        add_text(writer, &mut self.waiting, &self.row[..end])?;
+        Ok(good)
+    }
+
+    /// The same of a block for which the row has no room, and of a frame that is cut.
+    fn add_longer<W: Sink>(
         &mut self,
         writer: &mut W,
         number: u64,

@@ -1,0 +1,247 @@
+//! The printed form of a message, written into a row of bytes that are there already.
+ghost use Rattle.std.specs.Prelude.{◌≡◌, ◌+◌, ◌≤◌, ◌++◌, [], length, take, codes, decimal, Some, IfSome};
+ghost use Rattle.std.specs.Option.{option_copied};
+ghost use Rattle.hex.specs.Hex.{encode_upper};
+ghost use Rattle.message_text.specs.Printed.{element_line, element_lines, message_lines, fault_line, heading, PrintsBlock};
+
+use crate::block::kind_line;
+use iso_message::{Message, is_binary};
+use itoa::Buffer;
+use message_elements::DecodeFault;
+
+/// Writes bytes at a place of a row, and returns the place behind them.
+#[inline(always)]
+fn put(row: &mut [u8], at: usize, bytes: &[u8]) -> usize
+    requires { at + length bytes.now ≤ length row.old }
+    ensures text { take result row.new ≡ take at row.old ++ bytes.now }
+    ensures end { result ≡ at + length bytes.now }
+    ensures size { length row.new ≡ length row.old }
+{
+    let end = at + bytes.len();
+    row[at..end].copy_from_slice(bytes);
+    end
+}
+
+/// Writes the number of an element and a space.
+#[inline(always)]
+fn put_label(row: &mut [u8], at: usize, number: u8) -> usize
+    requires { at + 4 ≤ length row.old }
+    ensures text { take result row.new ≡ take at row.old ++ (decimal number ++ codes " ") }
+    ensures end { result ≤ at + 4 }
+    ensures size { length row.new ≡ length row.old }
+{
+    if number < 10 {
+        return put(row, at, &[b'0' + number, b' ']);
+    }
+    if number < 100 {
+        return put(row, at, &[b'0' + number / 10, b'0' + number % 10, b' ']);
+    }
+    let digits = [number / 100, number / 10 % 10, number % 10];
+    put(
+        row,
+        at,
+        &[b'0' + digits[0], b'0' + digits[1], b'0' + digits[2], b' '],
+    )
+}
+
+/// Writes as many bytes as one word has, or up to twice as many: the first word and the last one.
+#[inline(always)]
+fn put_words<const N: usize>(row: &mut [u8], at: usize, bytes: &[u8]) -> usize
+    requires word { N ≤ 16 }
+    requires few { length bytes.now ≤ N + N }
+    requires fits { at + length bytes.now ≤ length row.old }
+    ensures text { take result row.new ≡ take at row.old ++ bytes.now }
+    ensures end { result ≡ at + length bytes.now }
+    ensures size { length row.new ≡ length row.old }
+{
+    let (Some(first), Some(last)) = (bytes.first_chunk::<N>(), bytes.last_chunk::<N>()) else {
+        return put(row, at, bytes);
+    };
+    let (first, last) = (*first, *last);
+    let _behind = put(row, at, &first);
+    put(row, at + bytes.len() - N, &last)
+}
+
+/// Writes bytes as `put` does, sooner where they are few.
+#[inline(always)]
+fn put_bytes(row: &mut [u8], at: usize, bytes: &[u8]) -> usize
+    requires { at + length bytes.now ≤ length row.old }
+    ensures text { take result row.new ≡ take at row.old ++ bytes.now }
+    ensures end { result ≡ at + length bytes.now }
+    ensures size { length row.new ≡ length row.old }
+{
+    let len = bytes.len();
+    if len > 32 || len < 2 {
+        return put(row, at, bytes);
+    }
+    if len > 16 {
+        return put_words::<16>(row, at, bytes);
+    }
+    if len > 7 {
+        return put_words::<8>(row, at, bytes);
+    }
+    if len > 3 {
+        return put_words::<4>(row, at, bytes);
+    }
+    put_words::<2>(row, at, bytes)
+}
+
+/// Writes eight bytes as hexadecimal digits.
+#[tactic(auto, using(crate::proofs::DigitLemmas::capitals))]
+fn put_digits(row: &mut [u8], at: usize, value: &[u8]) -> Option<usize>
+    requires { at + 16 ≤ length row.old }
+    ensures text { IfSome result (λ end. take end row.new ≡ take at row.old ++ encode_upper value.now) }
+    ensures end { IfSome result (λ end. end ≡ at + 16) }
+    ensures size { length row.new ≡ length row.old }
+{
+    let mut digits = [0u8; 16];
+    hex::encode_to_slice(value, &mut digits).ok()?;
+    digits.make_ascii_uppercase();
+    Some(put(row, at, &digits))
+}
+
+/// Writes the line of an element; none where the row has no room for it, or where a binary element has not eight bytes.
+#[inline(always)]
+#[tactic(auto, unfolding(crate::specs::Printed::element_line))]
+fn put_element(row: &mut [u8], at: usize, number: u8, value: &[u8]) -> Option<usize>
+    requires { at ≤ length row.old }
+    ensures text { IfSome result (λ end. take end row.new ≡ take at row.old ++ element_line (number, value.now)) }
+    ensures end { IfSome result (λ end. end ≤ length row.old) }
+    ensures size { length row.new ≡ length row.old }
+{
+    if row.len() - at < value.len() + OTHER_ROOM {
+        return None;
+    }
+    let label = put_label(row, at, number);
+    let end = if is_binary(number) {
+        put_digits(row, label, value)?
+    } else {
+        put_bytes(row, label, value)
+    };
+    Some(put(row, end, b"\n"))
+}
+
+/// The room in a line for a label, a line feed, and sixteen digits in place of a value.
+const OTHER_ROOM: usize = 4 + 1 + 16;
+
+fn put_elements(row: &mut [u8], at: usize, message: &Message) -> Option<usize>
+    requires { at ≤ length row.old }
+    ensures text { IfSome result (λ end. take end row.new ≡ take at row.old ++ element_lines message.now.elements) }
+    ensures end { IfSome result (λ end. end ≤ length row.old) }
+    ensures size { length row.new ≡ length row.old }
+{
+    let mut end = at;
+    for (number, value) in message.iter() {
+        end = put_element(row, end, number, value)?;
+    }
+    Some(end)
+}
+
+/// Writes the line with a message's number at the front.
+#[tactic(auto, unfolding(crate::specs::Printed::heading))]
+#[inline(always)]
+fn put_heading(row: &mut [u8], number: u64) -> usize
+    requires { 29 ≤ length row.old }
+    ensures text { take result row.new ≡ heading number }
+    ensures end { result ≤ 29 }
+    ensures size { length row.new ≡ length row.old }
+{
+    let mut digits = Buffer::new();
+    let digits = digits.format(number).as_bytes();
+    let at = put(row, 0, b"message ");
+    let at = put_bytes(row, at, digits);
+    put(row, at, b"\n")
+}
+
+/// Writes the lines of a message behind the line of its number; none where there is no room for them.
+#[tactic(auto, unfolding(crate::specs::Printed::message_lines))]
+#[inline(always)]
+fn put_message(row: &mut [u8], number: u64, message: &Message) -> Option<usize>
+    requires { 59 ≤ length row.old }
+    ensures text { IfSome result (λ end. take end row.new ≡ heading number ++ message_lines message.now) }
+    ensures end { IfSome result (λ end. end ≤ length row.old) }
+    ensures size { length row.new ≡ length row.old }
+{
+    let at = put_heading(row, number);
+    let at = put(row, at, kind_line(message.kind()));
+    put_elements(row, at, message)
+}
+
+/// Writes the line of a fault that names an element, of which these are the words before its number.
+fn put_named(row: &mut [u8], at: usize, words: &[u8], number: u8) -> usize
+    requires words { length words.now ≤ 26 }
+    requires room { at + 30 ≤ length row.old }
+    ensures text { take result row.new ≡ take at row.old ++ words.now ++ (decimal number ++ codes "\n") }
+    ensures end { result ≤ at + 30 }
+    ensures size { length row.new ≡ length row.old }
+{
+    let mut digits = Buffer::new();
+    let at = put(row, at, words);
+    let at = put(row, at, digits.format(number).as_bytes());
+    put(row, at, b"\n")
+}
+
+/// Writes the line of a fault.
+#[tactic(auto, unfolding(crate::specs::Printed::fault_line))]
+fn put_fault(row: &mut [u8], at: usize, fault: DecodeFault) -> usize
+    requires room { at + 30 ≤ length row.old }
+    ensures text { take result row.new ≡ take at row.old ++ fault_line fault }
+    ensures end { result ≤ at + 30 }
+    ensures size { length row.new ≡ length row.old }
+{
+    match fault {
+        DecodeFault::Short => put(row, at, b"fault message 1 short\n"),
+        DecodeFault::BadType => put(row, at, b"fault message 2 type\n"),
+        DecodeFault::BitMap => put(row, at, b"fault message 3 bit map\n"),
+        DecodeFault::Element(number) => put_named(row, at, b"fault message 4 element ", number),
+        DecodeFault::Length(number) => put_named(row, at, b"fault message 5 length ", number),
+        DecodeFault::Character(number) => put_named(row, at, b"fault message 6 character ", number),
+        DecodeFault::Trailing => put(row, at, b"fault message 7 trailing\n"),
+        DecodeFault::Memory => put(row, at, b"fault message 8 memory\n"),
+    }
+}
+
+/// Writes the lines of the message that the bytes are, or of its fault, in the front of a row. Returns where they end, and whether there
+/// is no fault; none where the row has no room for them. The message is read in the memory of an older one.
+fn put_block(
+    row: &mut [u8],
+    message: &mut Message,
+    number: u64,
+    bytes: &[u8],
+) -> Option<(usize, bool)>
+    ensures block { IfSome result (λ r. PrintsBlock number (Some bytes.now) [] (take r.0 row.new) r.1) }
+    ensures end { IfSome result (λ r. r.0 ≤ length row.new) }
+{
+    if row.len() < FRONT_ROOM {
+        return None;
+    }
+    match message.read_again(bytes) {
+        Ok(()) => {
+            let end = put_message(row, number, message)?;
+            Some((end, true))
+        }
+        Err(fault) => {
+            let at = put_heading(row, number);
+            Some((put_fault(row, at, fault), false))
+        }
+    }
+}
+
+/// The same of an item; none too where it is a frame that is cut, which is the last.
+pub(crate) fn put_item(
+    row: &mut [u8],
+    message: &mut Message,
+    number: u64,
+    item: Option<&[u8]>,
+) -> Option<(usize, bool)>
+    ensures block { IfSome result (λ r. PrintsBlock number (option_copied item.entry) [] (take r.0 row.new) r.1) }
+    ensures end { IfSome result (λ r. r.0 ≤ length row.new) }
+{
+    match item {
+        Some(bytes) => put_block(row, message, number, bytes),
+        None => None,
+    }
+}
+
+/// The room for the line of a number, and for that of a type or a fault.
+const FRONT_ROOM: usize = 29 + 30;
