@@ -388,7 +388,7 @@ fn is_stand_in(alloc: Global, lines: &str, wanted: &str) -> Result<bool, Fail> {
 }
 
 #[test]
-fn amounts(rt: HostRuntime) -> Result<(), Fail> {
+fn amounts_and_their_faults(rt: HostRuntime) -> Result<(), Fail> {
     let alloc = rt.alloc();
     assert!(rt;
         is_stand_in(
