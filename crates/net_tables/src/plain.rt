@@ -60,7 +60,7 @@ fn plain_named<'a>(
     ensures few { IfSome result (λ p. length p.0 ≤ 8) }
 {
     let mut found = Links::new(alloc);
-    let mut rest = open_texts(alloc, text, Key::Links.word())?;
+    let mut rest = open_texts(text, Key::Links.word())?;
     'links: loop {
         if let Some(after) = close_texts(rest) {
             return Some((found, after));

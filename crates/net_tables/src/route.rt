@@ -94,9 +94,9 @@ impl<'a> RouteReader<'a> {
         ensures shorter { IfSome result (λ p. length p.1.now < length text.now) }
     {
         let rest = row_header(self.alloc, text, table.word())?;
-        let (name, rest) = text_pair(self.alloc, rest, Key::Node.word())?;
+        let (name, rest) = text_pair(rest, Key::Node.word())?;
         let node = node_named(self.nodes, name)?;
-        let (digits, rest) = text_pair(self.alloc, rest, Key::Prefix.word())?;
+        let (digits, rest) = text_pair(rest, Key::Prefix.word())?;
         let prefix = prefix_of(digits)?;
         let (links, rest) = plain_links(self.alloc, rest, node, self.links)?;
         let route = Route {

@@ -89,9 +89,9 @@ impl<'a> StandInReader<'a> {
         ensures shorter { IfSome result (λ p. length p.1.now < length text.now) }
     {
         let rest = row_header(self.alloc, text, table.word())?;
-        let (name, rest) = text_pair(self.alloc, rest, Key::Node.word())?;
+        let (name, rest) = text_pair(rest, Key::Node.word())?;
         let node = node_named(self.nodes, name)?;
-        let (digits, rest) = text_pair(self.alloc, rest, Key::Prefix.word())?;
+        let (digits, rest) = text_pair(rest, Key::Prefix.word())?;
         let prefix = prefix_of(digits)?;
         let (number, rest) = number_pair(self.alloc, rest, Key::Day.word())?;
         let day = amount_of(number)?;

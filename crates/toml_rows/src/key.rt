@@ -1,6 +1,6 @@
 //! Keys without dots.
-ghost use Rattle.std.specs.Prelude.{◌≡◌, ◌<◌, ◌≤◌, [], length, string_bytes, Some, IfSome};
-ghost use Rattle.std.specs.List.{prefix_len};
+ghost use Rattle.std.specs.Prelude.{◌≡◌, ◌<◌, ◌≤◌, true, [], length, string_bytes, Some, IfSome};
+ghost use Rattle.std.specs.List.{prefix_len, list_all};
 ghost use Rattle.toml_parser.specs.Lexical.{is_bare};
 ghost use Rattle.toml_parser.specs.Strings as strings;
 
@@ -89,5 +89,25 @@ pub(crate) fn after_key<'a>(alloc: Global, s: &'a str, word: &str) -> Option<&'a
         Some(rest)
     } else {
         None
+    }
+}
+
+/// What follows a word, compared where it stands, and the white space after it. None also where the key goes on or a dot comes next.
+pub(crate) fn after_bare<'a>(s: &'a str, word: &str) -> Option<&'a str>
+    requires some { 0 < length word.now }
+    requires bare { list_all is_bare word.now ≡ true }
+    ensures value { IfSome result (λ rest. strings.key s.now ≡ Some (([], word.now), rest.now)) }
+    ensures shorter { IfSome result (λ rest. length rest.now < length s.now) }
+{
+    let len = word.len();
+    let bytes = s.as_bytes();
+    if bytes.len() <= len || &bytes[..len] != word.as_bytes() || is_bare(bytes[len]) {
+        return None;
+    }
+    let (_word, after) = s.split_at(len);
+    let rest = skip_ws(after);
+    match first(rest) {
+        b'.' => None,
+        _ => Some(rest),
     }
 }

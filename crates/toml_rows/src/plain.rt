@@ -1,6 +1,8 @@
 //! Rows whose keys are known before they are read: each pair is read where it stands, and no tree is made of it. None says only that the
 //! line is of another form, or another line, or that memory was refused; it is for `next_row` to read.
-ghost use Rattle.std.specs.Prelude.{◌≡◌, ℕ, ◌==◌, ◌<◌, false, [], length, Some, IfSome};
+ghost use Rattle.std.specs.Prelude.{◌≡◌, ℕ, ◌==◌, ◌<◌, true, false, [], length, Some, IfSome};
+ghost use Rattle.std.specs.List.{list_all};
+ghost use Rattle.toml_parser.specs.Lexical.{is_bare};
 ghost use Rattle.toml.specs.Data.{string, integer};
 ghost use Rattle.toml.specs.Parse as spec;
 ghost use Rattle.toml_parser.specs.Lexical as lexical;
@@ -8,7 +10,7 @@ ghost use Rattle.toml_rows.specs.Rows.{IsLine, row_line, pair_line};
 ghost use Rattle.toml_rows.specs.Texts.{IsOpened, IsText, IsClosed};
 
 use crate::blank::{skip_blank, skip_ws};
-use crate::key::after_key;
+use crate::key::after_bare;
 use crate::line::{after_row_header, ends_line};
 use crate::string::plain_string;
 use crate::value::after_element;
@@ -25,11 +27,13 @@ pub fn row_header<'a>(alloc: Global, s: &'a str, word: &str) -> Option<&'a str>
 
 /// What follows the key of this word, its `=` and the white space after it.
 #[tactic(auto, unfolding(toml::specs::Parse::key_equals))]
-fn after_equals<'a>(alloc: Global, s: &'a str, word: &str) -> Option<&'a str>
+fn after_equals<'a>(s: &'a str, word: &str) -> Option<&'a str>
+    requires some { 0 < length word.now }
+    requires bare { list_all is_bare word.now ≡ true }
     ensures value { IfSome result (λ rest. spec.key_equals s.now ≡ Some (([], word.now), rest.now)) }
     ensures shorter { IfSome result (λ rest. length rest.now < length s.now) }
 {
-    let rest = after_key(alloc, s, word)?;
+    let rest = after_bare(s, word)?;
     if first(rest) != b'=' {
         return None;
     }
@@ -71,16 +75,19 @@ fn whole_number(alloc: Global, s: &str) -> Option<(i64, &str)>
     whole_atom(alloc, s)
 }
 
-/// The text at a key, and what follows its line. None where it is empty or has an escape, and for the other kinds of strings.
+/// The text at a key, and what follows its line. None where the text is empty or has an escape, for the other kinds of strings, and where
+/// the key is quoted.
 #[tactic(auto, unfolding(toml::specs::Parse::line, toml::specs::Parse::expression))]
-pub fn text_pair<'a>(alloc: Global, s: &'a str, word: &str) -> Option<(&'a str, &'a str)>
+pub fn text_pair<'a>(s: &'a str, word: &str) -> Option<(&'a str, &'a str)>
+    requires some { 0 < length word.now }
+    requires bare { list_all is_bare word.now ≡ true }
     ensures { IfSome result (λ p. IsLine (pair_line (word.now, string p.0.now)) s.now p.1.now) }
 {
     let start = skip_blank(s);
     if first(start) == b'[' {
         return None;
     }
-    let (text, rest) = plain_text(after_equals(alloc, start, word)?)?;
+    let (text, rest) = plain_text(after_equals(start, word)?)?;
     if !ends_line(rest) {
         return None;
     }
@@ -90,13 +97,15 @@ pub fn text_pair<'a>(alloc: Global, s: &'a str, word: &str) -> Option<(&'a str, 
 /// The whole number at a key, and what follows its line.
 #[tactic(auto, unfolding(toml::specs::Parse::line, toml::specs::Parse::expression))]
 pub fn number_pair<'a>(alloc: Global, s: &'a str, word: &str) -> Option<(i64, &'a str)>
+    requires some { 0 < length word.now }
+    requires bare { list_all is_bare word.now ≡ true }
     ensures { IfSome result (λ p. IsLine (pair_line (word.now, integer p.0)) s.now p.1.now) }
 {
     let start = skip_blank(s);
     if first(start) == b'[' {
         return None;
     }
-    let (number, rest) = whole_number(alloc, after_equals(alloc, start, word)?)?;
+    let (number, rest) = whole_number(alloc, after_equals(start, word)?)?;
     if !ends_line(rest) {
         return None;
     }
@@ -104,14 +113,16 @@ pub fn number_pair<'a>(alloc: Global, s: &'a str, word: &str) -> Option<(i64, &'
 }
 
 /// What follows the opening bracket of the list at a key.
-pub fn open_texts<'a>(alloc: Global, s: &'a str, word: &str) -> Option<&'a str>
+pub fn open_texts<'a>(s: &'a str, word: &str) -> Option<&'a str>
+    requires some { 0 < length word.now }
+    requires bare { list_all is_bare word.now ≡ true }
     ensures { IfSome result (λ inside. IsOpened word.now s.now inside.now) }
 {
     let start = skip_blank(s);
     if first(start) == b'[' {
         return None;
     }
-    let value = after_equals(alloc, start, word)?;
+    let value = after_equals(start, word)?;
     if first(value) != b'[' {
         return None;
     }
