@@ -10,6 +10,7 @@ ghost use Rattle.node_machine.specs.Steps.{keep, on_answer, on_code, on_host, st
 ghost use Rattle.node_books.specs.Effects.{progress};
 ghost use Rattle.request_book.specs.Values.{IsKeyOf, source_of};
 
+use crate::responses::respond;
 use card_digits::{Key, LinkNo, NodeNo};
 use iso_message::Message;
 use message_elements::Code;
@@ -40,7 +41,7 @@ fn take_back(
 }
 
 /// An answer with this code for a key closes its request, or takes back what is approved too late. A code that tells of a duplicate
-/// becomes another. The request is read into the room.
+/// becomes another. The request is read into the room, where its response is made of it.
 #[tactic(auto, using(step_draft::proofs::Messages::response_key, step_draft::proofs::Messages::response_plain, crate::proofs::Parts::code_pending, crate::proofs::Parts::code_late, crate::proofs::Parts::code_other))]
 pub(crate) fn on_code(
     draft: &mut Draft,
@@ -61,8 +62,7 @@ pub(crate) fn on_code(
     if row.is_open() {
         let source = row.source();
         row.message().decode_into(room)?;
-        let response = room.response(as_code(other, code))?;
-        return draft.reply(source, own, &response);
+        return respond(draft, source, own, room, as_code(other, code));
     }
     let late = code.as_slice() == b"00".as_slice() && comes_late(draft.books(), tables, node, key);
     if !late {

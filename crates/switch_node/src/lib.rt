@@ -9,6 +9,7 @@ mod inputs;
 mod node;
 mod notices;
 mod requests;
+mod responses;
 
 pub use entry::Entry;
 pub use input::{BoxedLending, Case, Input};

@@ -11,6 +11,7 @@ ghost use Rattle.node_books.specs.Effects.{progress};
 ghost use Rattle.request_book.specs.Values.{source_of};
 ghost use Rattle.switch_node.specs.Coming.{refusal_code};
 
+use crate::responses::respond;
 use card_digits::{Amount, Key, LinkNo, NodeNo};
 use iso_message::Message;
 use message_elements::Code;
@@ -73,9 +74,8 @@ fn answer_pending(
     }
     let own = row.key();
     let source = row.source();
-    let request = row.message().decode()?;
-    let response = request.response(Code::new(*b"68"))?;
-    draft.reply(source, own, &response)
+    let mut request = row.message().decode()?;
+    respond(draft, source, own, &mut request, Code::new(*b"68"))
 }
 
 /// The code of the response to a reversal or an advice that is not kept: 14 of a bad card, 92 without an issuer, 94 of other content,
