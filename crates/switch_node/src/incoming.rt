@@ -100,28 +100,36 @@ fn prepare(draft: &Draft, m: &mut Message) -> Result<(), AllocError>
     }
 }
 
+/// A request that came, with its key.
+#[derive(Drop)]
+struct Opened {
+    key: Key,
+    kept: KeptMessage,
+}
+
 /// A request opens its key, where that has none yet; another message does nothing as it comes. Answers with what is kept of a request.
 #[tactic(auto, using(crate::proofs::Coming::opens, crate::proofs::Coming::opens_none))]
 fn open(
     draft: &mut Draft,
     m: &Message,
     source: Option<LinkNo>,
-) -> Result<Option<KeptMessage>, AllocError>
+) -> Result<Option<Opened>, AllocError>
     requires empty { draft.old.effects ≡ [] }
     requires complete { is_complete (group m.now.kind) m.now ≡ true }
     ensures base { draft.new.base ≡ draft.old.base }
     ensures ok { OnOk result (progress draft.new ≡ opened_start draft.old.base (record { message = m.now; source = source_of source })) }
-    ensures kept { IfOk result (λ kept. IfSome kept (λ k. k ≡ m.now)) }
+    ensures kept { IfOk result (λ opened. IfSome opened (λ o. o.kept ≡ m.now)) }
+    ensures key { IfOk result (λ opened. IfSome opened (λ o. IsKeyOf o.key m.now)) }
 {
     if !is_request(m.kind()) {
         return Ok(None);
     }
     let key = request_key(m);
     let request = draft.kept(m)?;
-    let again = request.share()?;
+    let kept = request.share()?;
     let row = Row::new(key, request, source, draft.books().count());
     draft.change(Effect::Opened(row))?;
-    Ok(Some(again))
+    Ok(Some(Opened { key, kept }))
 }
 
 /// Whether the key's request was put on this link before the entry.
@@ -168,19 +176,22 @@ fn on_keyed_request(
     tables: &Tables,
     node: NodeNo,
     m: &Message,
-    kept: Option<KeptMessage>,
+    opened: Option<Opened>,
     source: Option<LinkNo>,
 ) -> Result<(), AllocError>
     requires request { is_request m.now.kind ≡ true }
     requires key { has_key m.now ≡ true }
-    requires kept { IfSome kept (λ k. k ≡ m.now) }
+    requires kept { IfSome opened (λ o. o.kept ≡ m.now) }
+    requires own { IfSome opened (λ o. IsKeyOf o.key m.now) }
     requires quiet { IsQuiet draft.old.base (progress draft.old).lists }
     requires left { LeftAsMarked draft.old.base.marks draft.old.base.takes }
     ensures base { draft.new.base ≡ draft.old.base }
     ensures ok { OnOk result (progress draft.new ≡ on_request tables.now node (view tables.now node draft.old.base) m.now (source_of source) ((view tables.now node draft.old.base).opening (key_of m.now)) (progress draft.old)) }
 {
-    let key = request_key(m);
-    on_request(draft, tables, node, key, m, kept, source)
+    match opened {
+        Some(Opened { key, kept }) => on_request(draft, tables, node, key, m, Some(kept), source),
+        None => on_request(draft, tables, node, request_key(m), m, None, source),
+    }
 }
 
 fn on_identified(
@@ -205,25 +216,26 @@ fn on_identified(
     }
 }
 
-/// A message, as it is handled, with what is kept of a request. An answer's request is read into the message's place.
+/// A message, as it is handled, with what was opened for a request. An answer's request is read into the message's place.
 #[tactic(auto, using(crate::proofs::Messages::request_group))]
 fn on_message(
     draft: &mut Draft,
     tables: &Tables,
     node: NodeNo,
     m: &mut Message,
-    kept: Option<KeptMessage>,
+    opened: Option<Opened>,
     source: Option<LinkNo>,
 ) -> Result<(), AllocError>
     requires complete { is_complete (group m.old.kind) m.old ≡ true }
-    requires kept { IfSome kept (λ k. k ≡ m.old) }
+    requires kept { IfSome opened (λ o. o.kept ≡ m.old) }
+    requires own { IfSome opened (λ o. IsKeyOf o.key m.old) }
     requires quiet { IsQuiet draft.old.base (progress draft.old).lists }
     requires left { LeftAsMarked draft.old.base.marks draft.old.base.takes }
     ensures base { draft.new.base ≡ draft.old.base }
     ensures ok { OnOk result (progress draft.new ≡ on_group tables.now node (view tables.now node draft.old.base) m.old (source_of source) (group m.old.kind) (progress draft.old)) }
 {
     match m.kind().group() {
-        Group::AuthorizationRequest => on_keyed_request(draft, tables, node, m, kept, source),
+        Group::AuthorizationRequest => on_keyed_request(draft, tables, node, m, opened, source),
         Group::AuthorizationResponse => match source {
             Some(link) => on_answer(draft, tables, node, m, link),
             None => Ok(()),
@@ -249,8 +261,8 @@ pub(crate) fn enter(
     ensures ok { OnOk result (progress draft.new ≡ step tables.now node draft.old.base (Enter m.old)) }
 {
     prepare(draft, m)?;
-    let kept = open(draft, m, None)?;
-    on_message(draft, tables, node, m, kept, None)
+    let opened = open(draft, m, None)?;
+    on_message(draft, tables, node, m, opened, None)
 }
 
 /// What a message acknowledges leaves the store.
@@ -282,6 +294,6 @@ pub(crate) fn take_message(
     if is_acknowledgement(m) {
         return acknowledge(draft, m);
     }
-    let kept = open(draft, m, Some(link))?;
-    on_message(draft, tables, node, m, kept, Some(link))
+    let opened = open(draft, m, Some(link))?;
+    on_message(draft, tables, node, m, opened, Some(link))
 }

@@ -11,10 +11,10 @@ use Rattle.switch_node.proofs.Complete.{acknowledged_known}
 use Rattle.switch_node.proofs.incoming.take_message.Goals as goal
 
 pub on_message-requires-clause-quiet : goal.on_message-requires-clause-quiet
-on_message-requires-clause-quiet c = opened_quiet c.args.draft.now.base c.open.new.draft.base (record { message = c.args.m.now; source = ByLink c.args.link }) (progress c.open.new.draft) c.in_ok-kept.ensures.base c.in_ok-kept.ensures.ok
+on_message-requires-clause-quiet c = opened_quiet c.args.draft.now.base c.open.new.draft.base (record { message = c.args.m.now; source = ByLink c.args.link }) (progress c.open.new.draft) c.in_ok-opened.ensures.base c.in_ok-opened.ensures.ok
 
 pub returns-clause-ok : goal.returns-clause-ok
-returns-clause-ok c = on_ok c.on_message.result (λ e serial. take_steps c.args.tables.now c.args.node c.args.draft.now.base c.open.new.draft.base c.args.link serial c.args.m.now (progress c.open.new.draft) (progress c.on_message.new.draft) (sym c.is_acknowledgement.ensures ∙ c.if-is_acknowledgement.false) c.in_ok-kept.ensures.ok c.in_ok-kept.ensures.base e) c.on_message.ensures.ok
+returns-clause-ok c = on_ok c.on_message.result (λ e serial. take_steps c.args.tables.now c.args.node c.args.draft.now.base c.open.new.draft.base c.args.link serial c.args.m.now (progress c.open.new.draft) (progress c.on_message.new.draft) (sym c.is_acknowledgement.ensures ∙ c.if-is_acknowledgement.false) c.in_ok-opened.ensures.ok c.in_ok-opened.ensures.base e) c.on_message.ensures.ok
 
 pub acknowledge-requires-clause-identity : goal.acknowledge-requires-clause-identity
 acknowledge-requires-clause-identity c = acknowledged_known (group c.args.m.now.kind) c.args.m.now (bytes_eq (code_of c.args.m.now) code_00) (sym c.is_acknowledgement.ensures ∙ c.if-is_acknowledgement.true) c.requires.complete
