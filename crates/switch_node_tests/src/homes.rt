@@ -28,6 +28,30 @@ fn codes_of_a_host(rt: HostRuntime) -> Result<(), Fail> {
     )
 }
 
+/// A response leaves out what it does not carry, as the local time in element 12, whoever answers.
+#[test]
+fn what_a_response_leaves_out(rt: HostRuntime) -> Result<(), Fail> {
+    run(
+        rt.alloc(),
+        Sample::LimitAtHome,
+        "H",
+        "
+            purchase at_home trace 000001 amount 000000000100 acquirer 400002
+            purchase at_gate trace 000002 amount 000000000100 acquirer 400002
+            enter at_home timed_request 0100
+                ask 1 at_home timed_dated_request 0100
+            enter at_gate request 0100
+                ask 2 at_gate dated_request 0100
+            host 1 00
+                answer at_home answered 00
+            host 2 51
+                answer at_gate answered 51
+            enter at_home timed_request 0100
+                answer at_home answered 00
+        ",
+    )
+}
+
 /// A host that is late fails as a link does: what the home makes then is posted.
 #[test]
 fn a_late_host(rt: HostRuntime) -> Result<(), Fail> {

@@ -14,6 +14,8 @@
 //!
 //!     request TYPE                    the request that an acquirer enters
 //!     dated_request TYPE              the same with its settlement date, as a gate puts it
+//!     timed_request TYPE              the request with the local time in element 12
+//!     timed_dated_request TYPE        the same with its settlement date
 //!     answered CODE                   its response, a 0110
 //!     stand_in TYPE NODE CODE         a node's advice that it approved by itself, or the acknowledgement
 //!     own_reversal TYPE NODE CODE     a node's own reversal, or the acknowledgement

@@ -48,6 +48,8 @@ impl Purchase {
         match form {
             ["request", kind] => Ok(self.request(alloc, kind)?),
             ["dated_request", kind] => Ok(self.dated_request(alloc, kind)?),
+            ["timed_request", kind] => Ok(self.timed_request(alloc, kind)?),
+            ["timed_dated_request", kind] => Ok(self.timed_dated_request(alloc, kind)?),
             ["answered", code] => Ok(self.answered(alloc, code)?),
             ["stand_in", kind, node, code] => Ok(self.stand_in(alloc, kind, node, code)?),
             _ => self.written_reversal(alloc, form),
@@ -90,6 +92,36 @@ impl Purchase {
         } = *self;
         format!(in alloc;
             "{kind}722200010000800016{card}000000{amount}0314091530{trace}{date}06{acquirer}{currency}"
+        )
+    }
+
+    /// A request with element 12, which no response carries.
+    fn timed_request(&self, alloc: Global, kind: &str) -> Result<String, AllocError> {
+        let Purchase {
+            acquirer,
+            card,
+            amount,
+            trace,
+            currency,
+            ..
+        } = *self;
+        format!(in alloc;
+            "{kind}723000010000800016{card}000000{amount}0314091530{trace}09153006{acquirer}{currency}"
+        )
+    }
+
+    fn timed_dated_request(&self, alloc: Global, kind: &str) -> Result<String, AllocError> {
+        let Purchase {
+            acquirer,
+            card,
+            amount,
+            trace,
+            date,
+            currency,
+            ..
+        } = *self;
+        format!(in alloc;
+            "{kind}723200010000800016{card}000000{amount}0314091530{trace}091530{date}06{acquirer}{currency}"
         )
     }
 
