@@ -57,8 +57,8 @@ impl Hash for Rank {
 }
 
 /// Ranks in the order in which they were added, at most one for a pair of a name and a prefix. Where the rows of each prefix are added
-/// one after the other, at most 64 of them, a row is compared with those of its prefix, and only the first of them costs a hash; from
-/// the first row on that stands otherwise, each costs one.
+/// one after the other, at most 64 of them, a row whose name may be there already is compared with them, and only the first of them costs
+/// a hash; from the first row on that stands otherwise, each costs one.
 #[derive(Debug, Drop)]
 pub struct Cert {
     kept: Kept,
