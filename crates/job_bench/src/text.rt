@@ -9,16 +9,22 @@ pub(crate) struct Text {
     line_end: &'static [u8],
 }
 
-/// The last twelve digits of a number.
-fn twelve_digits(number: u64) -> [u8; 12] {
-    let mut digits = [b'0'; 12];
-    let mut rest = number;
-    for place in 0..12 {
-        digits[11 - place] = b'0' + (rest % 10) as u8;
-        rest /= 10;
-    }
-    digits
-}
+/// One, ten and so on up to 10 to the power of twelve.
+static POWERS: [u64; 13] = [
+    1,
+    10,
+    100,
+    1_000,
+    10_000,
+    100_000,
+    1_000_000,
+    10_000_000,
+    100_000_000,
+    1_000_000_000,
+    10_000_000_000,
+    100_000_000_000,
+    1_000_000_000_000,
+];
 
 impl Text {
     pub(crate) fn new(alloc: Global) -> Text {
@@ -75,8 +81,13 @@ impl Text {
 
     /// The last so many digits of a number, at most twelve of them.
     pub(crate) fn digits(&mut self, number: u64, count: usize) -> Result<(), AllocError> {
-        let digits = twelve_digits(number);
-        let count = count.min(12);
-        self.bytes.extend_from_slice(&digits[12 - count..])
+        let power = POWERS[count.min(12)];
+        let last = number.checked_rem(power).unwrap_or(0);
+        // A one before them keeps their zeros.
+        let mut buffer = Buffer::new();
+        match buffer.format(power.wrapping_add(last)).as_bytes() {
+            [_one, digits @ ..] => self.bytes.extend_from_slice(digits),
+            [] => Ok(()),
+        }
     }
 }
