@@ -5,7 +5,7 @@ pub mod ReadingLaws
 pub mod FaultLaws
 pub mod Finding
 pub mod Canonical
-pub mod HexDigits
+pub mod HexLanes
 pub mod Maps
 pub mod Good
 pub mod Changes

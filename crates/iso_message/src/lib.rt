@@ -3,6 +3,7 @@
 
 mod carried;
 mod elements;
+mod hex_digits;
 pub mod laws;
 mod made;
 mod message;

@@ -1,5 +1,6 @@
 //! Reading a message.
-ghost use Rattle.std.specs.Prelude.{◌≡◌, ◌<◌, ◌≤◌, ◌⊎◌, true, [], length, IfOk, IfErr, OnErr, Ok};
+ghost use Rattle.std.specs.Prelude.{◌≡◌, ◌<◌, ◌≤◌, ◌⊎◌, true, [], length, IfOk, IfErr, OnErr, MatchResult, Ok, Err};
+ghost use Rattle.hex.specs.Hex.{decode_sized};
 ghost use Rattle.std.specs.List.{list_all};
 ghost use Rattle.message_elements.specs.Types.{kind_of};
 ghost use Rattle.message_elements.specs.Values.{fits};
@@ -16,9 +17,11 @@ ghost use Rattle.card_digits.specs.Attempts.{Gives};
 ghost use Rattle.iso_message.specs.Messages.{marks, kind_at, map_at, second_at, read, Reads, is_memory};
 
 use crate::elements::{Elements, Parts};
+use crate::hex_digits::bytes_of_digits;
 use crate::message::Message;
 use crate::runs::Known;
 use card_digits::decimal;
+use hex::FromHexError;
 use message_elements::{Class, DecodeFault, Form, Kind, form_at};
 use std::alloc::Global;
 
@@ -92,6 +95,20 @@ fn counted_of<'a>(
     content_of(class, len, number, rest, known)
 }
 
+/// The bytes that sixteen hexadecimal digits write. Where a byte is no digit, they are looked at digit by digit for their fault.
+#[inline(always)]
+fn eight_bytes(digits: &[u8]) -> Result<[u8; 8], FromHexError>
+    requires { length digits.now ≡ 16 }
+    ensures { MatchResult result (λ bytes. decode_sized digits.now 8 ≡ Ok bytes) (λ e. decode_sized digits.now 8 ≡ Err e) }
+{
+    if let Some(value) = bytes_of_digits(digits) {
+        return Ok(value);
+    }
+    let mut value = [0; 8];
+    hex::decode_to_slice(digits, &mut value)?;
+    Ok(value)
+}
+
 #[tactic(auto, unfolding(crate::specs::Elements::binary_at))]
 fn binary_of(number: u8, bytes: &[u8]) -> Result<([u8; 8], &[u8]), DecodeFault>
     ensures { Reads (λ x. (x.0, x.1.now)) result (binary_at number bytes.now) }
@@ -100,9 +117,8 @@ fn binary_of(number: u8, bytes: &[u8]) -> Result<([u8; 8], &[u8]), DecodeFault>
         return Err(DecodeFault::Short);
     }
     let (digits, rest) = bytes.split_at(16);
-    let mut value = [0; 8];
-    match hex::decode_to_slice(digits, &mut value) {
-        Ok(()) => Ok((value, rest)),
+    match eight_bytes(digits) {
+        Ok(value) => Ok((value, rest)),
         Err(_) => Err(DecodeFault::Character(number)),
     }
 }
@@ -174,6 +190,24 @@ fn add_all<'a>(
     Ok(rest)
 }
 
+/// Reads the elements of the second map, and adds them.
+#[inline(always)]
+fn add_second<'a>(
+    parts: &mut Parts,
+    map: u64,
+    bytes: &'a [u8],
+    known: &mut Known,
+) -> Result<&'a [u8], DecodeFault>
+    requires known { IsKnown known.old bytes.now }
+    requires end { IsEnd bytes.now parts.old.body }
+    ensures { Gives is_memory (λ rest. (parts.new.elements, rest.now)) result (with_all parts.old.elements (marks 128 64 map) bytes.now) }
+{
+    if map == 0 {
+        return Ok(bytes);
+    }
+    add_all(parts, 128, map, bytes, known)
+}
+
 #[tactic(auto, unfolding(crate::specs::Messages::kind_at))]
 fn read_kind(bytes: &[u8]) -> Result<(Kind, &[u8]), DecodeFault>
     ensures { Reads (λ x. (x.0, x.1.now)) result (kind_at bytes.now) }
@@ -196,9 +230,8 @@ fn bit_map(bytes: &[u8]) -> Result<(u64, &[u8]), DecodeFault>
         return Err(DecodeFault::Short);
     }
     let (digits, rest) = bytes.split_at(16);
-    let mut value = [0; 8];
-    match hex::decode_to_slice(digits, &mut value) {
-        Ok(()) => Ok((u64::from_be_bytes(value), rest)),
+    match eight_bytes(digits) {
+        Ok(value) => Ok((u64::from_be_bytes(value), rest)),
         Err(_) => Err(DecodeFault::BitMap),
     }
 }
@@ -235,7 +268,7 @@ pub(crate) fn read_into(elements: &mut Elements, bytes: &[u8]) -> Result<Kind, D
     let mut parts = Parts::of(old, count as usize, binary as usize, body)?;
     let mut known = Known::of(body);
     let rest = add_all(&mut parts, 64, low, body, &mut known)?;
-    let rest = add_all(&mut parts, 128, second, rest, &mut known)?;
+    let rest = add_second(&mut parts, second, rest, &mut known)?;
     if !rest.is_empty() {
         return Err(DecodeFault::Trailing);
     }

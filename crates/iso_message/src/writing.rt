@@ -7,20 +7,17 @@ ghost use Rattle.message_elements.specs.Table.{form_of};
 ghost use Rattle.iso_message.specs.Grammar.{Spells};
 ghost use Rattle.iso_message.specs.Spelling.{two_digits, three_digits, length_text, HasLength, is_binary, piece, map_text, IsGood, IsMessage, spelling};
 
+use crate::hex_digits::digits_of_bytes;
 use message_elements::{Form, form_at};
 use std::alloc::AllocError;
 
 /// Writes eight bytes as upper-case hexadecimal digits.
-#[tactic(auto, using(crate::proofs::HexDigits::in_upper_case))]
+#[inline(always)]
 fn push_hex(out: &mut Vec<u8>, bytes: &[u8]) -> Result<(), AllocError>
     requires { length bytes.now ≡ 8 }
     ensures { OnOk result (out.new.items ≡ out.old.items ++ encode_upper bytes.now) }
 {
-    let mut digits = [0; 16];
-    // Sixteen digits are as many as eight bytes have, so this is no error.
-    let _fits = hex::encode_to_slice(bytes, &mut digits);
-    digits.make_ascii_uppercase();
-    out.extend_from_slice(&digits)
+    out.extend_from_slice(&digits_of_bytes(bytes))
 }
 
 pub(crate) fn push_map(out: &mut Vec<u8>, bits: u64) -> Result<(), AllocError>
