@@ -1,12 +1,14 @@
 -- Elements in a copied part of a buffer.
-use Rattle.std.proofs.Common.{◌≡◌, ℕ, zero, suc, Some, None, ◌+◌, ◌-◌, ◌≤◌, List, [], ◌∷◌, take, drop, sym, ap, subst, ◌∙◌, arith}
+use Rattle.std.proofs.Common.{◌≡◌, ℕ, zero, suc, false, Some, None, ◌+◌, ◌-◌, ◌<◌, ◌≤◌, length, get_or, List, ◌++◌, [], ◌∷◌, take, drop, refl, sym, ap, subst, ◌∙◌, arith}
 use Rattle.std.specs.Prelude.{slice_range, slice_get}
 use Rattle.std.proofs.lemmas.List.{drop-drop, take-take, drop-take}
 use Rattle.iso_message.specs.declared.elements.Span.{Span}
 use Rattle.iso_message.specs.declared.elements.Run.{Run}
 use Rattle.message_elements.specs.Table.{form_of}
-use Rattle.iso_message.specs.Spelling.{piece}
-use Rattle.iso_message.specs.Spans.{text_of, start_of, end_of, shown, IsWithin, AreWithin, IsInRun, moved, moved_place, IsCopied}
+use Rattle.iso_message.specs.Spelling.{IsGood, AreGood, is_binary, piece, pieces}
+use Rattle.iso_message.proofs.Together.{piece_of, pieces_at, waits_too}
+use Rattle.iso_message.proofs.MessageLemmas.{any}
+use Rattle.iso_message.specs.Spans.{text_of, start_of, end_of, shown, seen, IsWithin, AreWithin, IsInRun, moved, moved_place, IsCopied}
 
 -- a part of a part is a part
 part_of_part : (xs : List ℕ) (k n a m : ℕ) → a + m ≤ n → take m (drop a (take n (drop k xs))) ≡ take m (drop (k + a) xs)
@@ -57,3 +59,46 @@ pub within_got : (values : List ℕ) (spans : List Span) (i : ℕ) (s : Span) �
 within_got values [] i s w e = absurd (let wrong : None ≡ Some s = e in cc)
 within_got values (x ∷ xs) zero s w e = let same : x ≡ s = cc in subst (IsWithin values) same w.0
 within_got values (x ∷ xs) (suc i) s w e = within_got values xs i s w.1 e
+
+pub good_got : (values : List ℕ) (spans : List Span) (i : ℕ) (s : Span) → AreGood (seen values spans) → slice_get spans i ≡ Some s → IsGood (form_of s.number) (slice_range values (start_of s) (end_of s))
+good_got values [] i s g e = absurd (let wrong : None ≡ Some s = e in cc)
+good_got values (x ∷ xs) zero s g e = let same : x ≡ s = cc in subst (λ (t : Span). IsGood (form_of t.number) (slice_range values (start_of t) (end_of t))) same g.0
+good_got values (x ∷ xs) (suc i) s g e = good_got values xs i s g.1 e
+
+pub got_is : (spans : List Span) (i : ℕ) (s : Span) → slice_get spans i ≡ Some s → get_or spans i any ≡ s
+got_is [] i s e = absurd (let wrong : None ≡ Some s = e in cc)
+got_is (x ∷ xs) zero s e = cc
+got_is (x ∷ xs) (suc i) s e = got_is xs i s e
+
+pub got_below : (spans : List Span) (i : ℕ) (s : Span) → slice_get spans i ≡ Some s → i < length spans
+got_below [] i s e = absurd (let wrong : None ≡ Some s = e in cc)
+got_below (x ∷ xs) zero s e = omega arith
+got_below (x ∷ xs) (suc i) s e = omega (arith, got_below xs i s e)
+
+-- the pieces from a place on begin with that of the element there
+pub pieces_got : (values : List ℕ) (spans : List Span) (i : ℕ) (s : Span) → slice_get spans i ≡ Some s → pieces (seen values (drop i spans)) ≡ piece_of values s ++ pieces (seen values (drop (i + 1) spans))
+pieces_got values spans i s e = pieces_at values spans i (got_below spans i s e) ∙ ap (λ t. piece_of values t ++ pieces (seen values (drop (i + 1) spans))) (got_is spans i s e)
+
+-- an element whose piece stands in the buffer, before others
+pub spelled_first : (values : List ℕ) (spans : List Span) (i : ℕ) (s : Span) → AreWithin values spans → slice_get spans i ≡ Some s → is_binary (form_of s.number) ≡ false → slice_range values (text_of s) (end_of s) ++ pieces (seen values (drop (i + 1) spans)) ≡ pieces (seen values (drop i spans))
+spelled_first values spans i s w e other =
+    ap (λ p. p ++ pieces (seen values (drop (i + 1) spans))) (IsWithin.spelled (within_got values spans i s w e) other) ∙ sym (pieces_got values spans i s e)
+
+pub within_there : (values : List ℕ) (spans : List Span) (i : ℕ) → i < length spans → AreWithin values spans → IsWithin values (get_or spans i any)
+within_there values [] i h w = absurd (omega (arith, h))
+within_there values (x ∷ xs) zero h w = w.0
+within_there values (x ∷ xs) (suc i) h w = within_there values xs i (omega (arith, h)) w.1
+
+-- an element whose piece stands in the buffer behind others that begin at a place
+pub spelled_behind : (values : List ℕ) (spans : List Span) (i from : ℕ) (all : List ℕ) → i < length spans → AreWithin values spans → is_binary (form_of (get_or spans i any).number) ≡ false → from ≤ text_of (get_or spans i any)
+    → slice_range values from (text_of (get_or spans i any)) ++ pieces (seen values (drop i spans)) ≡ all
+    → slice_range values from (end_of (get_or spans i any)) ++ pieces (seen values (drop (i + 1) spans)) ≡ all
+spelled_behind values spans i from all h w other le e =
+    let s = get_or spans i any in
+    let later = pieces (seen values (drop (i + 1) spans)) in
+    waits_too values [] from s later all (within_there values spans i h w) other le (ap (λ ps. slice_range values from (text_of s) ++ ps) (sym (pieces_at values spans i h)) ∙ e)
+
+pub got_there : (spans : List Span) (i : ℕ) → i < length spans → slice_get spans i ≡ Some (get_or spans i any)
+got_there [] i h = absurd (omega (arith, h))
+got_there (x ∷ xs) zero h = refl
+got_there (x ∷ xs) (suc i) h = got_there xs i (omega (arith, h))

@@ -1,11 +1,11 @@
 -- Pieces that stand in the buffer one behind the other are written together.
-use Rattle.std.proofs.Common.{◌≡◌, ℕ, ◌+◌, ◌-◌, ◌<◌, ◌≤◌, false, List, [], ◌∷◌, ◌++◌, length, get_or, take, drop, refl, sym, ap, subst, ◌∙◌, append_assoc, arith}
+use Rattle.std.proofs.Common.{◌≡◌, ℕ, ◌+◌, ◌-◌, ◌<◌, ◌≤◌, false, List, ◌++◌, length, get_or, take, drop, refl, sym, ap, ◌∙◌, append_assoc, arith}
 use Rattle.std.specs.Prelude.{slice_range}
 use Rattle.std.proofs.lemmas.List.{take-append-drop, take-take, drop-take, drop-drop, drop_more}
 use Rattle.iso_message.specs.declared.elements.Span.{Span}
 use Rattle.message_elements.specs.Table.{form_of}
 use Rattle.iso_message.specs.Spans.{text_of, start_of, end_of, seen, IsWithin}
-use Rattle.iso_message.specs.Spelling.{IsGood, AreGood, is_binary, piece, pieces}
+use Rattle.iso_message.specs.Spelling.{is_binary, piece, pieces}
 use Rattle.iso_message.proofs.MessageLemmas.{any}
 
 abbrev pub piece_of : List ℕ → Span → List ℕ
@@ -13,12 +13,6 @@ piece_of values s = piece (form_of s.number) (slice_range values (start_of s) (e
 
 pub pieces_at : (values : List ℕ) (spans : List Span) (i : ℕ) → i < length spans → pieces (seen values (drop i spans)) ≡ piece_of values (get_or spans i any) ++ pieces (seen values (drop (i + 1) spans))
 pieces_at values spans i h = rw (drop_more spans i any h) refl
-
-pub good_at : (values : List ℕ) (spans : List Span) (i : ℕ) → i < length spans → AreGood (seen values (drop i spans))
-    → IsGood (form_of (get_or spans i any).number) (slice_range values (start_of (get_or spans i any)) (end_of (get_or spans i any))) × AreGood (seen values (drop (i + 1) spans))
-good_at values spans i h g =
-    let both : AreGood (seen values (get_or spans i any ∷ drop (i + 1) spans)) = subst (λ (ss : List Span). AreGood (seen values ss)) (drop_more spans i any h) g in
-    (both.0, both.1)
 
 take_parts : (n m : ℕ) (xs : List ℕ) → take n xs ++ take m (drop n xs) ≡ take (n + m) xs
 take_parts n m xs =
@@ -29,25 +23,6 @@ ranges_join values a b c h k =
     let at : drop b values ≡ drop (b - a) (drop a values) = let n : b ≡ a + (b - a) = omega arith in ap (λ j. drop j values) n ∙ sym (drop-drop (b - a) a values) in
     let n : (b - a) + (c - b) ≡ c - a = omega arith in
     ap (λ xs. slice_range values a b ++ take (c - b) xs) at ∙ take_parts (b - a) (c - b) (drop a values) ∙ ap (λ j. take j (drop a values)) n
-
-pub none_between : (values : List ℕ) (a : ℕ) → slice_range values a a ≡ []
-none_between values a = let n : a - a ≡ 0 = omega arith in rw n refl
-
--- the bytes that wait are written, and then a piece that does not stand in the buffer
-pub written_alone : (values out : List ℕ) (from to at : ℕ) (p later all : List ℕ) → out ++ (slice_range values from to ++ (p ++ later)) ≡ all → ((out ++ slice_range values from to) ++ p) ++ (slice_range values at at ++ later) ≡ all
-written_alone values out from to at p later all e =
-    ap (λ xs. ((out ++ slice_range values from to) ++ p) ++ (xs ++ later)) (none_between values at)
-    ∙ append_assoc (out ++ slice_range values from to) p later
-    ∙ append_assoc out (slice_range values from to) (p ++ later)
-    ∙ e
-
--- the bytes that wait are written, and a piece waits
-pub waits_anew : (values out : List ℕ) (from to : ℕ) (s : Span) (later all : List ℕ) → IsWithin values s → is_binary (form_of s.number) ≡ false → out ++ (slice_range values from to ++ (piece_of values s ++ later)) ≡ all
-    → (out ++ slice_range values from to) ++ (slice_range values (text_of s) (end_of s) ++ later) ≡ all
-waits_anew values out from to s later all w other e =
-    append_assoc out (slice_range values from to) (slice_range values (text_of s) (end_of s) ++ later)
-    ∙ ap (λ p. out ++ (slice_range values from to ++ (p ++ later))) (w.spelled other)
-    ∙ e
 
 -- a piece waits behind others
 pub waits_too : (values out : List ℕ) (from : ℕ) (s : Span) (later all : List ℕ) → IsWithin values s → is_binary (form_of s.number) ≡ false → from ≤ text_of s → out ++ (slice_range values from (text_of s) ++ (piece_of values s ++ later)) ≡ all

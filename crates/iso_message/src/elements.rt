@@ -1,9 +1,9 @@
 //! Elements, kept as places in one buffer.
-ghost use Rattle.std.specs.Prelude.{◌≡◌, ◌≤◌, [], ◌∷◌, ◌++◌, length, vec_capacity, map, OnOk, OnErr, IfOk, IsTrue, ◌↔◌, MatchOption, MatchResult, Some, slice_set, slice_get, slice_range, insert, drop, ◌<◌, ◌+◌, ◌^◌, if◌then◌else◌};
+ghost use Rattle.std.specs.Prelude.{◌≡◌, ◌≤◌, false, [], ◌∷◌, ◌++◌, length, vec_capacity, map, OnOk, OnErr, IfOk, IsTrue, ◌↔◌, MatchOption, MatchResult, Some, slice_set, slice_get, slice_range, insert, drop, ◌<◌, ◌+◌, ◌^◌, if◌then◌else◌};
 ghost use Rattle.iso_message.specs.Finding.{find_element, put, without};
 ghost use Rattle.iso_message.specs.Made.{kept};
 ghost use Rattle.iso_message.specs.Carried.{carried_numbers};
-ghost use Rattle.iso_message.specs.Spelling.{Ascends, IsGood, AreGood, bits, low_numbers, high_numbers, pieces};
+ghost use Rattle.iso_message.specs.Spelling.{Ascends, IsGood, AreGood, is_binary, bits, low_numbers, high_numbers, pieces};
 ghost use Rattle.message_elements.specs.Table.{form_of};
 ghost use Rattle.iso_message.specs.Spans.{text_of, span_at, start_of, end_of, seen, IsWithin, AreWithin, IsLonger, placed, numbers, IsInRun, moved, moved_place, IsCopied};
 ghost use Rattle.iso_message.specs.declared.elements.Span.{Span};
@@ -450,17 +450,54 @@ pub(crate) fn maps_of(spans: &[Span]) -> (u64, u64)
     (low, high)
 }
 
-/// Writes a part of the buffer, which is often empty.
+/// The pieces that stand in the buffer one behind the other from a place on: the place behind them, and where they end.
 #[inline(always)]
-fn push_part(out: &mut Vec<u8>, values: &[u8], from: usize, to: usize) -> Result<(), AllocError>
-    requires order { from ≤ to }
-    requires inside { to ≤ length values.now }
-    ensures { OnOk result (out.new.items ≡ out.old.items ++ slice_range values.now from to) }
+fn touching(spans: &[Span], values: &[u8], place: usize, first: Span) -> (usize, usize)
+    requires within { AreWithin values.now spans.now }
+    requires at { slice_get spans.now place ≡ Some first }
+    requires spelled { is_binary (form_of first.number) ≡ false }
+    ensures further { place < result.0 }
+    ensures bound { result.0 ≤ length spans.now }
+    ensures order { text_of first ≤ result.1 }
+    ensures inside { result.1 ≤ length values.now }
+    ensures pieces { slice_range values.now (text_of first) result.1 ++ pieces (seen values.now (drop result.0 spans.now)) ≡ pieces (seen values.now (drop place spans.now)) }
 {
-    if from == to {
-        return Ok(());
+    let mut end = first.end();
+    let mut next = place + 1;
+    while next < spans.len() {
+        let span = spans[next];
+        if span.text() != end || is_binary(span.number) {
+            return (next, end);
+        }
+        end = span.end();
+        next += 1;
     }
-    out.extend_from_slice(&values[from..to])
+    (next, end)
+}
+
+/// Writes the pieces from a place on that can be written together, and returns the place behind them.
+#[inline(always)]
+fn push_next(
+    out: &mut Vec<u8>,
+    spans: &[Span],
+    values: &[u8],
+    place: usize,
+) -> Result<usize, AllocError>
+    requires within { AreWithin values.now spans.now }
+    requires good { AreGood (seen values.now spans.now) }
+    requires at { place < length spans.now }
+    ensures further { IfOk result (λ next. place < next) }
+    ensures bound { IfOk result (λ next. next ≤ length spans.now) }
+    ensures pieces { IfOk result (λ next. out.new.items ++ pieces (seen values.now (drop next spans.now)) ≡ out.old.items ++ pieces (seen values.now (drop place spans.now))) }
+{
+    let first = spans[place];
+    if is_binary(first.number) {
+        push_piece(out, first.number, &values[first.start()..first.end()])?;
+        return Ok(place + 1);
+    }
+    let (next, end) = touching(spans, values, place, first);
+    out.extend_from_slice(&values[first.text()..end])?;
+    Ok(next)
 }
 
 /// Writes the pieces of the spans' values. Those that stand in the buffer one behind the other are written together.
@@ -469,20 +506,9 @@ fn push_pieces(out: &mut Vec<u8>, spans: &[Span], values: &[u8]) -> Result<(), A
     requires good { AreGood (seen values.now spans.now) }
     ensures { OnOk result (out.new.items ≡ out.old.items ++ pieces (seen values.now spans.now)) }
 {
-    let mut from: usize = 0;
-    let mut to: usize = 0;
-    for span in spans {
-        let text = span.text();
-        let end = span.end();
-        if is_binary(span.number) {
-            push_part(out, values, from, to)?;
-            push_piece(out, span.number, &values[span.start()..end])?;
-            from = end;
-        } else if text != to {
-            push_part(out, values, from, to)?;
-            from = text;
-        }
-        to = end;
+    let mut place = 0;
+    while place < spans.len() {
+        place = push_next(out, spans, values, place)?;
     }
-    push_part(out, values, from, to)
+    Ok(())
 }

@@ -55,10 +55,7 @@ pub(crate) fn push_length(out: &mut Vec<u8>, number: u8, len: usize) -> Result<(
 pub fn is_binary(number: u8) -> bool
     ensures { result ≡ is_binary (form_of number) }
 {
-    match form_at(number) {
-        Some(Form::Binary) => true,
-        _ => false,
-    }
+    (number == 52) | (number == 64) | (number == 128)
 }
 
 /// Writes the piece of an element.
