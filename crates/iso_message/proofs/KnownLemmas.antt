@@ -11,7 +11,8 @@ use Rattle.iso_message.proofs.Pieces.{binary_takes}
 use Rattle.message_elements.specs.declared.form.Class.{Class}
 use Rattle.message_elements.specs.declared.form.Class.TheVariants.{Digits, Text}
 use Rattle.iso_message.specs.declared.runs.Known.{Known}
-use Rattle.iso_message.specs.Known.{IsKnown}
+use Rattle.iso_message.specs.Known.{IsKnown, PassBetween}
+use Rattle.iso_message.proofs.LaneLemmas.{front_passes}
 
 -- the same holds of the bytes behind a front
 behind : (class : Class) (left : ℕ) (v rest : List ℕ) → list_all (fits class) (take (length (v ++ rest) - left) (v ++ rest)) ≡ true → list_all (fits class) (take (length rest - left) rest) ≡ true
@@ -45,3 +46,9 @@ pub binary_behind : (k : Known) (n : ℕ) (bytes v rest : List ℕ) → binary_a
 binary_behind k n bytes v rest e h =
     let b = binary_takes n bytes v rest e in
     known_behind k b.0 rest (subst (λ (bs : List ℕ). IsKnown k bs) b.1 h)
+
+-- what a run from the first byte on says of all bytes but those behind it
+pub front_of : (class : Class) (bytes : List ℕ) (run : ℕ) → run ≤ length bytes → PassBetween (fits class) bytes 0 run → list_all (fits class) (take (length bytes - (length bytes - run)) bytes) ≡ true
+front_of class bytes run le h =
+    let same : length bytes - (length bytes - run) ≡ run = omega (arith, le) in
+    rw same (front_passes (fits class) bytes run le h)

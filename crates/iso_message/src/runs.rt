@@ -3,7 +3,7 @@ ghost use Rattle.std.specs.Prelude.{◌≡◌, ◌≤◌, ◌+◌, length, take}
 ghost use Rattle.std.specs.List.{list_all};
 ghost use Rattle.message_elements.specs.Values.{fits, AreOf};
 ghost use Rattle.message_elements.specs.declared.form.Class.TheVariants.{Digits, Text};
-ghost use Rattle.iso_message.specs.Known.{IsKnown, PassIn, lanes_before};
+ghost use Rattle.iso_message.specs.Known.{IsKnown, PassBetween, PassIn, lanes_before};
 
 use message_elements::{Class, are_of};
 use std::simd::prelude::*;
@@ -71,12 +71,14 @@ fn run_in(class: Class, bytes: &[u8], at: usize) -> usize
     }
 }
 
-/// A number of bytes from the first on that are of the class, one at a time.
-fn short_run(class: Class, bytes: &[u8]) -> usize
+/// A number of bytes from the first on that are of the class, as those before a place are, one at a time.
+fn short_run(class: Class, bytes: &[u8], from: usize) -> usize
+    requires inside { from ≤ length bytes.now }
+    requires front { PassBetween (fits class) bytes.now 0 from }
     ensures bound { result ≤ length bytes.now }
-    ensures class { AreOf class (take result bytes.now) }
+    ensures passes { PassBetween (fits class) bytes.now 0 result }
 {
-    let mut done = 0;
+    let mut done = from;
     while done < bytes.len() {
         if !fits_class(class, bytes[done]) {
             return done;
@@ -86,18 +88,20 @@ fn short_run(class: Class, bytes: &[u8]) -> usize
     done
 }
 
-/// A number of bytes from the first on that are of the class.
+/// A number of bytes from the first on that are of the class, as those before a place are.
 #[inline(always)]
-fn run_of(class: Class, bytes: &[u8]) -> usize
+fn run_from(class: Class, bytes: &[u8], from: usize) -> usize
+    requires inside { from ≤ length bytes.now }
+    requires front { PassBetween (fits class) bytes.now 0 from }
     ensures bound { result ≤ length bytes.now }
-    ensures class { AreOf class (take result bytes.now) }
+    ensures passes { PassBetween (fits class) bytes.now 0 result }
 {
     if bytes.len() < LANES {
-        return short_run(class, bytes);
+        return short_run(class, bytes, from);
     }
     // The last sixteen may overlap those before them.
     let last = bytes.len() - LANES;
-    let mut done = 0;
+    let mut done = from;
     while done < last {
         let run = run_in(class, bytes, done);
         if run < LANES {
@@ -114,13 +118,15 @@ impl Known {
     ghost use Rattle.message_elements.specs.Values.{fits, AreOf};
     ghost use Rattle.iso_message.specs.Known.{IsKnown};
 
-    /// What is known of the bytes before they are read: how far they are text.
+    /// What is known of the bytes before they are read: how far they are digits, and how far text, which digits are too.
     pub(crate) fn of(bytes: &[u8]) -> Known
         ensures { IsKnown result bytes.now }
     {
+        let digits = run_from(Class::Digits, bytes, 0);
+        let text = run_from(Class::Text, bytes, digits);
         Known {
-            digits: bytes.len(),
-            text: bytes.len() - run_of(Class::Text, bytes),
+            digits: bytes.len() - digits,
+            text: bytes.len() - text,
         }
     }
 
@@ -137,7 +143,7 @@ impl Known {
                 if self.digits <= after {
                     return self.digits;
                 }
-                let run = run_of(Class::Digits, bytes);
+                let run = run_from(Class::Digits, bytes, 0);
                 self.digits = bytes.len() - run;
                 return self.digits;
             }

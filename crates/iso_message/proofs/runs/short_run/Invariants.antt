@@ -6,7 +6,7 @@ use Rattle.iso_message.proofs.runs.short_run.Given as goal
 abbrev pub invariant-loop-done : goal.invariant-loop-done
 invariant-loop-done l = record {
   bound : l.done ≤ length l.bytes;
-  class : PassBetween (fits l.class) l.bytes 0 l.done;
+  passes : PassBetween (fits l.class) l.bytes 0 l.done;
 }
 
 abbrev pub decreases-loop-done : goal.decreases-loop-done

@@ -1,12 +1,12 @@
 use Rattle.std.proofs.Common.{◌≤◌, ◌-◌, length}
 use Rattle.message_elements.specs.Values.{fits}
 use Rattle.iso_message.specs.Known.{PassBetween}
-use Rattle.iso_message.proofs.runs.run_of.Given as goal
+use Rattle.iso_message.proofs.runs.run_from.Given as goal
 
 abbrev pub invariant-loop-done : goal.invariant-loop-done
 invariant-loop-done l = record {
   bound : l.done ≤ length l.bytes;
-  class : PassBetween (fits l.class) l.bytes 0 l.done;
+  passes : PassBetween (fits l.class) l.bytes 0 l.done;
 }
 
 abbrev pub decreases-loop-done : goal.decreases-loop-done

@@ -1,0 +1,9 @@
+use Rattle.message_elements.specs.declared.form.Class.TheVariants.{Digits, Text}
+use Rattle.iso_message.proofs.KnownLemmas.{front_of}
+use Rattle.iso_message.proofs.runs.Known.of.Goals as goal
+
+pub returns : goal.returns
+returns c = record {
+  digits = front_of Digits c.args.bytes.now c.run_from-digits.result c.run_from-digits.ensures.bound c.run_from-digits.ensures.passes;
+  text = front_of Text c.args.bytes.now c.run_from-text.result c.run_from-text.ensures.bound c.run_from-text.ensures.passes;
+}
