@@ -55,17 +55,17 @@ fn length_of<'a>(
     most: usize,
     number: u8,
     bytes: &'a [u8],
-    known: &mut Known,
+    known: &Known,
 ) -> Result<(usize, &'a [u8]), DecodeFault>
     requires few { width < 4 }
-    requires known { IsKnown known.old bytes.now }
+    requires known { IsKnown known.now bytes.now }
     ensures value { Reads (λ x. (x.0, x.1.now)) result (length_at width most number bytes.now) }
-    ensures known { IfOk result (λ x. IsKnown known.new x.1.now) }
+    ensures known { IfOk result (λ x. IsKnown known.now x.1.now) }
 {
     if bytes.len() < width {
         return Err(DecodeFault::Short);
     }
-    if !known.is_front(Class::Digits, width, bytes) {
+    if !known.are_digits(width, bytes) {
         return Err(DecodeFault::Length(number));
     }
     let (digits, rest) = bytes.split_at(width);

@@ -162,4 +162,14 @@ impl Known {
         let left = self.left(class, after, bytes);
         left <= after || are_of(class, &bytes[..size])
     }
+
+    /// Whether so few bytes from the first on are digits. They are looked at one by one where it isn't known.
+    #[inline(always)]
+    pub(crate) fn are_digits(&self, size: usize, bytes: &[u8]) -> bool
+        requires size { size ≤ length bytes.now }
+        requires known { IsKnown self.now bytes.now }
+        ensures { result ≡ list_all (fits Digits) (take size bytes.now) }
+    {
+        self.digits <= bytes.len() - size || are_of(Class::Digits, &bytes[..size])
+    }
 }
