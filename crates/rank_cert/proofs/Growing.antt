@@ -1,5 +1,5 @@
 -- Runs stay runs when a row is added.
-use Rattle.std.proofs.Common.{◌≡◌, ℕ, ◌==◌, ◌&&◌, ◌||◌, ◌++◌, Bool, true, false, cond, List, [], ◌∷◌, Option, Some, None, is_some, refl, sym, ap, ◌∙◌, inl, inr, arith, length, drop, length-append, rules}
+use Rattle.std.proofs.Common.{◌≡◌, ℕ, ◌==◌, ◌&&◌, ◌||◌, ◌++◌, Bool, true, false, cond, List, [], ◌∷◌, Option, Some, None, is_some, refl, sym, ap, ◌∙◌, inl, inr, arith, length, drop, length-append, length-drop, ◌<◌, rules}
 use Rattle.std.specs.Cmp.{IsEquivalence}
 use Rattle.std.specs.Cmp.Rules.{comparing}
 use Rattle.std.specs.Prelude.{MatchOption, IfOk, OnErr, Result, Ok, Err}
@@ -12,7 +12,7 @@ use Rattle.rank_cert.specs.declared.cert.Rank.{Rank}
 use Rattle.rank_cert.specs.declared.runs.Added.{Added}
 use Rattle.rank_cert.specs.declared.runs.Added.TheVariants.{Yes, Twice, Apart}
 use Rattle.rank_cert.specs.Adding.{Adds}
-use Rattle.rank_cert.specs.Ranks.{is_of, rank_of}
+use Rattle.rank_cert.specs.Ranks.{is_of, rank_of, EndsWith}
 use Rattle.rank_cert.specs.Runs.{rank_in_run, begins_with, has_name, begin_of, HasNone, AreOf, IsRun, AreRuns}
 
 -- ---- rows of another prefix
@@ -169,3 +169,23 @@ after_run rows new begins last r known (Ok Yes) runs is ok err = rw ok.1 (push_l
 after_run rows new begins last r known (Ok Twice) runs is ok err = rw ok.1 runs
 after_run rows new begins last r known (Ok Apart) runs is ok err = rw ok runs
 after_run rows new begins last r known (Err e) runs is ok err = rw err runs
+
+-- ---- a row of the last row's prefix
+
+of_last : (rows : List Rank) (r : Rank) (prefix : List ℕ) → AreOf (rows ++ r ∷ []) prefix → r.prefix ≡ prefix
+of_last [] r prefix all = all.0
+of_last (s ∷ rows) r prefix all = of_last rows r prefix all.1
+
+-- the last run is that of the last row's prefix
+pub begins_last : (rows : List Rank) (begins : List (List ℕ × ℕ)) (last : ℕ) (prefix : List ℕ) → AreRuns rows begins last → last < length rows → EndsWith prefix rows → begins_with (drop last rows) prefix ≡ true
+begins_last rows begins last prefix runs within ends = by (drop last rows) refl
+  where
+    by : (rest : List Rank) → drop last rows ≡ rest → begins_with rest prefix ≡ true
+    by [] is = absurd (omega (arith, length-drop last rows, ap length is))
+    by (s ∷ rest) is =
+        let first : begins_with (drop last rows) s.prefix ≡ true = rw is (same_digits s.prefix) in
+        let end : drop last rows ≡ drop last ends.front ++ ends.last ∷ [] =
+        ap (drop last) ends.whole ∙ drop-append-le last ends.front (ends.last ∷ []) (omega (arith, ap length ends.whole, length-append ends.front (ends.last ∷ []))) in
+        let same : ends.last.prefix ≡ s.prefix = of_last (drop last ends.front) ends.last s.prefix (rw end at (runs.last_goes_on s.prefix first)) in
+        let here : s.prefix ≡ prefix = sym same ∙ ends.is in
+        rw here (same_digits prefix)

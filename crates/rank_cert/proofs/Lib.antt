@@ -4,5 +4,6 @@ mod Cuts
 mod Growing
 pub mod LineFields
 mod Pairs
+pub mod Ranked
 pub mod Together
 mod Marked

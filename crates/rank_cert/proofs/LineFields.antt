@@ -1,25 +1,26 @@
 -- The fields of a line, read from the front.
-use Rattle.std.proofs.Common.{◌≡◌, ℕ, ◌<◌, ◌==◌, ◌||◌, ◌++◌, Bool, true, false, not, cond, List, [], ◌∷◌, Option, Some, None, Ok, refl, sym, ap, ◌∙◌, inl, inr, arith, suc, ◌+◌, length, get_or, take, drop, drop-cons, add-one, nat_lt, append_assoc, Err}
-use Rattle.std.proofs.lemmas.List.{take-append-drop}
-use Rattle.std.proofs.Math.Seq.{take-length}
-use Rattle.std.specs.Prelude.{option_map, codes, is_none, is_some}
+use Rattle.std.proofs.Common.{◌≡◌, ℕ, ◌<◌, ◌==◌, ◌||◌, ◌++◌, Bool, true, false, not, cond, List, [], ◌∷◌, Option, Some, None, Ok, refl, sym, ap, ◌∙◌, inl, inr, arith, ◌+◌, ◌-◌, length, take, nat_lt, append_assoc, length-append, Err}
+use Rattle.std.proofs.lemmas.List.{take_at, length_push}
+use Rattle.std.specs.Prelude.{option_map, codes, is_none, is_some, Result}
 use Rattle.std.specs.Cmp.Lexicographic.{same_text}
 use Rattle.std.proofs.lemmas.List.Elements.{All-cons, All-append}
 use Rattle.std.specs.Char.{is_ascii_digit, is_ascii_alphanumeric}
 use Rattle.std.specs.List.{list_all, onto_first}
 use Rattle.std.specs.Result.{result_ok}
-use Rattle.std.proofs.lemmas.Bool.{cases_Bool}
+use Rattle.std.proofs.lemmas.Bool.{cases_Bool, and_parts}
 use Rattle.std.proofs.lemmas.List.Splits.{length-slice_split}
 use Rattle.card_digits.specs.Cut.{IsCut}
-use Rattle.card_digits.specs.Digits.{IsPrefix, digits_text}
-use Rattle.card_digits.specs.Reading.{name_of}
+use Rattle.card_digits.specs.Digits.{IsPrefix, digits_of, digits_text}
+use Rattle.card_digits.specs.Reading.{name_of, read_digits}
+use Rattle.card_digits.specs.declared.card.DigitFault.TheVariants.{NotDigit, Length}
+use Rattle.card_digits.proofs.Decimals.{digit_at}
 use Rattle.card_digits.specs.Steps.{◌>>=◌}
 use Rattle.card_digits.specs.Lines.{lines}
 use Rattle.card_digits.proofs.Cuts.{Others}
 use Rattle.card_digits.proofs.LineCuts.{lines-at}
 use Rattle.rank_cert.specs.declared.cert.Rank.{Rank}
 use Rattle.rank_cert.specs.declared.fault.CertFault.TheVariants.{Twice}
-use Rattle.rank_cert.specs.Like.{IsLike}
+use Rattle.rank_cert.specs.Like.{IsSpelled, IsRanked, IsLike}
 use Rattle.rank_cert.specs.Ranks.{rank_of}
 use Rattle.rank_cert.specs.Reading.{fields, three, number_of, prefix_of, row_of, is_line, line_behind, new_row, then_rows, rows_in}
 use Rattle.rank_cert.proofs.Cuts.{fields-at, fields-one}
@@ -171,15 +172,6 @@ pub a_row : (line name node behind prefix rank : List ℕ) → IsCut 32 line nam
     → row_of line ≡ option_map (row_with node prefix) (number_of rank)
 a_row line name node behind prefix rank cut n is = in_fields line name behind cut ∙ with_fields name node prefix rank (fields behind) n is
 
--- ---- digits, and a space at the place behind them
-
-pub spelled_at : (text digits : List ℕ) → length digits < length text → get_or text (length digits) 0 ≡ 32 → take (length digits) text ≡ digits_text (take (length digits) digits)
-    → text ≡ digits_text digits ++ 32 ∷ drop (length digits + 1) text
-spelled_at text digits within space same =
-    let front : take (length digits) text ≡ digits_text digits = rw take-length at same in
-    let behind : drop (length digits) text ≡ 32 ∷ drop (length digits + 1) text = rw add-one (drop-cons text (length digits) 0 within ∙ ap (λ (b : ℕ). b ∷ drop (suc (length digits)) text) space) in
-    sym (take-append-drop (length digits) text) ∙ (ap (λ (xs : List ℕ). xs ++ drop (length digits) text) front ∙ ap (λ (xs : List ℕ). digits_text digits ++ xs) behind)
-
 -- ---- a line of the prefix of the line before it
 
 letters : (name node : List ℕ) (few all : Bool) → cond (few || not all) None (Some name) ≡ Some node → all ≡ true
@@ -189,29 +181,45 @@ letters name node false false h = cc
 
 -- the line
 abbrev line_like : List ℕ → List ℕ → List ℕ → List ℕ
-line_like prefix name rank = name ++ 32 ∷ (digits_text prefix ++ 32 ∷ rank)
+line_like prefix name digits = name ++ 32 ∷ (digits_text prefix ++ 32 ∷ digits)
 
-row_like : (prefix text name rank rest node : List ℕ) → IsLike prefix text name rank rest → name_of name ≡ Some node → row_of (line_like prefix name rank) ≡ option_map (row_with node prefix) (number_of rank)
-row_like prefix text name rank rest node h is =
-    a_row (line_like prefix name rank) name node (digits_text prefix ++ 32 ∷ rank) prefix rank (record { none = h.one_name; whole = refl }) is
-    (prefix_spelled (digits_text prefix ++ 32 ∷ rank) prefix rank h.form refl)
+row_like : (prefix name digits node : List ℕ) (rank : ℕ) → IsPrefix prefix → Others 32 name → name_of name ≡ Some node → number_of digits ≡ Some rank → row_of (line_like prefix name digits) ≡ Some (row_with node prefix rank)
+row_like prefix name digits node rank form one_name is number =
+    a_row (line_like prefix name digits) name node (digits_text prefix ++ 32 ∷ digits) prefix digits (record { none = one_name; whole = refl }) is
+    (prefix_spelled (digits_text prefix ++ 32 ∷ digits) prefix digits form refl)
+    ∙ ap (option_map (row_with node prefix)) number
 
-feedless : (prefix text name rank rest node : List ℕ) → IsLike prefix text name rank rest → name_of name ≡ Some node → Others 10 (line_like prefix name rank)
-feedless prefix text name rank rest node h is =
+feedless : (prefix name digits node : List ℕ) → IsPrefix prefix → Others 10 digits → name_of name ≡ Some node → Others 10 (line_like prefix name digits)
+feedless prefix name digits node form one_line is =
     let P = λ (b : ℕ). (b == 10) ≡ false in
     let passes = letters name node (length name == 0 || nat_lt 8 (length name)) (list_all is_ascii_alphanumeric name) is in
-    All-append P name (32 ∷ (digits_text prefix ++ 32 ∷ rank))
+    All-append P name (32 ∷ (digits_text prefix ++ 32 ∷ digits))
     (others_from is_ascii_alphanumeric 10 refl name passes)
-    (All-cons P 32 (digits_text prefix ++ 32 ∷ rank) refl
-    (All-append P (digits_text prefix) (32 ∷ rank)
-    (others_from is_ascii_digit 10 refl (digits_text prefix) (digits_pass prefix h.form.digits))
-    (All-cons P 32 rank refl h.one_line)))
+    (All-cons P 32 (digits_text prefix ++ 32 ∷ digits) refl
+    (All-append P (digits_text prefix) (32 ∷ digits)
+    (others_from is_ascii_digit 10 refl (digits_text prefix) (digits_pass prefix form.digits))
+    (All-cons P 32 digits refl one_line)))
 
-lines_like : (prefix text name rank rest node : List ℕ) → IsLike prefix text name rank rest → name_of name ≡ Some node → lines text ≡ line_like prefix name rank ∷ lines rest
-lines_like prefix text name rank rest node h is =
-    let apart : line_like prefix name rank ++ 10 ∷ rest ≡ name ++ 32 ∷ (digits_text prefix ++ 32 ∷ (rank ++ 10 ∷ rest)) =
-    append_assoc name (32 ∷ (digits_text prefix ++ 32 ∷ rank)) (10 ∷ rest) ∙ ap (λ (xs : List ℕ). name ++ 32 ∷ xs) (append_assoc (digits_text prefix) (32 ∷ rank) (10 ∷ rest)) in
-    ap lines (h.whole ∙ sym apart) ∙ lines-at (line_like prefix name rank) rest (feedless prefix text name rank rest node h is)
+whole_like : (prefix name digits text behind spelled after rest : List ℕ) → text ≡ name ++ 32 ∷ behind → behind ≡ spelled ++ after → spelled ≡ digits_text prefix ++ 32 ∷ [] → after ≡ digits ++ 10 ∷ rest
+    → text ≡ line_like prefix name digits ++ 10 ∷ rest
+whole_like prefix name digits text behind spelled after rest is cut same ranked =
+    let parts : behind ≡ digits_text prefix ++ 32 ∷ (digits ++ 10 ∷ rest) =
+    cut ∙ (ap (λ (xs : List ℕ). xs ++ after) same ∙ (append_assoc (digits_text prefix) (32 ∷ []) after ∙ ap (λ (xs : List ℕ). digits_text prefix ++ 32 ∷ xs) ranked)) in
+    let apart : line_like prefix name digits ++ 10 ∷ rest ≡ name ++ 32 ∷ (digits_text prefix ++ 32 ∷ (digits ++ 10 ∷ rest)) =
+    append_assoc name (32 ∷ (digits_text prefix ++ 32 ∷ digits)) (10 ∷ rest) ∙ ap (λ (xs : List ℕ). name ++ 32 ∷ xs) (append_assoc (digits_text prefix) (32 ∷ digits) (10 ∷ rest)) in
+    is ∙ (ap (λ (xs : List ℕ). name ++ 32 ∷ xs) parts ∙ sym apart)
+
+-- a name, the prefix as it is spelled, and a rank
+pub is_like : (text name behind prefix spelled after rest node : List ℕ) (rank : ℕ) → IsCut 32 text name behind → name_of name ≡ Some node → IsSpelled prefix spelled → behind ≡ spelled ++ after → IsRanked after rank rest
+    → IsLike text (row_with node prefix rank) rest
+is_like text name behind prefix spelled after rest node rank cut is spells goes_on ranked =
+    let whole : text ≡ line_like prefix name ranked.digits ++ 10 ∷ rest = whole_like prefix name ranked.digits text behind spelled after rest cut.whole goes_on spells.spelled ranked.whole in
+    record {
+      line = line_like prefix name ranked.digits;
+      first = ap lines whole ∙ lines-at (line_like prefix name ranked.digits) rest (feedless prefix name ranked.digits node spells.form ranked.one_line is);
+      row = row_like prefix name ranked.digits node rank spells.form cut.none is ranked.number;
+      shorter = omega (arith, ap length whole, length-append (line_like prefix name ranked.digits) (10 ∷ rest));
+    }
 
 -- a line that is a row isn't the end
 not_end : (line : List ℕ) (r : Rank) → row_of line ≡ Some r → (t : Bool) → is_line line (codes "END") ≡ t → t ≡ false
@@ -221,27 +229,55 @@ not_end line r some true is =
     let none : row_of line ≡ None = rw same refl in
     cc
 
-rows_like : (done : List Rank) (prefix text name rank rest node : List ℕ) (r : Rank) → IsLike prefix text name rank rest → name_of name ≡ Some node → Some r ≡ option_map (row_with node prefix) (number_of rank)
-    → rows_in done (lines text) ≡ then_rows (new_row done (Some r)) (λ s. rows_in (done ++ s ∷ []) (lines rest))
-rows_like done prefix text name rank rest node r h is ranked =
-    let some : row_of (line_like prefix name rank) ≡ Some r = row_like prefix text name rank rest node h is ∙ sym ranked in
-    ap (rows_in done) (lines_like prefix text name rank rest node h is)
-    ∙ rw (not_end (line_like prefix name rank) r some (is_line (line_like prefix name rank) (codes "END")) refl, some) refl
+rows_like : (done : List Rank) (text rest : List ℕ) (r : Rank) → IsLike text r rest → rows_in done (lines text) ≡ then_rows (new_row done (Some r)) (λ s. rows_in (done ++ s ∷ []) (lines rest))
+rows_like done text rest r h =
+    ap (rows_in done) h.first
+    ∙ rw (not_end h.line r h.row (is_line h.line (codes "END")) refl, h.row) refl
 
-pub one_more : (done new : List Rank) (prefix text name rank rest node : List ℕ) (r : Rank) → IsLike prefix text name rank rest → name_of name ≡ Some node → Some r ≡ option_map (row_with node prefix) (number_of rank)
-    → is_none (rank_of done r.node r.prefix) ≡ true → new ≡ done ++ r ∷ [] → rows_in done (lines text) ≡ rows_in new (lines rest)
-one_more done new prefix text name rank rest node r h is ranked new_pair more =
-    rows_like done prefix text name rank rest node r h is ranked ∙ added (rank_of done r.node r.prefix) new_pair
+pub one_more : (done new : List Rank) (text rest : List ℕ) (r : Rank) → IsLike text r rest → is_none (rank_of done r.node r.prefix) ≡ true → new ≡ done ++ r ∷ [] → rows_in done (lines text) ≡ rows_in new (lines rest)
+one_more done new text rest r h new_pair more =
+    rows_like done text rest r h ∙ added (rank_of done r.node r.prefix) new_pair
   where
     added : (o : Option ℕ) → is_none o ≡ true → then_rows (cond (is_some o) (Err (Twice (line_behind done))) (Ok r)) (λ s. rows_in (done ++ s ∷ []) (lines rest)) ≡ rows_in new (lines rest)
     added None is_new = rw more refl
     added (Some k) is_new = absurd cc
 
-pub twice : (done : List Rank) (prefix text name rank rest node : List ℕ) (r : Rank) → IsLike prefix text name rank rest → name_of name ≡ Some node → Some r ≡ option_map (row_with node prefix) (number_of rank)
-    → is_none (rank_of done r.node r.prefix) ≡ false → rows_in done (lines text) ≡ Err (Twice (line_behind done))
-twice done prefix text name rank rest node r h is ranked old_pair =
-    rows_like done prefix text name rank rest node r h is ranked ∙ refused (rank_of done r.node r.prefix) old_pair
+pub twice : (done : List Rank) (text rest : List ℕ) (r : Rank) → IsLike text r rest → is_none (rank_of done r.node r.prefix) ≡ false → rows_in done (lines text) ≡ Err (Twice (line_behind done))
+twice done text rest r h old_pair =
+    rows_like done text rest r h ∙ refused (rank_of done r.node r.prefix) old_pair
   where
     refused : (o : Option ℕ) → is_none o ≡ false → then_rows (cond (is_some o) (Err (Twice (line_behind done))) (Ok r)) (λ s. rows_in (done ++ s ∷ []) (lines rest)) ≡ Err (Twice (line_behind done))
     refused None is_old = absurd cc
     refused (Some k) is_old = refl
+
+-- ---- how a line spells its prefix
+
+digits_back : (text : List ℕ) → list_all is_ascii_digit text ≡ true → digits_text (digits_of text) ≡ text
+digits_back [] h = refl
+digits_back (b ∷ bs) h =
+    let parts = and_parts (is_ascii_digit b) (list_all is_ascii_digit bs) h in
+    let byte = digit_at (b ∷ bs) 0 h (omega arith) in
+    let back : b - 48 + 48 ≡ b = omega (arith, byte.low) in
+    rw (back, digits_back bs parts.1) refl
+
+text_of_digits : (text prefix : List ℕ) → read_digits 1 12 text ≡ Ok prefix → digits_text prefix ≡ text
+text_of_digits text prefix is = by (list_all is_ascii_digit text) (nat_lt (length text) 1 || nat_lt 12 (length text)) refl is
+  where
+    by : (all far : Bool) → list_all is_ascii_digit text ≡ all → cond (not all) (Err NotDigit) (cond far (Err Length) (Ok (digits_of text))) ≡ Ok prefix → digits_text prefix ≡ text
+    by false far passes read = absurd cc
+    by true true passes read = absurd cc
+    by true false passes read = let same : digits_of text ≡ prefix = cc in rw (← same) (digits_back text passes)
+
+pub ok_from : {A E : Type 0} (r : Result A E) (x : A) → result_ok r ≡ Some x → r ≡ Ok x
+ok_from (Ok y) x is = let same : y ≡ x = cc in rw same refl
+ok_from (Err e) x is = absurd cc
+
+-- the digits that were read as a prefix, and the space behind them
+pub spelled_as : (behind text rank prefix : List ℕ) → IsCut 32 behind text rank → read_digits 1 12 text ≡ Ok prefix → IsPrefix prefix → IsSpelled prefix (take (length text + 1) behind)
+spelled_as behind text rank prefix cut is form = record {
+  form = form;
+  spelled =
+    let whole : behind ≡ (text ++ 32 ∷ []) ++ rank = cut.whole ∙ sym (append_assoc text (32 ∷ []) rank) in
+    let front : take (length text + 1) behind ≡ text ++ 32 ∷ [] = ap (take (length text + 1)) whole ∙ take_at (text ++ 32 ∷ []) rank (length text + 1) (length_push text 32) in
+    front ∙ ap (λ (xs : List ℕ). xs ++ 32 ∷ []) (sym (text_of_digits text prefix is));
+}

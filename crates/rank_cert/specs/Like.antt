@@ -1,10 +1,25 @@
 -- A line of the prefix of the line before it.
-use Rattle.std.specs.Prelude.{◌≡◌, ℕ, ◌==◌, false, List, ◌∷◌, ◌++◌, All}
+use Rattle.std.specs.Prelude.{◌≡◌, ℕ, ◌<◌, ◌==◌, false, List, [], ◌∷◌, ◌++◌, length, Some, All}
 use Rattle.card_digits.specs.Digits.{IsPrefix, digits_text}
+use Rattle.card_digits.specs.Lines.{lines}
+use Rattle.rank_cert.specs.declared.cert.Rank.{Rank}
+use Rattle.rank_cert.specs.Reading.{number_of, row_of}
 
--- the text's first line is a name, the prefix and a rank
-pub record IsLike (prefix text name rank rest : List ℕ) : Type 0 where
+-- the text is the digits of the prefix and a space
+pub record IsSpelled (prefix text : List ℕ) : Type 0 where
   pub form : IsPrefix prefix
-  pub whole : text ≡ name ++ 32 ∷ (digits_text prefix ++ 32 ∷ (rank ++ 10 ∷ rest))
-  pub one_name : All (λ b. (b == 32) ≡ false) name
-  pub one_line : All (λ b. (b == 10) ≡ false) rank
+  pub spelled : text ≡ digits_text prefix ++ 32 ∷ []
+
+-- a rank stands before the first line feed, and this behind it
+pub record IsRanked (text : List ℕ) (rank : ℕ) (rest : List ℕ) : Type 0 where
+  pub digits : List ℕ
+  pub whole : text ≡ digits ++ 10 ∷ rest
+  pub number : number_of digits ≡ Some rank
+  pub one_line : All (λ b. (b == 10) ≡ false) digits
+
+-- the text's first line is the row, and this stands behind the line
+pub record IsLike (text : List ℕ) (r : Rank) (rest : List ℕ) : Type 0 where
+  pub line : List ℕ
+  pub first : lines text ≡ line ∷ lines rest
+  pub row : row_of line ≡ Some r
+  pub shorter : length rest < length text

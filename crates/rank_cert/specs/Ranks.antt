@@ -36,3 +36,10 @@ AddsRows done (r ∷ rs) = IsRow r × (rank_of done r.node r.prefix ≡ None) ×
 -- rows of which no two have the same pair
 abbrev pub IsCert : List Rank → Type 0
 IsCert rows = AddsRows [] rows
+
+-- the last row has the prefix
+pub record EndsWith (prefix : List ℕ) (rows : List Rank) : Type 0 where
+  pub front : List Rank
+  pub last : Rank
+  pub whole : rows ≡ front ++ last ∷ []
+  pub is : last.prefix ≡ prefix

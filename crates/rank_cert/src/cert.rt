@@ -1,6 +1,6 @@
 //! Ranks of pairs of a node's name and a prefix.
 ghost use Rattle.std.specs.Prelude.{◌≡◌, [], ◌∷◌, ◌++◌, Some, IfOk, IfSome, OnErr};
-ghost use Rattle.rank_cert.specs.Ranks.{rank_of, is_new, IsRow, IsCert};
+ghost use Rattle.rank_cert.specs.Ranks.{rank_of, is_new, IsRow, IsCert, EndsWith};
 ghost use Rattle.rank_cert.specs.Runs.{IsRun};
 
 use crate::kept::Kept;
@@ -210,6 +210,19 @@ impl Cert {
         ensures err { OnErr result (self.new ≡ self.old) }
     {
         self.kept.add(row)
+    }
+
+    /// The same for a row of the last row's prefix.
+    #[inline]
+    pub(crate) fn add_to_last(&mut self, row: Rank) -> Result<bool, AllocError>
+        requires good { IsRow row }
+        requires ends { EndsWith row.prefix self.old }
+        ensures added { IfOk result (λ added. added ≡ is_none (rank_of self.old row.node row.prefix)) }
+        ensures yes { result ≡ Ok true → self.new ≡ self.old ++ row ∷ [] }
+        ensures no { result ≡ Ok false → self.new ≡ self.old }
+        ensures err { OnErr result (self.new ≡ self.old) }
+    {
+        self.kept.add_to_last(row)
     }
 }
 

@@ -1,6 +1,6 @@
 //! The rows of a certificate: in runs as long as each prefix's rows stand together, and otherwise in a set.
 ghost use Rattle.std.specs.Prelude.{◌≡◌, ◌≤◌, ◌∷◌, ◌++◌, [], true, false, is_none, Ok, IfOk, IfSome, OnErr, if◌then◌else◌};
-ghost use Rattle.rank_cert.specs.Ranks.{rank_of, IsCert};
+ghost use Rattle.rank_cert.specs.Ranks.{rank_of, IsCert, EndsWith};
 ghost use Rattle.rank_cert.specs.Kept.{rows_of};
 ghost use Rattle.rank_cert.specs.Runs.{IsRun};
 
@@ -87,6 +87,26 @@ impl Kept {
         match self {
             Kept::Apart(set) => add_to_set(set, row),
             Kept::Together(runs) => match runs.add(row)? {
+                Added::Yes => Ok(true),
+                Added::Twice => Ok(false),
+                Added::Apart => self.move_over(&row),
+            },
+        }
+    }
+
+    /// The same for a row of the last row's prefix.
+    #[inline]
+    pub fn add_to_last(&mut self, row: Rank) -> Result<bool, AllocError>
+        requires cert { IsCert (rows_of self.old) }
+        requires ends { EndsWith row.prefix (rows_of self.old) }
+        ensures added { IfOk result (λ added. added ≡ is_none (rank_of (rows_of self.old) row.node row.prefix)) }
+        ensures yes { result ≡ Ok true → rows_of self.new ≡ rows_of self.old ++ row ∷ [] }
+        ensures no { result ≡ Ok false → rows_of self.new ≡ rows_of self.old }
+        ensures err { OnErr result (rows_of self.new ≡ rows_of self.old) }
+    {
+        match self {
+            Kept::Apart(set) => add_to_set(set, row),
+            Kept::Together(runs) => match runs.add_to_last(row)? {
                 Added::Yes => Ok(true),
                 Added::Twice => Ok(false),
                 Added::Apart => self.move_over(&row),

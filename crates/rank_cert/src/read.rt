@@ -6,8 +6,8 @@ ghost use Rattle.rank_cert.specs.Reading.{is_line, new_row, line_behind, rows_in
 
 use crate::cert::Cert;
 use crate::fault::CertFault;
-use crate::row::{add_all_like, row_of};
-use card_digits::{Prefix, first_line};
+use crate::row::{Spelled, add_all_like, row_of};
+use card_digits::first_line;
 use std::alloc::Global;
 
 fn is_header(line: &[u8]) -> bool
@@ -55,8 +55,8 @@ fn read_rows(alloc: Global, text: &[u8]) -> Result<Cert, CertFault>
         if is_end(line) {
             return ended(cert, behind);
         }
-        let prefix = read_row(&mut cert, line)?;
-        rest = add_all_like(&mut cert, &prefix, behind)?;
+        let spelled = read_row(&mut cert, line)?;
+        rest = add_all_like(&mut cert, &spelled, behind)?;
     }
     Err(CertFault::NoEnd)
 }
@@ -72,17 +72,19 @@ fn ended(cert: Cert, behind: &[u8]) -> Result<Cert, CertFault>
     }
 }
 
+ghost use Rattle.std.specs.Prelude.{IfOk};
+ghost use Rattle.rank_cert.specs.Ranks.{EndsWith};
 ghost use Rattle.rank_cert.specs.Reading.{ended, Adds};
 
 /// Adds the row of the next line, and gives its prefix.
-fn read_row(cert: &mut Cert, line: &[u8]) -> Result<Prefix, CertFault>
-    ensures { Adds cert.old cert.new line.now result }
+fn read_row<'a>(cert: &mut Cert, line: &'a [u8]) -> Result<Spelled<'a>, CertFault>
+    ensures row { Adds cert.old cert.new line.now result }
+    ensures ends { IfOk result (λ prefix. EndsWith prefix cert.new) }
 {
     let number = cert.rows().len() + 2;
-    let row = row_of(line).ok_or(CertFault::Line(number))?;
-    let prefix = row.prefix;
+    let (row, spelled) = row_of(line).ok_or(CertFault::Line(number))?;
     if cert.add_row(row)? {
-        Ok(prefix)
+        Ok(spelled)
     } else {
         Err(CertFault::Twice(number))
     }

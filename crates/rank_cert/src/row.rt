@@ -1,16 +1,34 @@
 //! A row as a line of the text.
-ghost use Rattle.std.specs.Prelude.{◌≡◌, ◌==◌, ◌<◌, ◌≤◌, ◌∷◌, ◌++◌, false, length, All, IfSome, IfOk, IfErr, MatchOption, option_map};
+ghost use Rattle.std.specs.Prelude.{◌≡◌, ◌==◌, ◌<◌, ◌≤◌, ◌++◌, false, length, All, IfSome, IfOk, IfErr, MatchOption, option_map};
 ghost use Rattle.card_digits.specs.Cut.{IsCut};
-ghost use Rattle.card_digits.specs.Digits.{IsPrefix, digits_text};
 ghost use Rattle.card_digits.specs.Lines.{lines};
-ghost use Rattle.rank_cert.specs.Ranks.{IsRow};
+ghost use Rattle.rank_cert.specs.Ranks.{IsRow, EndsWith};
 ghost use Rattle.card_digits.specs.Attempts.{Fails};
 ghost use Rattle.rank_cert.specs.Reading.{row_of, number_of, rows_in, is_memory};
-ghost use Rattle.rank_cert.specs.Like.{IsLike};
+ghost use Rattle.rank_cert.specs.Like.{IsRanked, IsLike};
 
 use crate::cert::{Cert, Rank};
 use crate::fault::CertFault;
 use card_digits::{Name, Prefix, all_digits, decimal};
+use std::marker::Model;
+
+/// A prefix, and how it is spelled between a name and a rank: in digits, and a space.
+#[derive(Debug, Drop)]
+pub(crate) struct Spelled<'a> {
+    prefix: Prefix,
+    text: &'a [u8],
+}
+
+impl<'a> Model for Spelled<'a> {
+    ghost use Rattle.std.specs.Prelude.{ℕ, List};
+    ghost use Rattle.rank_cert.specs.Like.{IsSpelled};
+
+    ghost Value = { List ℕ };
+
+    ghost view = { λ a. a.prefix };
+
+    ghost invariant = { λ a. IsSpelled a.prefix a.text.now };
+}
 
 /// What stands before the first space, and what stands behind it. A field is a few bytes, so they are looked at one by one.
 fn field(text: &[u8]) -> Option<(&[u8], &[u8])>
@@ -20,65 +38,82 @@ fn field(text: &[u8]) -> Option<(&[u8], &[u8])>
     Some((&text[..i], &text[i + 1..]))
 }
 
-/// What stands before the first line feed, and what stands behind it; as a field, byte by byte.
-fn last_field(text: &[u8]) -> Option<(&[u8], &[u8])>
-    ensures { MatchOption result (All (λ b. (b == 10) ≡ false) text.now) (λ p. IsCut 10 text.now p.0.now p.1.now) }
+/// What stands behind a word, where the text begins with it.
+#[inline]
+fn behind_word<'a>(text: &'a [u8], word: &[u8]) -> Option<&'a [u8]>
+    ensures { IfSome result (λ rest. text.now ≡ word.now ++ rest.now) }
 {
-    let i = text.iter().position(|byte| *byte == b'\n')?;
-    Some((&text[..i], &text[i + 1..]))
-}
-
-/// What stands behind the prefix and a space, where the text begins with them.
-fn behind_prefix<'a>(text: &'a [u8], prefix: &Prefix) -> Option<&'a [u8]>
-    ensures spelled { IfSome result (λ rest. text.now ≡ digits_text prefix.now ++ 32 ∷ rest.now) }
-    ensures form { IfSome result (λ _. IsPrefix prefix.now) }
-{
-    let digits = prefix.digits();
-    if text.len() <= digits.len() || text[digits.len()] != b' ' {
+    let len = word.len();
+    if text.len() < len || &text[..len] != word {
         return None;
     }
-    for (i, digit) in digits.iter().enumerate() {
-        if text[i] != *digit + b'0' {
+    Some(&text[len..])
+}
+
+/// The most digits of a rank.
+const MOST_DIGITS: usize = 5;
+
+/// The rank that is all that stands before the first line feed, and what stands behind that.
+#[inline]
+fn last_number(text: &[u8]) -> Option<(u16, &[u8])>
+    ensures { IfSome result (λ p. IsRanked text.now p.0 p.1.now) }
+{
+    let mut number = 0u32;
+    for i in 0..=MOST_DIGITS {
+        let byte = *text.get(i)?;
+        if byte == b'\n' && i > 0 {
+            return Some((number as u16, &text[i + 1..]));
+        }
+        if !byte.is_ascii_digit() {
+            return None;
+        }
+        number = number * 10 + (byte - b'0') as u32;
+        if number > u16::MAX as u32 {
             return None;
         }
     }
-    Some(&text[digits.len() + 1..])
+    None
 }
 
-/// The name and the rank of the first line, as text, and what stands behind the line, where it spells this prefix between them.
-fn like<'a>(prefix: &Prefix, text: &'a [u8]) -> Option<(&'a [u8], &'a [u8], &'a [u8])>
-    ensures { IfSome result (λ p. IsLike prefix.now text.now p.0.now p.1.now p.2.now) }
-{
-    let (name, behind) = field(text)?;
-    let behind = behind_prefix(behind, prefix)?;
-    let (rank, rest) = last_field(behind)?;
-    Some((name, rank, rest))
+impl Spelled<'_> {
+    /// The row of the first line, where that spells this prefix in this way, and what stands behind the line.
+    #[inline]
+    fn like<'t>(&self, text: &'t [u8]) -> Option<(Rank, &'t [u8])>
+        ensures row { IfSome result (λ p. IsLike text.now p.0 p.1.now) }
+        ensures prefix { IfSome result (λ p. p.0.prefix ≡ self.now) }
+        ensures good { IfSome result (λ p. IsRow p.0) }
+    {
+        let (name, behind) = field(text)?;
+        let node = Name::read(name)?;
+        let (rank, rest) = last_number(behind_word(behind, self.text)?)?;
+        let row = Rank {
+            node,
+            prefix: self.prefix,
+            rank,
+        };
+        Some((row, rest))
+    }
 }
 
 /// Adds the row of the first line, where that spells this prefix, and gives what stands behind the line. Any other line is left.
 fn add_like<'a>(
     cert: &mut Cert,
-    prefix: &Prefix,
+    spelled: &Spelled,
     text: &'a [u8],
 ) -> Result<Option<&'a [u8]>, CertFault>
+    requires { EndsWith spelled.now cert.old }
     ensures on { IfOk result (λ o. MatchOption o (cert.new ≡ cert.old) (λ rest. rows_in cert.old (lines text.now) ≡ rows_in cert.new (lines rest.now))) }
+    ensures ends { IfOk result (λ _. EndsWith spelled.now cert.new) }
     ensures shorter { IfOk result (λ o. IfSome o (λ rest. length rest.now < length text.now)) }
     ensures fault { IfErr result (λ e. Fails is_memory e (rows_in cert.old (lines text.now))) }
 {
-    let number = cert.rows().len() + 2;
-    let Some((name, rank, rest)) = like(prefix, text) else {
+    let Some((row, rest)) = spelled.like(text) else {
         return Ok(None);
     };
-    let Some(node) = Name::read(name) else {
-        return Ok(None);
-    };
-    let Some(row) = ranked(node, *prefix, rank) else {
-        return Ok(None);
-    };
-    if cert.add_row(row)? {
+    if cert.add_to_last(row)? {
         Ok(Some(rest))
     } else {
-        Err(CertFault::Twice(number))
+        Err(CertFault::Twice(cert.rows().len() + 2))
     }
 }
 
@@ -86,36 +121,44 @@ fn add_like<'a>(
 /// such a line the digits are only compared.
 pub(crate) fn add_all_like<'a>(
     cert: &mut Cert,
-    prefix: &Prefix,
+    spelled: &Spelled,
     text: &'a [u8],
 ) -> Result<&'a [u8], CertFault>
+    requires { EndsWith spelled.now cert.old }
     ensures on { IfOk result (λ rest. rows_in cert.old (lines text.now) ≡ rows_in cert.new (lines rest.now)) }
     ensures shorter { IfOk result (λ rest. length rest.now ≤ length text.now) }
     ensures fault { IfErr result (λ e. Fails is_memory e (rows_in cert.old (lines text.now))) }
 {
     let mut rest = text;
-    while let Some(behind) = add_like(cert, prefix, rest)? {
+    while let Some(behind) = add_like(cert, spelled, rest)? {
         rest = behind;
     }
     Ok(rest)
 }
 
-/// The row that a line is.
-pub(crate) fn row_of(line: &[u8]) -> Option<Rank>
-    ensures row { result ≡ row_of line.now }
-    ensures good { IfSome result IsRow }
+/// The row that a line is, and how it spells its prefix.
+pub(crate) fn row_of(line: &[u8]) -> Option<(Rank, Spelled)>
+    ensures row { option_map (λ p. p.0) result ≡ row_of line.now }
+    ensures good { IfSome result (λ p. IsRow p.0) }
+    ensures prefix { IfSome result (λ p. p.1 ≡ p.0.prefix) }
 {
     let (name, behind) = field(line)?;
     let node = Name::read(name)?;
     let (text, rank) = field(behind)?;
     let prefix = Prefix::read(text).ok()?;
-    ranked(node, prefix, rank)
+    let row = ranked(node, prefix, rank)?;
+    let spelled = Spelled {
+        prefix,
+        text: &behind[..text.len() + 1],
+    };
+    Some((row, spelled))
 }
 
 /// The row of a name and a prefix with the rank that a text is.
 fn ranked(node: Name, prefix: Prefix, rank: &[u8]) -> Option<Rank>
     ensures row { result ≡ option_map (λ n. record { node = node; prefix = prefix; rank = n }) (number_of rank.now) }
     ensures good { IfSome result IsRow }
+    ensures prefix { IfSome result (λ r. r.prefix ≡ prefix) }
 {
     let rank = number_of(rank)?;
     Some(Rank { node, prefix, rank })
@@ -125,7 +168,7 @@ fn ranked(node: Name, prefix: Prefix, rank: &[u8]) -> Option<Rank>
 fn number_of(text: &[u8]) -> Option<u16>
     ensures { result ≡ number_of text.now }
 {
-    if text.is_empty() || text.len() > 5 || !all_digits(text) {
+    if text.is_empty() || text.len() > MOST_DIGITS || !all_digits(text) {
         return None;
     }
     u16::try_from(decimal(text)).ok()

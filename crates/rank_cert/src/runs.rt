@@ -1,7 +1,7 @@
 //! Rows of ranks of which those of one prefix stand together.
 ghost use Rattle.std.specs.Prelude.{◌≡◌, ◌≤◌, ◌==◌, ◌∷◌, ◌++◌, ◌≢◌, [], ℕ, List, true, false, is_some, length, drop, Some, None, Ok, IfOk, MatchOption, OnErr, if◌then◌else◌};
 ghost use Rattle.std.specs.Cmp.Lexicographic.{pointwise};
-ghost use Rattle.rank_cert.specs.Ranks.{rank_of, IsCert};
+ghost use Rattle.rank_cert.specs.Ranks.{rank_of, IsCert, EndsWith};
 ghost use Rattle.rank_cert.specs.Runs.{rank_in_run, begins_with, has_name, begin_of, IsRun, HasNone};
 ghost use Rattle.rank_cert.specs.Marks.{AreMarked};
 
@@ -109,6 +109,20 @@ impl Runs {
             self.marks = Marks::none();
             self.marks.mark(place_of(row.node.as_slice()));
             Ok(Added::Yes)
+        } else {
+            Ok(Added::Apart)
+        }
+    }
+
+    /// The same for a row of the last row's prefix, which isn't compared.
+    #[inline]
+    pub fn add_to_last(&mut self, row: Rank) -> Result<Added, AllocError>
+        requires { EndsWith row.prefix self.old }
+        ensures ok { IfOk result (λ added. Adds (is_some (rank_of self.old row.node row.prefix)) self.old row added self.new) }
+        ensures err { OnErr result (self.new ≡ self.old) }
+    {
+        if self.last < self.rows.len() {
+            add_to_run(&mut self.rows, self.last, &mut self.marks, row)
         } else {
             Ok(Added::Apart)
         }

@@ -1,4 +1,4 @@
-use Rattle.std.proofs.Common.{◌≡◌, true, false, sym, ◌∙◌}
+use Rattle.std.proofs.Common.{◌≡◌, true, false}
 use Rattle.rank_cert.specs.Marks.{place_of, is_marked}
 use Rattle.rank_cert.proofs.Marked.{unmarked_none, push_marked}
 use Rattle.rank_cert.proofs.runs.add_to_run.Goals as goal

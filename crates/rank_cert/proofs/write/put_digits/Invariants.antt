@@ -1,4 +1,4 @@
-use Rattle.std.proofs.Common.{◌≡◌, ◌++◌, ◌+◌, drop, length}
+use Rattle.std.proofs.Common.{◌≡◌, ◌++◌, ◌+◌, drop}
 use Rattle.std.specs.Vec.{vec_len, vec_capacity}
 use Rattle.rank_cert.specs.Writing.{digits_text}
 use Rattle.rank_cert.proofs.write.put_digits.Given as goal
