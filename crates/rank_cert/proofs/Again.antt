@@ -41,7 +41,7 @@ letters_of name few true h = refl
 letters_of name true false h = cc
 letters_of name false false h = cc
 
-name_passes : (name : List ℕ) → name_of name ≡ Some name → list_all is_ascii_alphanumeric name ≡ true
+pub name_passes : (name : List ℕ) → name_of name ≡ Some name → list_all is_ascii_alphanumeric name ≡ true
 name_passes name h = letters_of name (length name == 0 || nat_lt 8 (length name)) (list_all is_ascii_alphanumeric name) h
 
 digit_passes : (d : ℕ) → d < 10 → is_ascii_digit (d + 48) ≡ true

@@ -1,5 +1,5 @@
 -- The fields of a line, read from the front.
-use Rattle.std.proofs.Common.{◌≡◌, ℕ, ◌<◌, ◌==◌, ◌||◌, ◌++◌, Bool, true, false, not, cond, List, [], ◌∷◌, Option, Some, None, Ok, refl, sym, ap, ◌∙◌, inl, inr, arith, ◌+◌, ◌-◌, length, take, nat_lt, append_assoc, length-append, Err}
+use Rattle.std.proofs.Common.{◌≡◌, ℕ, ◌<◌, ◌==◌, ◌||◌, ◌++◌, Bool, true, false, not, cond, List, [], ◌∷◌, Option, Some, None, Ok, refl, sym, ap, ◌∙◌, inl, inr, arith, ◌+◌, ◌-◌, length, get_or, take, drop, nat_lt, append_assoc, length-append, Err}
 use Rattle.std.proofs.lemmas.List.{take_at, length_push}
 use Rattle.std.specs.Prelude.{option_map, codes, is_none, is_some, Result}
 use Rattle.std.specs.Cmp.Lexicographic.{same_text}
@@ -20,11 +20,11 @@ use Rattle.card_digits.proofs.Cuts.{Others}
 use Rattle.card_digits.proofs.LineCuts.{lines-at}
 use Rattle.rank_cert.specs.declared.cert.Rank.{Rank}
 use Rattle.rank_cert.specs.declared.fault.CertFault.TheVariants.{Twice}
-use Rattle.rank_cert.specs.Like.{IsSpelled, IsRanked, IsLike}
+use Rattle.rank_cert.specs.Like.{IsSpelled, IsNamed, IsRanked, IsLike}
 use Rattle.rank_cert.specs.Ranks.{rank_of}
 use Rattle.rank_cert.specs.Reading.{fields, three, number_of, prefix_of, row_of, is_line, line_behind, new_row, then_rows, rows_in}
 use Rattle.rank_cert.proofs.Cuts.{fields-at, fields-one}
-use Rattle.rank_cert.proofs.Again.{others_from, digits_pass, prefix_again}
+use Rattle.rank_cert.proofs.Again.{others_from, name_passes, digits_pass, prefix_again}
 
 -- ---- the prefix and what stands behind it
 
@@ -221,6 +221,14 @@ is_like text name behind prefix spelled after rest node rank cut is spells goes_
       shorter = omega (arith, ap length whole, length-append (line_like prefix name ranked.digits) (10 ∷ rest));
     }
 
+-- a name that stands in front of a space
+pub named : (text name behind : List ℕ) → name_of name ≡ Some name → text ≡ name ++ behind → 0 < length behind → get_or behind 0 0 ≡ 32 → IsNamed text name (drop 1 behind)
+named text name [] is whole some at = absurd (omega arith)
+named text name (b ∷ rest) is whole some at = record {
+  cut = record { none = others_from is_ascii_alphanumeric 32 refl name (name_passes name is); whole = whole ∙ ap (λ (c : ℕ). name ++ c ∷ rest) at };
+  is = is;
+}
+
 -- a line that is a row isn't the end
 not_end : (line : List ℕ) (r : Rank) → row_of line ≡ Some r → (t : Bool) → is_line line (codes "END") ≡ t → t ≡ false
 not_end line r some false is = refl
@@ -277,7 +285,7 @@ pub spelled_as : (behind text rank prefix : List ℕ) → IsCut 32 behind text r
 spelled_as behind text rank prefix cut is form = record {
   form = form;
   spelled =
-    let whole : behind ≡ (text ++ 32 ∷ []) ++ rank = cut.whole ∙ sym (append_assoc text (32 ∷ []) rank) in
-    let front : take (length text + 1) behind ≡ text ++ 32 ∷ [] = ap (take (length text + 1)) whole ∙ take_at (text ++ 32 ∷ []) rank (length text + 1) (length_push text 32) in
-    front ∙ ap (λ (xs : List ℕ). xs ++ 32 ∷ []) (sym (text_of_digits text prefix is));
+      let whole : behind ≡ (text ++ 32 ∷ []) ++ rank = cut.whole ∙ sym (append_assoc text (32 ∷ []) rank) in
+      let front : take (length text + 1) behind ≡ text ++ 32 ∷ [] = ap (take (length text + 1)) whole ∙ take_at (text ++ 32 ∷ []) rank (length text + 1) (length_push text 32) in
+      front ∙ ap (λ (xs : List ℕ). xs ++ 32 ∷ []) (sym (text_of_digits text prefix is));
 }

@@ -38,11 +38,11 @@ ranked text i number some few within at read = record {
   digits = take i text;
   whole = sym (take-append-drop i text) ∙ ap (λ (xs : List ℕ). take i text ++ xs) (drop_more text i 0 within ∙ ap (λ (b : ℕ). b ∷ drop (i + 1) text) at);
   number =
-    let count : length (take i text) ≡ i = length-take-le i text (omega arith) in
-    let not_none : (i == 0) ≡ false = ne_eqb i 0 (λ e. omega arith) in
-    let not_more : nat_lt 5 i ≡ false = le-ltb 5 i few in
-    let not_large : nat_lt 65535 number ≡ false = le-ltb 65535 number read.small in
-    rw (count, not_none, not_more, read.digits, read.value, not_large) refl;
+      let count : length (take i text) ≡ i = length-take-le i text (omega arith) in
+      let not_none : (i == 0) ≡ false = ne_eqb i 0 (λ e. omega arith) in
+      let not_more : nat_lt 5 i ≡ false = le-ltb 5 i few in
+      let not_large : nat_lt 65535 number ≡ false = le-ltb 65535 number read.small in
+      rw (count, not_none, not_more, read.digits, read.value, not_large) refl;
   one_line = others_from is_ascii_digit 10 refl (take i text) read.digits;
 }
 

@@ -1,5 +1,7 @@
 -- A line of the prefix of the line before it.
 use Rattle.std.specs.Prelude.{◌≡◌, ℕ, ◌<◌, ◌==◌, false, List, [], ◌∷◌, ◌++◌, length, Some, All}
+use Rattle.card_digits.specs.Cut.{IsCut}
+use Rattle.card_digits.specs.Reading.{name_of}
 use Rattle.card_digits.specs.Digits.{IsPrefix, digits_text}
 use Rattle.card_digits.specs.Lines.{lines}
 use Rattle.rank_cert.specs.declared.cert.Rank.{Rank}
@@ -9,6 +11,11 @@ use Rattle.rank_cert.specs.Reading.{number_of, row_of}
 pub record IsSpelled (prefix text : List ℕ) : Type 0 where
   pub form : IsPrefix prefix
   pub spelled : text ≡ digits_text prefix ++ 32 ∷ []
+
+-- a name stands before the first space, and this behind it
+pub record IsNamed (text name behind : List ℕ) : Type 0 where
+  pub cut : IsCut 32 text name behind
+  pub is : name_of name ≡ Some name
 
 -- a rank stands before the first line feed, and this behind it
 pub record IsRanked (text : List ℕ) (rank : ℕ) (rest : List ℕ) : Type 0 where

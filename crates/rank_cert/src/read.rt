@@ -51,12 +51,15 @@ fn read_rows(alloc: Global, text: &[u8]) -> Result<Cert, CertFault>
 {
     let mut cert = empty_cert(alloc, text.len() / USUAL_LINE);
     let mut rest = text;
+    let mut before = 0;
     while let Some((line, behind)) = first_line(rest) {
         if is_end(line) {
             return ended(cert, behind);
         }
+        let place = cert.rows().len();
         let spelled = read_row(&mut cert, line)?;
-        rest = add_all_like(&mut cert, &spelled, behind)?;
+        rest = add_all_like(&mut cert, &spelled, place.wrapping_sub(before), behind)?;
+        before = place;
     }
     Err(CertFault::NoEnd)
 }

@@ -1,11 +1,11 @@
 //! A row as a line of the text.
-ghost use Rattle.std.specs.Prelude.{◌≡◌, ◌==◌, ◌<◌, ◌≤◌, ◌++◌, false, length, All, IfSome, IfOk, IfErr, MatchOption, option_map};
+ghost use Rattle.std.specs.Prelude.{◌≡◌, ℕ, List, ◌==◌, ◌<◌, ◌≤◌, ◌++◌, false, length, All, IfSome, IfOk, IfErr, MatchOption, option_map};
 ghost use Rattle.card_digits.specs.Cut.{IsCut};
 ghost use Rattle.card_digits.specs.Lines.{lines};
 ghost use Rattle.rank_cert.specs.Ranks.{IsRow, EndsWith};
 ghost use Rattle.card_digits.specs.Attempts.{Fails};
 ghost use Rattle.rank_cert.specs.Reading.{row_of, number_of, rows_in, is_memory};
-ghost use Rattle.rank_cert.specs.Like.{IsRanked, IsLike};
+ghost use Rattle.rank_cert.specs.Like.{IsNamed, IsRanked, IsLike};
 
 use crate::cert::{Cert, Rank};
 use crate::fault::CertFault;
@@ -50,6 +50,32 @@ fn behind_word<'a>(text: &'a [u8], word: &[u8]) -> Option<&'a [u8]>
     Some(&text[len..])
 }
 
+/// What stands behind a name and a space, where the text begins with them.
+#[inline]
+fn behind_name<'a>(text: &'a [u8], name: Name) -> Option<&'a [u8]>
+    ensures { IfSome result (λ behind. IsNamed text.now name behind.now) }
+{
+    let behind = behind_word(text, name.as_slice())?;
+    if behind.is_empty() || behind[0] != b' ' {
+        return None;
+    }
+    Some(&behind[1..])
+}
+
+/// The name in front of a space, and what stands behind that. Where it is the name of the row at a place, it is only compared.
+#[inline]
+fn name_in_front<'a>(text: &'a [u8], rows: &[Rank], place: usize) -> Option<(Name, &'a [u8])>
+    ensures { IfSome result (λ p. IsNamed text.now p.0 p.1.now) }
+{
+    if let Some(row) = rows.get(place) {
+        if let Some(behind) = behind_name(text, row.node) {
+            return Some((row.node, behind));
+        }
+    }
+    let (name, behind) = field(text)?;
+    Some((Name::read(name)?, behind))
+}
+
 /// The most digits of a rank.
 const MOST_DIGITS: usize = 5;
 
@@ -76,15 +102,27 @@ fn last_number(text: &[u8]) -> Option<(u16, &[u8])>
 }
 
 impl Spelled<'_> {
-    /// The row of the first line, where that spells this prefix in this way, and what stands behind the line.
+    /// The row of the first line, where that spells this prefix in this way, and what stands behind the line. Its name may be that of the row
+    /// at a place.
     #[inline]
-    fn like<'t>(&self, text: &'t [u8]) -> Option<(Rank, &'t [u8])>
+    fn like<'t>(&self, text: &'t [u8], rows: &[Rank], place: usize) -> Option<(Rank, &'t [u8])>
         ensures row { IfSome result (λ p. IsLike text.now p.0 p.1.now) }
         ensures prefix { IfSome result (λ p. p.0.prefix ≡ self.now) }
         ensures good { IfSome result (λ p. IsRow p.0) }
     {
-        let (name, behind) = field(text)?;
-        let node = Name::read(name)?;
+        match name_in_front(text, rows, place) {
+            Some((node, behind)) => self.row_behind(node, behind),
+            None => None,
+        }
+    }
+
+    /// The same behind a name and a space.
+    #[inline]
+    fn row_behind<'t>(&self, node: Name, behind: &'t [u8]) -> Option<(Rank, &'t [u8])>
+        ensures row { IfSome result (λ p. (text : List ℕ) → IsNamed text node behind.now → IsLike text p.0 p.1.now) }
+        ensures prefix { IfSome result (λ p. p.0.prefix ≡ self.now) }
+        ensures good { IfSome result (λ p. IsRow p.0) }
+    {
         let (rank, rest) = last_number(behind_word(behind, self.text)?)?;
         let row = Rank {
             node,
@@ -95,10 +133,12 @@ impl Spelled<'_> {
     }
 }
 
-/// Adds the row of the first line, where that spells this prefix, and gives what stands behind the line. Any other line is left.
+/// Adds the row of the first line, where that spells this prefix, and gives what stands behind the line. Any other line is left. The
+/// name that is expected is that of the row so many places before.
 fn add_like<'a>(
     cert: &mut Cert,
     spelled: &Spelled,
+    distance: usize,
     text: &'a [u8],
 ) -> Result<Option<&'a [u8]>, CertFault>
     requires { EndsWith spelled.now cert.old }
@@ -107,7 +147,9 @@ fn add_like<'a>(
     ensures shorter { IfOk result (λ o. IfSome o (λ rest. length rest.now < length text.now)) }
     ensures fault { IfErr result (λ e. Fails is_memory e (rows_in cert.old (lines text.now))) }
 {
-    let Some((row, rest)) = spelled.like(text) else {
+    let rows = cert.rows();
+    let place = rows.len().wrapping_sub(distance);
+    let Some((row, rest)) = spelled.like(text, rows, place) else {
         return Ok(None);
     };
     if cert.add_to_last(row)? {
@@ -118,10 +160,12 @@ fn add_like<'a>(
 }
 
 /// Adds the rows of the lines that spell the prefix of the line before them, as most do, and gives what stands behind them. Of
-/// such a line the digits are only compared.
+/// such a line the digits are only compared, and the name too where it is that of the row so many places before: most often each
+/// prefix has the same names in the same order.
 pub(crate) fn add_all_like<'a>(
     cert: &mut Cert,
     spelled: &Spelled,
+    distance: usize,
     text: &'a [u8],
 ) -> Result<&'a [u8], CertFault>
     requires { EndsWith spelled.now cert.old }
@@ -130,7 +174,7 @@ pub(crate) fn add_all_like<'a>(
     ensures fault { IfErr result (λ e. Fails is_memory e (rows_in cert.old (lines text.now))) }
 {
     let mut rest = text;
-    while let Some(behind) = add_like(cert, spelled, rest)? {
+    while let Some(behind) = add_like(cert, spelled, distance, rest)? {
         rest = behind;
     }
     Ok(rest)
