@@ -102,6 +102,27 @@ pub places_after : (k : Key) (o : ReadOutput) (rows : List Row) → place_of k (
 places_after k o [] = refl
 places_after k o (r ∷ rs) = ap (λ m. cond (row_has k r) (Some 0) (option_map (λ i. suc i) m)) (places_after k o rs)
 
+-- a key that was given another place has its own again
+pub restored : (key : Key) (place earlier : ℕ) (old mid new : List (Key × ℕ)) → ((k : Key) → lookup (key_eq k) mid ≡ cond (key_eq key k) (Some place) (lookup (key_eq k) old))
+    → ((k : Key) → lookup (key_eq k) new ≡ cond (key_eq key k) (Some earlier) (lookup (key_eq k) mid)) → Some earlier ≡ lookup (key_eq key) old → (k : Key) → lookup (key_eq k) new ≡ lookup (key_eq k) old
+restored key place earlier old mid new put back was k = elim (cases_Bool (key_eq key k)) [
+  | inl t ↦ back k ∙ rw t (was ∙ ap (λ (q : Key). lookup (key_eq q) old) (key_eq_is key k t))
+  | inr f ↦ back k ∙ rw f (put k ∙ rw f refl)
+]
+
+-- a request of the key stands at its place, wherever it is found
+pub place_found : (k : Key) (rows : List Row) (i : ℕ) (d : Row) → IsUnique rows → i < length rows → row_has k (get_or rows i d) ≡ true → place_of k rows ≡ Some i
+place_found k [] i d u lt e = absurd (omega arith)
+place_found k (r ∷ rs) zero d u lt e = rw e refl
+place_found k (r ∷ rs) (suc i) d u lt e =
+    let later : place_of k rs ≡ Some i = place_found k rs i d u.1 (omega (arith, lt)) e in
+    elim (cases_Bool (row_has k r)) [
+      | inl t ↦
+          let none : of_key k rs ≡ None = subst (λ (q : Key). of_key q rs ≡ None) (key_eq_is (row_key r) k t) u.0 in
+          absurd (some_not_none (get_or rs i d) (sym (found_some k rs i d later) ∙ none))
+      | inr f ↦ rw (f, later) refl
+    ]
+
 -- a row more
 
 pub place_same : (k : Key) (rows : List Row) (r : Row) → row_has k r ≡ false → place_of k (rows ++ r ∷ []) ≡ place_of k rows

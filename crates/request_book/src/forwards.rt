@@ -106,8 +106,10 @@ impl Forwards {
         ensures spare { spare self.old.heads ≤ spare self.new.heads + 1 }
     {
         if let Some(link) = link {
-            let previous = self.head(link);
-            let _ = self.heads.insert(link.place(), self.list.len() + 1);
+            let previous = match self.heads.insert(link.place(), self.list.len() + 1) {
+                Ok(Some(head)) => head,
+                _ => 0,
+            };
             self.list.push_reserved(Forward {
                 place,
                 link,

@@ -123,7 +123,8 @@ impl Marks {
     pub fn is_marked(&self, key: Key) -> bool
         ensures { result ≡ is_marked key self.now.marks }
     {
-        self.least.contains_key(&key)
+        // Most nodes have no marks, and then no key is hashed.
+        !self.list.is_empty() && self.least.contains_key(&key)
     }
 
     /// What the marks leave of an amount that a key took.

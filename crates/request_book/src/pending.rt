@@ -1,6 +1,10 @@
 //! The pending book.
-ghost use Rattle.std.specs.Prelude.{◌≡◌, ◌+◌, ◌-◌, ◌<◌, ◌≤◌, ◌^◌, [], ◌∷◌, ◌++◌, map, Some, IfOk, OnOk, length, count_by, vec_len, vec_capacity};
+ghost use Rattle.std.specs.Prelude.{◌≡◌, ◌+◌, ◌-◌, ◌<◌, ◌≤◌, ◌^◌, [], ◌∷◌, ◌++◌, map, Some, IfOk, OnOk, length, count_by, vec_len, vec_capacity, true, false, cond, is_some};
+ghost use Rattle.std.specs.HashMap.{spare};
+ghost use Rattle.std.specs.Map.{lookup};
 ghost use Rattle.std.specs.Option.{option_copied};
+ghost use Rattle.card_digits.specs.declared.key.Key.{Key};
+ghost use Rattle.message_keys.specs.Keys.{key_eq};
 ghost use Rattle.node_machine.specs.Lists.{row_after, of_key, row_pending, is_marked, left_marks};
 ghost use Rattle.request_book.specs.Values.{AreBetween, AreCovered, IsUnique, opened, output_key, waits_on};
 ghost use Rattle.request_book.specs.Kept.{bit, newly, place_of};
@@ -11,6 +15,7 @@ use crate::output::PreparedOutput;
 use crate::row::Row;
 use crate::spans::{Span, widen};
 use card_digits::{Amount, Key, LinkNo};
+use message_keys::same_key;
 use std::alloc::{AllocError, Global};
 use std::collections::HashMap;
 use std::marker::Model;
@@ -78,6 +83,24 @@ fn newly(row: &Row, output: &PreparedOutput) -> Option<LinkNo>
     }
 }
 
+/// Gives a key a place where it has none yet, and says whether it had one. A key is hashed once where it is new, as nearly all are.
+fn put_new(places: &mut HashMap<Key, usize>, key: Key, place: usize) -> bool
+    requires { 1 ≤ spare places.old }
+    ensures had { result ≡ is_some (lookup (key_eq key) places.old.entries) }
+    ensures there { result ≡ true → (k : Key) → lookup (key_eq k) places.new.entries ≡ lookup (key_eq k) places.old.entries }
+    ensures new { result ≡ false → (k : Key) → lookup (key_eq k) places.new.entries ≡ cond (key_eq key k) (Some place) (lookup (key_eq k) places.old.entries) }
+    ensures room { spare places.old ≤ spare places.new + 1 }
+{
+    let Ok(Some(earlier)) = places.insert(key, place) else {
+        return false;
+    };
+    // The key keeps the place that it had.
+    if let Some(kept) = places.get_mut(&key) {
+        *kept = earlier;
+    }
+    true
+}
+
 /// One less, where the test holds.
 fn less(count: usize, closed: bool) -> usize
     requires { bit closed ≤ count }
@@ -133,12 +156,11 @@ impl PendingBook {
         ensures { self.new ≡ record { rows = opened row self.old.rows; marks = self.old.marks; room = self.old.room - 1 } }
     {
         self.room -= 1;
-        if self.places.contains_key(&row.key()) {
+        let place = self.rows.len();
+        if put_new(&mut self.places, row.key(), place) {
             return;
         }
-        let place = self.rows.len();
         self.pending = more(self.pending, &row);
-        let _ = self.places.insert(row.key(), place);
         widen(&mut self.spans, row.count(), place);
         self.forwards.note(place, row.link());
         self.rows.push_reserved(row);
@@ -153,13 +175,26 @@ impl PendingBook {
         self.room -= 1;
     }
 
+    /// The place of the request of a key. An entry that opens a request nearly always says next what becomes of it, so the newest is looked
+    /// at before the key is hashed.
+    fn place(&self, key: Key) -> Option<usize>
+        ensures { result ≡ place_of key self.now.rows }
+    {
+        let count = self.rows.len();
+        if count > 0 && same_key(self.rows[count - 1].key(), key) {
+            return Some(count - 1);
+        }
+        self.places.get(&key).copied()
+    }
+
     /// What an output does to the requests.
     pub fn after(&mut self, output: PreparedOutput)
         requires { 0 < self.old.room }
         ensures { self.new ≡ record { rows = map (row_after output) self.old.rows; marks = self.old.marks; room = self.old.room - 1 } }
     {
+        let found = self.place(output.key());
         self.room -= 1;
-        if let Some(place) = self.places.get(&output.key()).copied() {
+        if let Some(place) = found {
             let link = newly(&self.rows[place], &output);
             self.forwards.note(place, link);
             let closed = change_in(&mut self.rows, place, output);

@@ -37,6 +37,9 @@ pub(crate) fn widen(spans: &mut HashMap<u64, Span>, count: u64, place: usize)
     ensures spans { (c : ℕ) → lookup (nat_eq c) spans.new.entries ≡ cond (nat_eq count c) (Some (widened (lookup (nat_eq count) spans.old.entries) place)) (lookup (nat_eq c) spans.old.entries) }
     ensures room { spare spans.old ≤ spare spans.new + 1 }
 {
-    let span = widened(spans.get(&count).copied(), place);
-    let _ = spans.insert(count, span);
+    if let Some(span) = spans.get_mut(&count) {
+        *span = widened(Some(*span), place);
+        return;
+    }
+    let _ = spans.insert(count, widened(None, place));
 }

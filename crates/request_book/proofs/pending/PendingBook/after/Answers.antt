@@ -9,12 +9,9 @@ use Rattle.request_book.proofs.pending.PendingBook.after.Goals as goal
 
 pub index-requires : goal.index-requires
 index-requires c =
-    let at : place_of (output_key c.args.output) c.self.inside.rows.items ≡ Some c.in-Some.place = sym (c.self.invariant.0.keyed (output_key c.args.output)) ∙ (search rules) in
+    let at : place_of (output_key c.args.output) c.self.inside.rows.items ≡ Some c.in-Some.place = search rules in
     let lt = place_within (output_key c.args.output) c.self.inside.rows.items c.in-Some.place at in
     search rules
-
-pub change_in-closed-requires-clause-place : goal.change_in-closed-requires-clause-place
-change_in-closed-requires-clause-place c = sym (c.self.invariant.0.keyed (output_key c.args.output)) ∙ (search rules)
 
 pub invariant_of-self : goal.invariant_of-self
 invariant_of-self c =
@@ -24,7 +21,7 @@ invariant_of-self c =
     let d = c.index.result.now in
     let list = i.forwards.list.items in
     let heads = i.forwards.heads.entries in
-    let at : place_of (output_key o) i.rows.items ≡ Some place = sym (c.self.invariant.0.keyed (output_key o)) ∙ (search rules) in
+    let at : place_of (output_key o) i.rows.items ≡ Some place = search rules in
     let rows = c.change_in-closed.ensures.rows in
     let link : c.newly-link.result ≡ newly o (get_or i.rows.items place d) = c.newly-link.ensures ∙ ap (newly o) c.index.ensures in
     let more : c.note.new.self.list.items ≡ noted place (newly o (get_or i.rows.items place d)) heads list = c.note.ensures.list ∙ ap (λ (m : Option ℕ). noted place m heads list) link in
@@ -37,6 +34,6 @@ invariant_of-self c =
 
 pub returns-in_default : goal.returns-in_default
 returns-in_default c =
-    let none : place_of (output_key c.args.output) c.self.inside.rows.items ≡ None = sym (c.self.invariant.0.keyed (output_key c.args.output)) ∙ (search rules) in
+    let none : place_of (output_key c.args.output) c.self.inside.rows.items ≡ None = search rules in
     let same = quiet_all c.args.output c.self.inside.rows.items (found_none (output_key c.args.output) c.self.inside.rows.items none) in
     rw (← c.self.view_is, same) (search rules)
