@@ -1,6 +1,7 @@
 -- What own approvals among the later changes count for, one change after the other.
 use Rattle.std.proofs.Common.{◌≡◌, ◌≤◌, ◌<◌, ◌+◌, ◌*◌, ℕ, suc, List, [], ◌∷◌, ◌++◌, length, drop, Bool, true, false, cond, ◌&&◌, bytes_eq, refl, sym, ap, ◌∙◌, inl, inr, arith}
 use Rattle.std.proofs.lemmas.Bool.{cases_lt}
+use Rattle.std.proofs.lemmas.List.{drop_all}
 use Rattle.network_law.specs.Traces.{added}
 use Rattle.node_machine.specs.Books.{Taken}
 use Rattle.node_machine.specs.Lists.{Mark, Take, forget, left_marks}
@@ -72,3 +73,13 @@ no_uses marks sums e = record {
   sum = λ day. ap (λ z. sum_at z day) e;
   small = λ day. let n = ap (λ z. sum_at z day) e in omega (arith, n);
 }
+
+-- where none was late, none is kept: nothing is used before the first change
+pub uses_gone : (marks others : List Mark) (es : List Effect) (sums : List (CardDay × ℕ)) → length es < few → AreLateUses marks es sums → AreLateUses others [] sums
+uses_gone marks others es sums less h = record {
+  sum = λ day. none day;
+  small = λ day. let n = none day in omega (arith, n);
+}
+  where
+    none : (day : CardDay) → sum_at sums day ≡ 0
+    none day = h.sum day ∙ ap (λ z. added (counted_by marks day.card day.date) (approved_in z)) (drop_all few es (omega (arith, less)))

@@ -1,5 +1,8 @@
 //! The books before an entry, and what the entry did so far.
-ghost use Rattle.std.specs.Prelude.{◌≡◌, ◌≤◌, ◌<◌, [], ◌∷◌, OnOk, OnErr, IfOk, length, vec_len, vec_capacity};
+ghost use Rattle.std.specs.Prelude.{◌≡◌, ◌≤◌, ◌<◌, List, [], ◌∷◌, OnOk, OnErr, IfOk, length, vec_len, vec_capacity, false};
+ghost use Rattle.node_machine.specs.Lists.{Mark};
+ghost use Rattle.node_books.specs.declared.effect.Effect.{Effect};
+ghost use Rattle.step_draft.specs.Used.{AreLateUses};
 ghost use Rattle.iso_message.specs.Spelling.{spelling};
 ghost use Rattle.network_law.specs.Entries.{spelled};
 ghost use Rattle.network_law.specs.Traces.{PutPacket};
@@ -89,6 +92,16 @@ fn spelled_packet(
     let bytes = packet_bytes(alloc, packet)?;
     let shared = SharedBytes::from_vec(alloc, bytes)?;
     Ok(Output::new(Way::Put(link, serial), shared))
+}
+
+/// Forgets what own approvals among later changes count for, where there may be some.
+#[tactic(auto, using(crate::proofs::LateUses::no_uses, crate::proofs::LateUses::uses_gone))]
+fn forget_uses(alloc: Global, late: bool, uses: &mut Sums)
+    ensures { (marks others : List Mark) (es : List Effect) → (late ≡ false → length es < few) → AreLateUses marks es uses.old.amounts.entries → AreLateUses others [] uses.new.amounts.entries }
+{
+    if late {
+        *uses = Sums::new(alloc);
+    }
 }
 
 impl Draft {
@@ -248,8 +261,9 @@ impl Draft {
             self.late_uses = Sums::new(self.alloc);
             return Err(AllocError);
         };
+        let late = self.effects.is_next_late();
         self.effects.apply_to(&mut self.books);
-        self.late_uses = Sums::new(self.alloc);
+        forget_uses(self.alloc, late, &mut self.late_uses);
         Ok(outputs)
     }
 

@@ -1,11 +1,12 @@
 //! What goes out.
-ghost use Rattle.std.specs.Prelude.{◌≡◌, ℕ, false, true, OnOk};
+ghost use Rattle.std.specs.Prelude.{◌≡◌, ℕ, false, true, OnOk, Some};
 ghost use Rattle.message_elements.specs.Groups.{group};
 ghost use Rattle.message_keys.specs.Keys.{key_of, identity_of};
 ghost use Rattle.iso_message.specs.Made.{response};
 ghost use Rattle.net_rows.specs.Network.{Network};
 ghost use Rattle.network_law.specs.Traces.{is_advice_group, Post};
 ghost use Rattle.node_machine.specs.Lists.{view, leaves};
+ghost use Rattle.node_machine.specs.Machine.{own_way};
 ghost use Rattle.node_machine.specs.Steps.{emit, keep, is_sent, put_on, reply, send, store};
 ghost use Rattle.node_books.specs.Effects.{progress};
 ghost use Rattle.request_book.specs.Values.{source_of};
@@ -107,22 +108,22 @@ impl Draft {
         self.reply(source, key, &response)
     }
 
-    /// An advice goes out, where a link is up.
-    pub(crate) fn send(
-        &mut self,
-        tables: &Tables,
-        node: NodeNo,
-        advice: Advice,
-    ) -> Result<(), AllocError>
+    /// An advice goes out, where a link is up. It is copied only there.
+    #[tactic(auto, using(crate::proofs::Messages::advice_key))]
+    fn send(&mut self, tables: &Tables, node: NodeNo, advice: &Advice) -> Result<(), AllocError>
         ensures base { self.new.base ≡ self.old.base }
-        ensures ok { OnOk result (progress self.new ≡ send tables.now node advice.message (progress self.old)) }
+        ensures ok { OnOk result (progress self.new ≡ send tables.now node advice.now.message (progress self.old)) }
     {
-        let Advice { id, message } = advice;
-        self.send_message(tables, node, id, message)
+        let id = advice.id;
+        let Some(link) = self.own_way(tables, node, id.key, &advice.message) else {
+            return Ok(());
+        };
+        let copy = advice.message.copy()?;
+        self.send_by(tables, node, link, id, copy)
     }
 
     /// The advice of this identity goes out, where a link is up.
-    #[tactic(auto, using(crate::proofs::Messages::sent_identity, crate::proofs::Messages::sent_is_advice, crate::proofs::Messages::advice_key))]
+    #[tactic(auto, using(crate::proofs::Messages::advice_key))]
     pub(crate) fn send_message(
         &mut self,
         tables: &Tables,
@@ -137,6 +138,24 @@ impl Draft {
         let Some(link) = self.own_way(tables, node, id.key, &message) else {
             return Ok(());
         };
+        self.send_by(tables, node, link, id, message)
+    }
+
+    /// The advice of this identity goes out on its own way.
+    #[tactic(auto, using(crate::proofs::Messages::sent_identity, crate::proofs::Messages::sent_is_advice))]
+    fn send_by(
+        &mut self,
+        tables: &Tables,
+        node: NodeNo,
+        link: LinkNo,
+        id: AdviceId,
+        message: Message,
+    ) -> Result<(), AllocError>
+        requires id { id ≡ identity_of message }
+        requires way { Some link ≡ own_way tables.now node (view tables.now node (progress self.old).lists) message ((view tables.now node (progress self.old).lists).link (key_of message)) }
+        ensures base { self.new.base ≡ self.old.base }
+        ensures ok { OnOk result (progress self.new ≡ send tables.now node message (progress self.old)) }
+    {
         let kind = sent_kind(message.kind().is_04xx(), self.was_put(id));
         let mut sent = message;
         sent.set_kind(kind);
@@ -154,8 +173,7 @@ impl Draft {
         if is_at_home(tables, node, &advice.message) {
             return self.post(advice);
         }
-        let copy = advice.copy()?;
-        self.send(tables, node, copy)
+        self.send(tables, node, advice)
     }
 
     /// An advice goes to the host's books.
