@@ -1,3 +1,4 @@
 pub mod Values
 pub mod CardsRead
 pub mod Between
+pub mod Present

@@ -38,11 +38,28 @@ pub fn required_taken(group: Group, kind: Kind) -> &'static [u8]
     }
 }
 
+/// These elements without those in front that the message has in the same order. Both ascend, so one walk mostly leaves none.
+fn without_front<'n>(message: &Message, numbers: &'n [u8]) -> &'n [u8]
+    ensures { first_missing message.now numbers.now ≡ first_missing message.now result.now }
+{
+    let mut left = numbers;
+    for (number, _) in message.iter() {
+        let Some((first, behind)) = left.split_first() else {
+            return left;
+        };
+        if *first == number {
+            left = behind;
+        }
+    }
+    left
+}
+
 /// The first of these elements that the message lacks.
 fn first_missing(message: &Message, numbers: &[u8]) -> Option<u8>
     ensures { result ≡ first_missing message.now numbers.now }
 {
-    for number in numbers {
+    let left = without_front(message, numbers);
+    for number in left {
         if !message.has(*number) {
             return Some(*number);
         }

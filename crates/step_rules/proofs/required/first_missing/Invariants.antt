@@ -4,4 +4,4 @@ use Rattle.step_rules.proofs.required.first_missing.Given as goal
 
 -- what is left lacks the first that all of them lack
 abbrev pub invariant-loop-number : goal.invariant-loop-number
-invariant-loop-number l = first_missing l.message l.numbers ≡ first_missing l.message (drop l.number-index l.numbers)
+invariant-loop-number l = first_missing l.message l.numbers ≡ first_missing l.message (drop l.number-index l.left)
