@@ -1,11 +1,12 @@
 //! Places for advices.
-ghost use Rattle.std.specs.Prelude.{◌≡◌, ◌&&◌, true, None, IfOk};
+ghost use Rattle.std.specs.Prelude.{◌≡◌, ◌<◌, ◌&&◌, ℕ, true, None, IfOk};
+ghost use Rattle.net_rows.specs.Network.{Network};
 ghost use Rattle.message_elements.specs.Groups.{group, is_reversal};
 ghost use Rattle.iso_message.specs.Made.{without_forwarder};
 ghost use Rattle.network_law.specs.Refusals.{entered_kind, required_entered, required_taken, missing};
 ghost use Rattle.network_law.specs.Traces.{dated, is_link};
 ghost use Rattle.node_machine.specs.Lists.{view};
-ghost use Rattle.node_machine.specs.Machine.{other_content, finds_no_place, late_finds_no_place, home_of_key};
+ghost use Rattle.node_machine.specs.Machine.{load, other_content, finds_no_place, late_finds_no_place, home_of_key};
 ghost use Rattle.step_refusals.specs.Keyed.{is_pending_at, request_at, link_at_key};
 ghost use Rattle.step_refusals.specs.Places.{is_late, late_has_no_place, finds_no_place_as, has_no_place, is_accepted, given_up};
 
@@ -88,11 +89,18 @@ fn finds_no_place_as(
 ) -> Result<bool, AllocError>
     ensures { IfOk result (λ full. full ≡ finds_no_place_as tables.now node books.now.lists message.now id) }
 {
-    // Nearly always there are places, and then no request is read.
+    // Where there is a place no request is read.
     if books.is_known(id) || !has_no_place(books, tables, node, message, id.key) {
         return Ok(false);
     }
     is_accepted(books, tables, message, id.key)
+}
+
+/// Whether there is a place for one advice more.
+fn has_place(books: &Books) -> bool
+    ensures { result ≡ true → (t : Network) (n : ℕ) → load (view t n books.now.lists) < 65536 }
+{
+    PLACES > books.load()
 }
 
 /// Whether an advice that an acquirer enters finds no place. It loses its forwarder there.
@@ -106,6 +114,10 @@ pub(crate) fn entered_finds_no_place(
     requires whole { missing message.now (required_entered (group message.now.kind)) ≡ None }
     ensures { IfOk result (λ full. full ≡ finds_no_place tables.now node (view tables.now node books.now.lists) (dated books.now.lists.date (without_forwarder message.now))) }
 {
+    // Nearly always there are places, and then no identity is read.
+    if has_place(books) {
+        return Ok(false);
+    }
     match advice_id(message) {
         Some(id) => {
             let forwarder = [b'0'; 11];
@@ -125,6 +137,10 @@ pub(crate) fn taken_finds_no_place(
     requires { missing message.now (required_taken (group message.now.kind) message.now.kind) ≡ None }
     ensures { IfOk result (λ full. full ≡ finds_no_place tables.now node (view tables.now node books.now.lists) message.now) }
 {
+    // Nearly always there are places, and then no identity is read.
+    if has_place(books) {
+        return Ok(false);
+    }
     match advice_id(message) {
         Some(id) => finds_no_place_as(books, tables, node, message, id),
         None => Ok(false),
@@ -189,7 +205,7 @@ fn late_has_no_place(
 ) -> Result<bool, AllocError>
     ensures { IfOk result (λ full. full ≡ late_has_no_place tables.now node books.now.lists link key) }
 {
-    // Nearly always there are places, and then no book is searched.
+    // Where there is a place no book is searched.
     if books.load() < PLACES {
         return Ok(false);
     }
@@ -207,6 +223,10 @@ pub(crate) fn late_finds_no_place(
     requires { missing message.now (required_taken (group message.now.kind) message.now.kind) ≡ None }
     ensures { IfOk result (λ full. full ≡ late_finds_no_place tables.now node (view tables.now node books.now.lists) link message.now) }
 {
+    // Nearly always there are places, and then no key is read.
+    if has_place(books) {
+        return Ok(false);
+    }
     if !is_answer(message.kind()) || !is_approval(message) {
         return Ok(false);
     }

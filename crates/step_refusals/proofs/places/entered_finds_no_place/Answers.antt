@@ -8,6 +8,7 @@ use Rattle.step_refusals.specs.Places.{finds_no_place_as}
 use Rattle.step_refusals.proofs.Entered.{entered_is, none_entered}
 use Rattle.step_refusals.proofs.Loads.{if_ok_is}
 use Rattle.step_refusals.proofs.Present.{entered_known}
+use Rattle.step_refusals.proofs.Roomy.{room_entered}
 use Rattle.step_refusals.proofs.places.entered_finds_no_place.Goals as goal
 
 pub returns-in-Some : goal.returns-in-Some
@@ -27,3 +28,9 @@ returns-in-None c =
       | inl advice ↦ absurd (let wrong : true ≡ false = sym (entered_known m c.requires.kind c.requires.whole advice) ∙ unknown in cc)
       | inr none ↦ none_entered m c.args.tables.now c.args.node c.args.books.now.lists c.args.books.now.lists.date none
     ]
+
+pub returns-then-has_place : goal.returns-then-has_place
+returns-then-has_place c =
+    let t = c.args.tables.now in
+    let n = c.args.node in
+    room_entered t n c.args.books.now.lists c.args.message.now (c.has_place.ensures c.if-has_place.true t n)

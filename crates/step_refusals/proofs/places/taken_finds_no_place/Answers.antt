@@ -7,6 +7,7 @@ use Rattle.step_refusals.specs.Places.{finds_no_place_as}
 use Rattle.step_refusals.proofs.Entered.{taken_is, none_taken}
 use Rattle.step_refusals.proofs.Loads.{if_ok_is}
 use Rattle.step_refusals.proofs.Present.{taken_known}
+use Rattle.step_refusals.proofs.Roomy.{room_taken}
 use Rattle.step_refusals.proofs.places.taken_finds_no_place.Goals as goal
 
 pub returns-in-Some : goal.returns-in-Some
@@ -25,3 +26,9 @@ returns-in-None c =
       | inl advice ↦ absurd (let wrong : true ≡ false = sym (taken_known m c.requires advice) ∙ unknown in cc)
       | inr none ↦ none_taken m c.args.tables.now c.args.node c.args.books.now.lists none
     ]
+
+pub returns-then-has_place : goal.returns-then-has_place
+returns-then-has_place c =
+    let t = c.args.tables.now in
+    let n = c.args.node in
+    room_taken t n c.args.books.now.lists c.args.message.now (c.has_place.ensures c.if-has_place.true t n)
