@@ -3,6 +3,7 @@
 
 mod answer;
 mod faults;
+mod row;
 mod sending;
 mod steps;
 

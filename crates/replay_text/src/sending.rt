@@ -8,7 +8,7 @@ use bundle_text::{MOST_WAITING, add_text, send};
 use card_digits::{Sink, WriteFault};
 use std::alloc::AllocError;
 
-/// Adds a piece. Half of all pieces are single bytes, which need no copying of a length that isn't known.
+/// Adds a piece. Some are single bytes, which need no copying of a length that isn't known.
 fn push_piece(waiting: &mut Vec<u8>, piece: &[u8]) -> Result<(), AllocError>
     ensures ok { OnOk result (waiting.new.items ≡ waiting.old.items ++ piece.now) }
     ensures err { OnErr result (waiting.new.items ≡ waiting.old.items) }

@@ -1,6 +1,7 @@
 //! What the nodes put out for the lines of a script.
-ghost use Rattle.std.specs.Prelude.{◌≡◌, ◌<◌, ◌^◌, List, [], length, Err, OnOk, OnErr};
-ghost use Rattle.std.specs.List.{flat_map};
+ghost use Rattle.std.specs.Prelude.{◌≡◌, ◌<◌, ◌^◌, List, [], ◌∷◌, length, codes, decimal, Err, OnOk, OnErr};
+ghost use Rattle.std.specs.List.{concat, flat_map};
+ghost use Rattle.bundle_text.specs.Lines.{node_name};
 ghost use Rattle.std.specs.Io.KnownBytes.{Appends};
 ghost use Rattle.card_digits.specs.Stream.{AppendsFront};
 ghost use Rattle.message_text.specs.Printed.{Sends};
@@ -9,6 +10,7 @@ ghost use Rattle.net_replay.specs.Traces.{AreTraces};
 ghost use Rattle.replay_text.specs.Fronts.{SendsFront};
 ghost use Rattle.replay_text.specs.Lines.{ordered_text, output_text, step_text, steps_text};
 
+use crate::row::{ROW, put_heading, put_way};
 use crate::sending::add_pieces;
 use bundle_text::{MOST_WAITING, PrintFault, link_name, node_name, send};
 use card_digits::{NodeNo, Sink, WriteFault};
@@ -19,8 +21,8 @@ use request_book::Way;
 use std::alloc::Global;
 use switch_node::{Entry, Output};
 
-/// Adds the line of an output to what waits: its way, and the bytes.
-fn add_output<W: Sink>(
+/// Adds the line of an output to what waits, piece by piece: its way, and the bytes.
+fn add_pieces_of<W: Sink>(
     writer: &mut W,
     waiting: &mut Vec<u8>,
     tables: &Tables,
@@ -48,6 +50,24 @@ fn add_output<W: Sink>(
     }
 }
 
+/// Adds the line of an output to what waits. Its way is put together in a row.
+fn add_output<W: Sink>(
+    writer: &mut W,
+    waiting: &mut Vec<u8>,
+    tables: &Tables,
+    output: &Output,
+) -> Result<(), WriteFault>
+    ensures ok { OnOk result (Sends (W.written writer.old) (W.written writer.new) waiting.old.items (output_text tables.now output.now) waiting.new.items) }
+    ensures err { OnErr result (SendsFront (W.written writer.old) (W.written writer.new) waiting.old.items (output_text tables.now output.now)) }
+    ensures failed { OnErr result (0 < W.failures writer.new) }
+{
+    let mut row = [0u8; ROW];
+    match put_way(&mut row, tables, output) {
+        Some(end) => add_pieces(writer, waiting, &[&row[..end], output.bytes(), b"\n"]),
+        None => add_pieces_of(writer, waiting, tables, output),
+    }
+}
+
 fn add_outputs<W: Sink>(
     writer: &mut W,
     waiting: &mut Vec<u8>,
@@ -64,6 +84,30 @@ fn add_outputs<W: Sink>(
     Ok(())
 }
 
+/// Adds the line with a step's number and its node. It is put together in a row, where that has room for the name.
+fn add_heading<W: Sink>(
+    writer: &mut W,
+    waiting: &mut Vec<u8>,
+    tables: &Tables,
+    number: u64,
+    node: NodeNo,
+) -> Result<(), WriteFault>
+    ensures ok { OnOk result (Sends (W.written writer.old) (W.written writer.new) waiting.old.items (concat (decimal number ∷ codes " " ∷ node_name tables.now node ∷ codes "\n" ∷ [])) waiting.new.items) }
+    ensures err { OnErr result (SendsFront (W.written writer.old) (W.written writer.new) waiting.old.items (concat (decimal number ∷ codes " " ∷ node_name tables.now node ∷ codes "\n" ∷ []))) }
+    ensures failed { OnErr result (0 < W.failures writer.new) }
+{
+    let name = node_name(tables, node);
+    let mut row = [0u8; ROW];
+    match put_heading(&mut row, number, name) {
+        Some(end) => add_pieces(writer, waiting, &[&row[..end]]),
+        None => {
+            let mut buffer = Buffer::new();
+            let digits = buffer.format(number).as_bytes();
+            add_pieces(writer, waiting, &[digits, b" ", name, b"\n"])
+        }
+    }
+}
+
 /// Adds the lines of a step: the number of its line and its node, and what went out.
 fn add_step<W: Sink>(
     writer: &mut W,
@@ -77,10 +121,7 @@ fn add_step<W: Sink>(
     ensures err { OnErr result (SendsFront (W.written writer.old) (W.written writer.new) waiting.old.items (step_text tables.now number (record { node = node; entry = entry.now }))) }
     ensures failed { OnErr result (0 < W.failures writer.new) }
 {
-    let mut buffer = Buffer::new();
-    let digits = buffer.format(number).as_bytes();
-    let name = node_name(tables, node);
-    add_pieces(writer, waiting, &[digits, b" ", name, b"\n"])?;
+    add_heading(writer, waiting, tables, number, node)?;
     add_outputs(writer, waiting, tables, entry.outputs().as_slice())
 }
 
