@@ -4,10 +4,12 @@
 
 mod captures;
 mod digest;
+mod digits;
 mod messages;
 mod network;
 mod plans;
 mod random;
+mod rank_line;
 mod running;
 mod scripts;
 mod text;

@@ -1,5 +1,6 @@
 //! Tables and ranks of a network: 64 nodes in a ring, 256 links, issuers, and classes that extend their prefixes.
 use crate::random::Random;
+use crate::rank_line::RankLine;
 use crate::text::Text;
 use std::alloc::{AllocError, Global};
 
@@ -195,8 +196,13 @@ fn push_link_name(text: &mut Text, node: u64, link: u64) -> Result<(), AllocErro
     text.number(node.wrapping_mul(LINKS).wrapping_add(link))
 }
 
+/// The prefix of the class's issuer, four digits.
+fn own_prefix(class: Class) -> u64 {
+    class.issuer.wrapping_mul(4).wrapping_add(4_000)
+}
+
 fn push_prefix(text: &mut Text, class: Class) -> Result<(), AllocError> {
-    text.digits(class.issuer.wrapping_mul(4).wrapping_add(4_000), 4)?;
+    text.digits(own_prefix(class), 4)?;
     match class.suffix {
         Some(suffix) => text.digits(suffix, 8),
         None => Ok(()),
@@ -427,12 +433,17 @@ fn push_rank(
     if rank == 0 && network.twist == Twist::RefusedLast && network.is_greatest(class) {
         rank = 1_000;
     }
-    push_node_name(text, node)?;
-    text.push_byte(b' ')?;
-    push_prefix(text, class)?;
-    text.push_byte(b' ')?;
-    text.number(rank)?;
-    text.end_line()
+    let mut line = RankLine::new();
+    line.put_byte(b'N');
+    line.put_number(node.wrapping_add(1));
+    line.put_byte(b' ');
+    line.put_four(own_prefix(class));
+    if let Some(suffix) = class.suffix {
+        line.put_eight(suffix);
+    }
+    line.put_byte(b' ');
+    line.put_number(rank);
+    line.push_to(text)
 }
 
 fn push_all_ranks(text: &mut Text, network: &Network) -> Result<(), AllocError> {

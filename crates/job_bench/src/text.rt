@@ -1,4 +1,5 @@
 //! Text that is put together piece by piece.
+use crate::digits::sixteen_digits;
 use itoa::Buffer;
 use std::alloc::{AllocError, Global};
 
@@ -8,23 +9,6 @@ pub(crate) struct Text {
     bytes: Vec<u8>,
     line_end: &'static [u8],
 }
-
-/// One, ten and so on up to 10 to the power of twelve.
-static POWERS: [u64; 13] = [
-    1,
-    10,
-    100,
-    1_000,
-    10_000,
-    100_000,
-    1_000_000,
-    10_000_000,
-    100_000_000,
-    1_000_000_000,
-    10_000_000_000,
-    100_000_000_000,
-    1_000_000_000_000,
-];
 
 impl Text {
     pub(crate) fn new(alloc: Global) -> Text {
@@ -81,13 +65,7 @@ impl Text {
 
     /// The last so many digits of a number, at most twelve of them.
     pub(crate) fn digits(&mut self, number: u64, count: usize) -> Result<(), AllocError> {
-        let power = POWERS[count.min(12)];
-        let last = number.checked_rem(power).unwrap_or(0);
-        // A one before them keeps their zeros.
-        let mut buffer = Buffer::new();
-        match buffer.format(power.wrapping_add(last)).as_bytes() {
-            [_one, digits @ ..] => self.bytes.extend_from_slice(digits),
-            [] => Ok(()),
-        }
+        let digits = sixteen_digits(number);
+        self.push(&digits[16 - count.min(12)..])
     }
 }
