@@ -8,4 +8,5 @@ pub mod Decimals
 pub mod Cuts
 pub mod LineCuts
 pub mod Padded
+pub mod Ends
 pub mod Attempts

@@ -12,6 +12,7 @@ mod prefix;
 mod printed;
 mod short_bytes;
 mod stream;
+mod words;
 
 pub use amount::{Amount, LinkNo, NodeNo, decimal};
 pub use card::{Card, DigitFault, begins, begins_class, luhn};
@@ -23,3 +24,4 @@ pub use name::{Id, Name};
 pub use prefix::Prefix;
 pub use short_bytes::{ShortBytes, all_digits};
 pub use stream::{Counted, ReadFault, Sink, Source, WriteFault, write_all};
+pub use words::same_bytes;

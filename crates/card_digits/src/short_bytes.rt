@@ -4,6 +4,7 @@ ghost use Rattle.std.specs.Char.{is_ascii_digit};
 ghost use Rattle.std.specs.List.{list_all};
 ghost use Rattle.card_digits.specs.Digits.{digits_of};
 
+use crate::words::same_bytes;
 use std::cmp::Ordering;
 use std::hash::{Hash, Hasher};
 use std::marker::Model;
@@ -84,7 +85,7 @@ impl<const N: usize> PartialEq for ShortBytes<N> {
 
     // All of the array at once: its length is known when the program is built, and what is not used is zero.
     fn eq(&self, other: &ShortBytes<N>) -> bool {
-        self.len == other.len && self.bytes == other.bytes
+        self.len == other.len && same_bytes(&self.bytes, &other.bytes)
     }
 }
 

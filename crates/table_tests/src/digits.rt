@@ -1,7 +1,7 @@
 //! Card numbers, prefixes, ids and amounts.
 use card_digits::{
     Amount, Card, DateLabel, DigitFault, Id, Name, Prefix, begins, begins_class, cut, first_line,
-    luhn, pad11,
+    luhn, pad11, same_bytes,
 };
 
 /// Whether a card's check digit is right. `no card` where the text is none.
@@ -177,4 +177,20 @@ fn are_lines(text: &str, wanted: &[&str]) -> bool {
 fn lines(rt: HostRuntime) {
     // The last line has no end.
     assert!(rt; are_lines("ab\n\ncd", &["ab", "", "cd"]));
+}
+
+/// A text is the same as itself, and other than one byte more and than each text of its length with another byte.
+#[test]
+fn same_bytes_at_each_length(rt: HostRuntime) {
+    let text = *b"abcdefghijklmnopqrstu";
+    for len in 0..21usize {
+        let front = &text[..len];
+        assert!(rt; same_bytes(front, front), "{len}");
+        assert!(rt; !same_bytes(front, &text[..len + 1]), "{len}");
+        for place in 0..len {
+            let mut other = text;
+            other[place] = b'.';
+            assert!(rt; !same_bytes(front, &other[..len]), "{len} {place}");
+        }
+    }
 }
