@@ -1,5 +1,6 @@
 mod Blanks
 mod Strings
+mod Numbers
 pub mod Keys
 pub mod Members
 pub mod Documents

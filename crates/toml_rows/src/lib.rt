@@ -3,6 +3,7 @@
 #![tactic(auto)]
 
 mod blank;
+mod digits;
 mod key;
 mod line;
 mod plain;

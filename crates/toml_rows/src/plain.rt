@@ -10,6 +10,7 @@ ghost use Rattle.toml_rows.specs.Rows.{IsLine, row_line, pair_line};
 ghost use Rattle.toml_rows.specs.Texts.{IsOpened, IsText, IsClosed};
 
 use crate::blank::{skip_blank, skip_ws};
+use crate::digits::digits_alone;
 use crate::key::after_bare;
 use crate::line::{after_row_header, ends_line};
 use crate::string::plain_string;
@@ -64,11 +65,14 @@ fn whole_atom(alloc: Global, s: &str) -> Option<(i64, &str)>
     }
 }
 
-/// A whole number, as a value.
+/// A whole number, as a value. Most are digits alone, so these are tried first.
 fn whole_number(alloc: Global, s: &str) -> Option<(i64, &str)>
     ensures value { IfSome result (λ p. spec.val 80 s.now ≡ Some (integer p.0, p.1.now)) }
     ensures shorter { IfSome result (λ p. length p.1.now < length s.now) }
 {
+    if let Some((number, rest)) = digits_alone(s) {
+        return Some((number, rest));
+    }
     if first(s) == b'[' || first(s) == b'{' {
         return None;
     }
