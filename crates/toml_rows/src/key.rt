@@ -3,12 +3,13 @@ ghost use Rattle.std.specs.Prelude.{◌≡◌, ◌<◌, ◌≤◌, true, [], len
 ghost use Rattle.std.specs.List.{prefix_len, list_all};
 ghost use Rattle.toml_parser.specs.Lexical.{is_bare};
 ghost use Rattle.toml_parser.specs.Strings as strings;
+ghost use Rattle.toml.specs.Parse.{header_key};
 
 use crate::blank::skip_ws;
 use std::alloc::Global;
-use toml_parser::bytes::is_bare;
+use toml_parser::bytes::{byte_at, is_bare};
 use toml_parser::dotted_key;
-use toml_parser::text::first;
+use toml_parser::text::{first, skip};
 
 /// How many bytes at the front are of a bare key.
 fn bare_len(bytes: &[u8]) -> usize
@@ -23,12 +24,12 @@ fn bare_len(bytes: &[u8]) -> usize
     bytes.len()
 }
 
-/// Whether a byte is of a bare key. Most are lower-case letters, so these are tried first.
+/// Whether a byte is of a bare key. Most are lower-case letters, and then underscores, so these are tried first.
 #[inline]
 fn is_in_key(byte: u8) -> bool
     ensures { result ≡ is_bare byte }
 {
-    byte.is_ascii_lowercase() || is_bare(byte)
+    byte.is_ascii_lowercase() || byte == b'_' || is_bare(byte)
 }
 
 /// A bare key, and what follows it and the white space after it. None also where a dot comes next.
@@ -110,4 +111,17 @@ pub(crate) fn after_bare<'a>(s: &'a str, word: &str) -> Option<&'a str>
         b'.' => None,
         _ => Some(rest),
     }
+}
+
+/// What follows a bare key of this word and a closing bracket right behind it.
+pub(crate) fn after_bare_bracket<'a>(s: &'a str, word: &str) -> Option<&'a str>
+    ensures value { IfSome result (λ rest. header_key s.now ≡ Some (([], word.now), rest.now)) }
+    ensures shorter { IfSome result (λ rest. length rest.now < length s.now) }
+{
+    let len = bare_len(s.as_bytes());
+    let (front, after) = s.as_bytes().split_at(len);
+    if len == 0 || byte_at(after, 0) != b']' || front != word.as_bytes() {
+        return None;
+    }
+    Some(skip(s, len + 1))
 }

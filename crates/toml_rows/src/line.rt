@@ -7,7 +7,7 @@ ghost use Rattle.toml_parser.specs.Lexical as lexical;
 ghost use Rattle.toml_rows.specs.Rows.{IsLine, table_line, row_line};
 
 use crate::blank::{skip_blank, skip_ws};
-use crate::key::{after_key, key};
+use crate::key::{after_bare_bracket, after_key, key};
 use crate::value::value;
 use std::alloc::Global;
 use toml::Value;
@@ -39,12 +39,15 @@ pub(crate) fn pair(alloc: Global, s: &str) -> Option<((String, Value), &str)>
     Some(((key, value), rest))
 }
 
-/// What follows the word of a header and its closing bracket.
+/// What follows the word of a header and its closing bracket. Mostly there is no white space, so this is looked for first.
 #[tactic(auto, unfolding(toml::specs::Parse::header_key))]
 fn after_word<'a>(alloc: Global, s: &'a str, word: &str) -> Option<&'a str>
     ensures value { IfSome result (λ rest. spec.header_key s.now ≡ Some (([], word.now), rest.now)) }
     ensures shorter { IfSome result (λ rest. length rest.now < length s.now) }
 {
+    if let Some(rest) = after_bare_bracket(s, word) {
+        return Some(rest);
+    }
     let rest = after_key(alloc, skip_ws(s), word)?;
     if first(rest) != b']' {
         return None;

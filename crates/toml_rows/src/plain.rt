@@ -1,6 +1,6 @@
 //! Rows whose keys are known before they are read: each pair is read where it stands, and no tree is made of it. None says only that the
 //! line is of another form, or another line, or that memory was refused; it is for `next_row` to read.
-ghost use Rattle.std.specs.Prelude.{◌≡◌, ℕ, ◌==◌, ◌<◌, true, false, [], length, Some, IfSome};
+ghost use Rattle.std.specs.Prelude.{◌≡◌, ℕ, ◌==◌, ◌<◌, ◌&&◌, not, true, false, [], length, slice_index, Some, IfSome};
 ghost use Rattle.std.specs.List.{list_all};
 ghost use Rattle.toml_parser.specs.Lexical.{is_bare};
 ghost use Rattle.toml.specs.Data.{string, integer};
@@ -16,6 +16,7 @@ use crate::line::{after_row_header, ends_line};
 use crate::string::plain_string;
 use crate::value::after_element;
 use std::alloc::Global;
+use toml_parser::bytes::{byte_at, is_ws};
 use toml_parser::text::{first, skip};
 use toml_parser::{Scalar, starts_string, unquoted};
 
@@ -26,9 +27,40 @@ pub fn row_header<'a>(alloc: Global, s: &'a str, word: &str) -> Option<&'a str>
     after_row_header(alloc, s, word)
 }
 
+/// Whether ` = ` comes next, and no more white space.
+#[inline]
+fn begins_equals(bytes: &[u8]) -> bool
+    ensures { result ≡ (((slice_index bytes.now 0 == 32 && slice_index bytes.now 1 == 61) && slice_index bytes.now 2 == 32) && not (lexical.is_ws (slice_index bytes.now 3))) }
+{
+    byte_at(bytes, 0) == b' '
+        && byte_at(bytes, 1) == b'='
+        && byte_at(bytes, 2) == b' '
+        && !is_ws(byte_at(bytes, 3))
+}
+
+/// What follows the key of this word and ` = `, where no more white space does.
+#[inline]
+fn after_spaced_equals<'a>(s: &'a str, word: &str) -> Option<&'a str>
+    requires some { 0 < length word.now }
+    requires bare { list_all is_bare word.now ≡ true }
+    ensures value { IfSome result (λ rest. spec.key_equals s.now ≡ Some (([], word.now), rest.now)) }
+    ensures shorter { IfSome result (λ rest. length rest.now < length s.now) }
+{
+    let len = word.len();
+    if s.len() <= len {
+        return None;
+    }
+    let (front, after) = s.as_bytes().split_at(len);
+    if !begins_equals(after) || front != word.as_bytes() {
+        return None;
+    }
+    Some(skip(s, len + 3))
+}
+
 /// What follows the key of this word, its `=` and the white space after it.
+#[inline(never)]
 #[tactic(auto, unfolding(toml::specs::Parse::key_equals))]
-fn after_equals<'a>(s: &'a str, word: &str) -> Option<&'a str>
+fn after_any_equals<'a>(s: &'a str, word: &str) -> Option<&'a str>
     requires some { 0 < length word.now }
     requires bare { list_all is_bare word.now ≡ true }
     ensures value { IfSome result (λ rest. spec.key_equals s.now ≡ Some (([], word.now), rest.now)) }
@@ -39,6 +71,20 @@ fn after_equals<'a>(s: &'a str, word: &str) -> Option<&'a str>
         return None;
     }
     Some(skip_ws(skip(rest, 1)))
+}
+
+/// The same. Mostly there is one space before and behind the `=`, so this is looked for first.
+#[inline]
+fn after_equals<'a>(s: &'a str, word: &str) -> Option<&'a str>
+    requires some { 0 < length word.now }
+    requires bare { list_all is_bare word.now ≡ true }
+    ensures value { IfSome result (λ rest. spec.key_equals s.now ≡ Some (([], word.now), rest.now)) }
+    ensures shorter { IfSome result (λ rest. length rest.now < length s.now) }
+{
+    if let Some(rest) = after_spaced_equals(s, word) {
+        return Some(rest);
+    }
+    after_any_equals(s, word)
 }
 
 /// What stands between two quotes, as a value.
