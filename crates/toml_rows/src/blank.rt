@@ -28,7 +28,7 @@ pub(crate) fn skip_blank(s: &str) -> &str
     ensures rest { result.now ≡ lexical.skip_blank s.now }
     ensures within { length result.now ≤ length s.now }
 {
-    let start = skip_line_feed(s);
+    let start = skip_one(s);
     if begins_token(first(start)) {
         start
     } else {
@@ -36,13 +36,19 @@ pub(crate) fn skip_blank(s: &str) -> &str
     }
 }
 
-/// After one line feed, if it comes next.
+/// After one line feed or one space, if it comes next.
 #[inline]
-fn skip_line_feed(s: &str) -> &str
+fn skip_one(s: &str) -> &str
     ensures rest { lexical.skip_blank result.now ≡ lexical.skip_blank s.now }
     ensures within { length result.now ≤ length s.now }
 {
-    if first(s) == b'\n' { skip(s, 1) } else { s }
+    if first(s) == b'\n' {
+        skip(s, 1)
+    } else if first(s) == b' ' {
+        skip(s, 1)
+    } else {
+        s
+    }
 }
 
 /// Whether a byte is no white space, and begins no comment.

@@ -13,10 +13,14 @@ use std::alloc::Global;
 use toml::Value;
 use toml_parser::text::{byte_at, first, skip};
 
-/// Whether nothing but white space and a comment is left of the line.
+/// Whether nothing but white space and a comment is left of the line. Mostly nothing is.
+#[inline]
 pub(crate) fn ends_line(s: &str) -> bool
     ensures { result ≡ spec.ends_line (lexical.skip_ws s.now) }
 {
+    if first(s) == b'\n' {
+        return true;
+    }
     let end = skip_ws(s);
     end.is_empty() || matches!(first(end), b'#' | b'\n' | b'\r')
 }

@@ -22,12 +22,13 @@ fn plain_len(bytes: &[u8]) -> usize
     bytes.len()
 }
 
-/// Whether a byte stands for itself between quotes. Most are digits and letters, so these are tried first.
+/// Whether a byte stands for itself between quotes. Most are digits and capital letters, which with others stand between the quote and the
+/// backslash, so these are tried first.
 #[inline]
 fn is_plain(byte: u8) -> bool
     ensures { result ≡ strings.is_plain 34 false byte }
 {
-    byte.is_ascii_alphanumeric() || byte != b'"' && byte != b'\\' && is_non_eol(byte)
+    byte > b'"' && byte < b'\\' || byte != b'"' && byte != b'\\' && is_non_eol(byte)
 }
 
 /// What stands between two quotes, and what follows them. None where it is empty or has an escape, and for the other kinds of strings.

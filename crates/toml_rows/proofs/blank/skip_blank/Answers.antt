@@ -4,4 +4,4 @@ use Rattle.toml_rows.proofs.blank.skip_blank.Goals as goal
 
 pub returns-then-begins_token-clause-rest : goal.returns-then-begins_token-clause-rest
 returns-then-begins_token-clause-rest c =
-    no_blank c.skip_line_feed-start.result.now (rw c.first.ensures at c.if-begins_token.ensures refl) ∙ c.skip_line_feed-start.ensures.rest
+    no_blank c.skip_one-start.result.now (rw c.first.ensures at c.if-begins_token.ensures refl) ∙ c.skip_one-start.ensures.rest
