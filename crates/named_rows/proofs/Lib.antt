@@ -1,4 +1,5 @@
 pub mod Entries
 pub mod Taken
+pub mod Places
 pub mod Pushed
 pub mod Again

@@ -1,5 +1,6 @@
 //! Rows that are found by their names.
-ghost use Rattle.std.specs.Prelude.{◌≡◌, ◌<◌, length, map, IfOk, IfSome};
+ghost use Rattle.std.specs.Prelude.{◌≡◌, ◌==◌, ◌<◌, length, map, position, IfOk, IfSome};
+ghost use Rattle.std.specs.Cmp.Lexicographic.{pointwise};
 ghost use Rattle.named_rows.specs.Rows.{AreNamed};
 ghost use Rattle.named_rows.specs.Reading.{named};
 ghost use Rattle.named_rows.specs.Plain.{IsNamed};
@@ -33,11 +34,39 @@ impl Named for Link {
     ghost most = { 256 };
 }
 
-/// Rows in the order of the text, and their names, none twice.
+/// How many marks there are.
+const MARKS: usize = 1_024;
+
+/// Rows in the order of the text, and their names, none twice. A mark says where a name of its hash may stand.
 #[derive(Drop)]
 pub struct NamedRows<R: Named> {
     rows: Vec<R>,
     names: IndexSet<Name>,
+    marks: [u8; MARKS],
+}
+
+/// The place of a name's mark, by its last three bytes: names mostly end in numbers.
+fn mark_of(name: &Name) -> usize
+    ensures { result < 1_024 }
+{
+    let hash = match name.as_slice() {
+        [.., third, second, last] => {
+            usize::from(*third) * 100 + usize::from(*second) * 10 + usize::from(*last)
+        }
+        [second, last] => usize::from(*second) * 10 + usize::from(*last),
+        [last] => usize::from(*last),
+        [] => 0,
+    };
+    hash % MARKS
+}
+
+/// A mark for each name, or for one of those that share one.
+fn marks_of(names: &[Name]) -> [u8; MARKS] {
+    let mut marks = [0; MARKS];
+    for (place, name) in names.iter().enumerate() {
+        marks[mark_of(name)] = (place % 256) as u8;
+    }
+    marks
 }
 
 impl<R: Named> Model for NamedRows<R> {
@@ -57,7 +86,8 @@ impl<R: Named> NamedRows<R> {
         requires { AreNamed R.most R.name_of names.keys rows.items }
         ensures { result ≡ rows.items }
     {
-        NamedRows { rows, names }
+        let marks = marks_of(names.as_slice());
+        NamedRows { rows, names, marks }
     }
 
     /// The place of the row of that name, counted from 0.
@@ -66,9 +96,7 @@ impl<R: Named> NamedRows<R> {
         ensures within { IfOk result (λ i. i < length self.now) }
         ensures few { IfOk result (λ i. i < R.most) }
     {
-        self.names
-            .get_index_of(name)
-            .ok_or(TableFault::UnknownName(at))
+        self.place_of(name).ok_or(TableFault::UnknownName(at))
     }
 
     /// The place of the row whose name the text is.
@@ -78,7 +106,20 @@ impl<R: Named> NamedRows<R> {
         ensures few { IfSome result (λ i. i < R.most) }
     {
         let name = Name::read(text.as_bytes())?;
-        self.names.get_index_of(&name)
+        self.place_of(&name)
+    }
+
+    /// The place of the row of that name. The name whose place is marked is compared first.
+    fn place_of(&self, name: &Name) -> Option<usize>
+        ensures value { result ≡ position (pointwise ◌==◌ name.now) (map R.name_of self.now) }
+        ensures within { IfSome result (λ i. i < length self.now) }
+        ensures few { IfSome result (λ i. i < R.most) }
+    {
+        let place = usize::from(self.marks[mark_of(name)]);
+        match self.names.as_slice().get(place) {
+            Some(marked) if marked == name => Some(place),
+            _ => self.names.get_index_of(name),
+        }
     }
 
     /// The rows.
@@ -92,7 +133,11 @@ impl<R: Named> NamedRows<R> {
     pub fn into_rows(self) -> Vec<R>
         ensures { result.items ≡ self }
     {
-        let NamedRows { rows, names: _ } = self;
+        let NamedRows {
+            rows,
+            names: _,
+            marks: _,
+        } = self;
         rows
     }
 }
