@@ -1,5 +1,5 @@
 //! Rows at a node, with a prefix that is new there.
-ghost use Rattle.std.specs.Prelude.{◌≡◌, ◌==◌, ◌<◌, true, false, not, length, slice_set, OnOk, OnErr, IfOk};
+ghost use Rattle.std.specs.Prelude.{◌≡◌, ◌==◌, ◌<◌, [], true, false, not, length, slice_set, OnOk, OnErr, IfOk};
 ghost use Rattle.indexmap.specs.IndexSet.{insert_key};
 ghost use Rattle.std.specs.Cmp.Lexicographic.{pointwise};
 ghost use Rattle.card_digits.specs.Attempts.{Gives};
@@ -34,15 +34,34 @@ impl Model for NodePrefixes {
     ghost view = { λ a. map (λ s. s.keys) a.sets.items };
 }
 
+/// An empty set, with memory for so many prefixes where it is given.
+fn set_with_room(alloc: Global, prefixes: usize) -> IndexSet<Prefix>
+    ensures { result.keys ≡ [] }
+{
+    match IndexSet::with_capacity(alloc, prefixes) {
+        Ok(set) => set,
+        Err(_) => IndexSet::new(alloc),
+    }
+}
+
 impl NodePrefixes {
     /// No prefixes for each of so many nodes.
     pub fn new(alloc: Global, nodes: usize) -> Result<NodePrefixes, AllocError>
         ensures empty { IfOk result AreEmpty }
         ensures len { IfOk result (λ v. length v ≡ nodes) }
     {
+        NodePrefixes::with_room(alloc, nodes, 0)
+    }
+
+    /// The same, and memory for so many rows that are spread evenly over the nodes, as far as it is given.
+    pub fn with_room(alloc: Global, nodes: usize, rows: usize) -> Result<NodePrefixes, AllocError>
+        ensures empty { IfOk result AreEmpty }
+        ensures len { IfOk result (λ v. length v ≡ nodes) }
+    {
+        let each = rows.checked_div(nodes).unwrap_or(0).min(MOST_ROWS);
         let mut sets = Vec::new(alloc);
         for _ in 0..nodes {
-            sets.push(IndexSet::new(alloc))?;
+            sets.push(set_with_room(alloc, each))?;
         }
         Ok(NodePrefixes { sets })
     }
