@@ -105,11 +105,11 @@ fn add_behind(branches: &mut Vec<Branch>, at: usize, digit: u8) -> Result<usize,
     ensures longer { length branches.old.items ≤ length branches.new.items }
 {
     let made = branches.len();
-    let Ok(number) = u32::try_from(made) else {
+    if made > u32::MAX as usize {
         return Err(AllocError);
-    };
+    }
     push_bare(branches)?;
-    link(branches, at, digit, number);
+    link(branches, at, digit, made as u32);
     Ok(made)
 }
 
@@ -123,9 +123,9 @@ fn step(branches: &mut Vec<Branch>, at: usize, digit: u8) -> Result<usize, Alloc
     ensures some { IfOk result (λ i. 0 < i) }
     ensures longer { length branches.old.items ≤ length branches.new.items }
 {
-    let next = behind(branches, at, digit);
+    let next = branches[at].behind[digit as usize];
     if next != 0 {
-        return Ok(next);
+        return Ok(next as usize);
     }
     add_behind(branches, at, digit)
 }
