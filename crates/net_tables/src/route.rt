@@ -16,7 +16,7 @@ use named_rows::{NamedRows, NodePrefixes, links_at, new_prefix_at};
 use net_rows::{Link, Node, Route};
 use std::alloc::Global;
 use table_fields::{Key, Row, Table, TableFault};
-use toml_rows::{row_header, text_pair};
+use toml_rows::{bare_row_header, text_pair};
 
 #[derive(Clone, Copy)]
 struct RouteReader<'a> {
@@ -93,7 +93,7 @@ impl<'a> RouteReader<'a> {
         ensures own { IfSome result (λ p. list_all (is_end self.now.links.now p.0.node) p.0.links ≡ true) }
         ensures shorter { IfSome result (λ p. length p.1.now < length text.now) }
     {
-        let rest = row_header(self.alloc, text, table.word())?;
+        let rest = bare_row_header(self.alloc, text, table.word())?;
         let (name, rest) = text_pair(rest, Key::Node.word())?;
         let node = node_named(self.nodes, name)?;
         let (digits, rest) = text_pair(rest, Key::Prefix.word())?;

@@ -15,7 +15,7 @@ use named_rows::{NamedRows, NodePrefixes, new_prefix_at};
 use net_rows::{Node, StandIn};
 use std::alloc::Global;
 use table_fields::{Key, Row, Table, TableFault};
-use toml_rows::{number_pair, row_header, text_pair};
+use toml_rows::{bare_row_header, number_pair, text_pair};
 
 #[derive(Clone, Copy)]
 struct StandInReader<'a> {
@@ -88,7 +88,7 @@ impl<'a> StandInReader<'a> {
         ensures within { IfSome result (λ p. p.0.node < length self.now.nodes.now) }
         ensures shorter { IfSome result (λ p. length p.1.now < length text.now) }
     {
-        let rest = row_header(self.alloc, text, table.word())?;
+        let rest = bare_row_header(self.alloc, text, table.word())?;
         let (name, rest) = text_pair(rest, Key::Node.word())?;
         let node = node_named(self.nodes, name)?;
         let (digits, rest) = text_pair(rest, Key::Prefix.word())?;

@@ -83,17 +83,19 @@ key_spaced text word some is bare h =
 no_space : (c : ℕ) → is_bare c ≡ true → is_ws c ≡ false
 no_space c bare = grind (arith, nat_tests)
 
-bracket : (c : ℕ) → (c == 93) ≡ true → (is_ws c ≡ false) × ((c == 46) ≡ false)
-bracket c is = (grind (arith, nat_tests), grind (arith, nat_tests))
+bracket : (c : ℕ) → (c == 93) ≡ true → (is_ws c ≡ false) × ((c == 46) ≡ false) × (is_bare c ≡ false)
+bracket c is = (grind (arith, nat_tests), grind (arith, nat_tests), grind (arith, nat_tests))
 
--- a bare key and the closing bracket right behind it
-pub header_bare : (text word : List ℕ) → 0 < prefix_len is_bare text → take (prefix_len is_bare text) text ≡ word → (first (drop (prefix_len is_bare text) text) == 93) ≡ true
-    → header_key text ≡ Some (([], word), drop 1 (drop (prefix_len is_bare text) text))
+-- a word of bytes of keys and the closing bracket right behind it
+pub header_bare : (text word : List ℕ) → 0 < length word → take (length word) text ≡ word → list_all is_bare word ≡ true → (first (drop (length word) text) == 93) ≡ true
+    → header_key text ≡ Some (([], word), drop 1 (drop (length word) text))
 unfolding header_key
-header_bare text word some is closes =
-    let after : List ℕ = drop (prefix_len is_bare text) text in
+header_bare text word some is bare closes =
+    let after : List ℕ = drop (length word) text in
     let end = bracket (first after) closes in
-    let begins : skip_ws text ≡ text = skip_ws_none text (no_space (first text) (prefix_len_passes is_bare text 0 0 some)) in
+    let at_end : slice_index text (length word) ≡ first after = sym (rw add-zero at (get_or-drop (length word) text 0 0)) in
+    let len = word_in_front text word is (rw at_end end.2) bare in
+    let begins : skip_ws text ≡ text = skip_ws_none text (no_space (first text) (prefix_len_passes is_bare text 0 0 (rw len some))) in
     let ends : skip_ws after ≡ after = skip_ws_none after end.0 in
-    let read = bare_word text some (rw ends end.1) in
-    rw (begins, read, is, ends, closes) refl
+    let read = bare_in_front text word some is (rw at_end end.2) bare (rw ends end.1) in
+    rw (begins, read, ends, closes) refl

@@ -1,6 +1,7 @@
 mod Blanks
 mod Strings
 mod Numbers
+mod Headers
 pub mod Keys
 pub mod Members
 pub mod Documents

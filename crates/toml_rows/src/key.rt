@@ -24,12 +24,12 @@ fn bare_len(bytes: &[u8]) -> usize
     bytes.len()
 }
 
-/// Whether a byte is of a bare key. Most are lower-case letters, and then underscores, so these are tried first.
+/// Whether a byte is of a bare key. Most are lower-case letters, so these are tried first.
 #[inline]
 fn is_in_key(byte: u8) -> bool
     ensures { result ≡ is_bare byte }
 {
-    byte.is_ascii_lowercase() || byte == b'_' || is_bare(byte)
+    byte.is_ascii_lowercase() || is_bare(byte)
 }
 
 /// A bare key, and what follows it and the white space after it. None also where a dot comes next.
@@ -113,14 +113,19 @@ pub(crate) fn after_bare<'a>(s: &'a str, word: &str) -> Option<&'a str>
     }
 }
 
-/// What follows a bare key of this word and a closing bracket right behind it.
+/// What follows a word, compared where it stands, and a closing bracket right behind it.
 pub(crate) fn after_bare_bracket<'a>(s: &'a str, word: &str) -> Option<&'a str>
+    requires some { 0 < length word.now }
+    requires bare { list_all is_bare word.now ≡ true }
     ensures value { IfSome result (λ rest. header_key s.now ≡ Some (([], word.now), rest.now)) }
     ensures shorter { IfSome result (λ rest. length rest.now < length s.now) }
 {
-    let len = bare_len(s.as_bytes());
+    let len = word.len();
+    if s.len() <= len {
+        return None;
+    }
     let (front, after) = s.as_bytes().split_at(len);
-    if len == 0 || byte_at(after, 0) != b']' || front != word.as_bytes() {
+    if byte_at(after, 0) != b']' || front != word.as_bytes() {
         return None;
     }
     Some(skip(s, len + 1))

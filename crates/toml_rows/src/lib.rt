@@ -11,5 +11,7 @@ mod row;
 mod string;
 mod value;
 
-pub use plain::{close_texts, next_text, number_pair, open_texts, row_header, text_pair};
+pub use plain::{
+    bare_row_header, close_texts, next_text, number_pair, open_texts, row_header, text_pair,
+};
 pub use row::{first_table, is_over, next_row, start};

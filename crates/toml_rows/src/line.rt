@@ -1,9 +1,11 @@
 //! Lines of a document.
-ghost use Rattle.std.specs.Prelude.{◌≡◌, ◌==◌, ◌<◌, ◌≤◌, [], true, false, length, string_bytes, Some, IfSome};
+ghost use Rattle.std.specs.Prelude.{◌≡◌, ◌==◌, ◌<◌, ◌≤◌, [], true, false, length, drop, slice_index, string_bytes, Some, IfSome};
+ghost use Rattle.std.specs.List.{list_all};
 ghost use Rattle.toml.specs.Parse as spec;
 ghost use Rattle.toml.specs.Tables.{key_value};
 ghost use Rattle.toml.specs.View.{view};
 ghost use Rattle.toml_parser.specs.Lexical as lexical;
+ghost use Rattle.toml_parser.specs.Lexical.{is_bare};
 ghost use Rattle.toml_rows.specs.Rows.{IsLine, table_line, row_line};
 
 use crate::blank::{skip_blank, skip_ws};
@@ -43,15 +45,12 @@ pub(crate) fn pair(alloc: Global, s: &str) -> Option<((String, Value), &str)>
     Some(((key, value), rest))
 }
 
-/// What follows the word of a header and its closing bracket. Mostly there is no white space, so this is looked for first.
+/// What follows the word of a header and its closing bracket.
 #[tactic(auto, unfolding(toml::specs::Parse::header_key))]
 fn after_word<'a>(alloc: Global, s: &'a str, word: &str) -> Option<&'a str>
     ensures value { IfSome result (λ rest. spec.header_key s.now ≡ Some (([], word.now), rest.now)) }
     ensures shorter { IfSome result (λ rest. length rest.now < length s.now) }
 {
-    if let Some(rest) = after_bare_bracket(s, word) {
-        return Some(rest);
-    }
     let rest = after_key(alloc, skip_ws(s), word)?;
     if first(rest) != b']' {
         return None;
@@ -75,22 +74,58 @@ pub(crate) fn after_table_header<'a>(alloc: Global, s: &'a str, word: &str) -> O
     Some(rest)
 }
 
-/// What follows the line `[[word]]`, where it comes next.
-#[tactic(auto, unfolding(toml::specs::Parse::line, toml::specs::Parse::expression))]
-pub(crate) fn after_row_header<'a>(alloc: Global, s: &'a str, word: &str) -> Option<&'a str>
-    ensures { IfSome result (λ rest. IsLine (row_line word.now) s.now rest.now) }
+/// What follows the opening brackets of a row's header, where they come next.
+#[inline]
+fn after_brackets(s: &str) -> Option<&str>
+    ensures opens { IfSome result (λ _. (lexical.first (lexical.skip_blank s.now) == lexical.left_bracket) ≡ true) }
+    ensures twice { IfSome result (λ _. (slice_index (lexical.skip_blank s.now) 1 == lexical.left_bracket) ≡ true) }
+    ensures inside { IfSome result (λ inside. inside.now ≡ drop 2 (lexical.skip_blank s.now)) }
+    ensures shorter { IfSome result (λ inside. length inside.now < length (lexical.skip_blank s.now)) }
 {
     let start = skip_blank(s);
     if first(start) != b'[' || byte_at(start, 1) != b'[' {
         return None;
     }
-    let rest = after_word(alloc, skip(start, 2), word)?;
-    if first(rest) != b']' {
+    Some(skip(start, 2))
+}
+
+/// What follows the last bracket of a row's header, alone on the rest of its line.
+#[inline]
+fn after_last_bracket(s: &str) -> Option<&str>
+    ensures closes { IfSome result (λ _. (lexical.first s.now == lexical.right_bracket) ≡ true) }
+    ensures rest { IfSome result (λ rest. rest.now ≡ drop 1 s.now) }
+    ensures ends { IfSome result (λ rest. spec.ends_line (lexical.skip_ws rest.now) ≡ true) }
+    ensures shorter { IfSome result (λ rest. length rest.now < length s.now) }
+{
+    if first(s) != b']' {
         return None;
     }
-    let rest = skip(rest, 1);
+    let rest = skip(s, 1);
     if !ends_line(rest) {
         return None;
     }
+    Some(rest)
+}
+
+/// What follows the line `[[word]]`, where it comes next.
+pub(crate) fn after_row_header<'a>(alloc: Global, s: &'a str, word: &str) -> Option<&'a str>
+    ensures { IfSome result (λ rest. IsLine (row_line word.now) s.now rest.now) }
+{
+    let inside = after_brackets(s)?;
+    let after = after_word(alloc, inside, word)?;
+    let rest = after_last_bracket(after)?;
+    Some(rest)
+}
+
+/// The same for a word that is a bare key, where no white space stands in the header.
+#[inline]
+pub(crate) fn after_bare_row_header<'a>(s: &'a str, word: &str) -> Option<&'a str>
+    requires some { 0 < length word.now }
+    requires bare { list_all is_bare word.now ≡ true }
+    ensures { IfSome result (λ rest. IsLine (row_line word.now) s.now rest.now) }
+{
+    let inside = after_brackets(s)?;
+    let after = after_bare_bracket(inside, word)?;
+    let rest = after_last_bracket(after)?;
     Some(rest)
 }

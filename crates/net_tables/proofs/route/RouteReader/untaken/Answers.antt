@@ -1,7 +1,14 @@
 use Rattle.table_fields.specs.declared.place.Key.TheVariants as key
 use Rattle.named_rows.specs.Rows.{node_names}
 use Rattle.net_tables.proofs.PlainRows.{node_next, prefix_next, route_next}
+use Rattle.net_tables.proofs.Words.{word_some, word_bare}
 use Rattle.net_tables.proofs.route.RouteReader.untaken.Goals as goal
+
+pub bare_row_header-requires-clause-some : goal.bare_row_header-requires-clause-some
+bare_row_header-requires-clause-some c = rw c.word.ensures (word_some c.args.table)
+
+pub bare_row_header-requires-clause-bare : goal.bare_row_header-requires-clause-bare
+bare_row_header-requires-clause-bare c = rw c.word.ensures (word_bare c.args.table)
 
 pub returns-clause-value : goal.returns-clause-value
 returns-clause-value c =
