@@ -114,6 +114,7 @@ pub(crate) fn after_bare<'a>(s: &'a str, word: &str) -> Option<&'a str>
 }
 
 /// What follows a word, compared where it stands, and a closing bracket right behind it.
+#[inline(always)]
 pub(crate) fn after_bare_bracket<'a>(s: &'a str, word: &str) -> Option<&'a str>
     requires some { 0 < length word.now }
     requires bare { list_all is_bare word.now ≡ true }

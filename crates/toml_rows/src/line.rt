@@ -118,7 +118,7 @@ pub(crate) fn after_row_header<'a>(alloc: Global, s: &'a str, word: &str) -> Opt
 }
 
 /// The same for a word that is a bare key, where no white space stands in the header.
-#[inline]
+#[inline(always)]
 pub(crate) fn after_bare_row_header<'a>(s: &'a str, word: &str) -> Option<&'a str>
     requires some { 0 < length word.now }
     requires bare { list_all is_bare word.now ≡ true }

@@ -28,6 +28,7 @@ pub fn row_header<'a>(alloc: Global, s: &'a str, word: &str) -> Option<&'a str>
 }
 
 /// The same for a word that is a bare key, which is compared where it stands. White space in the header is looked for afterwards.
+#[inline(always)]
 pub fn bare_row_header<'a>(alloc: Global, s: &'a str, word: &str) -> Option<&'a str>
     requires some { 0 < length word.now }
     requires bare { list_all is_bare word.now ≡ true }
@@ -51,7 +52,7 @@ fn begins_equals(bytes: &[u8]) -> bool
 }
 
 /// What follows the key of this word and ` = `, where no more white space does.
-#[inline]
+#[inline(always)]
 fn after_spaced_equals<'a>(s: &'a str, word: &str) -> Option<&'a str>
     requires some { 0 < length word.now }
     requires bare { list_all is_bare word.now ≡ true }
@@ -86,7 +87,7 @@ fn after_any_equals<'a>(s: &'a str, word: &str) -> Option<&'a str>
 }
 
 /// The same. Mostly there is one space before and behind the `=`, so this is looked for first.
-#[inline]
+#[inline(always)]
 fn after_equals<'a>(s: &'a str, word: &str) -> Option<&'a str>
     requires some { 0 < length word.now }
     requires bare { list_all is_bare word.now ≡ true }
@@ -139,6 +140,7 @@ fn whole_number(alloc: Global, s: &str) -> Option<(i64, &str)>
 
 /// The text at a key, and what follows its line. None where the text is empty or has an escape, for the other kinds of strings, and where
 /// the key is quoted.
+#[inline(always)]
 #[tactic(auto, unfolding(toml::specs::Parse::line, toml::specs::Parse::expression))]
 pub fn text_pair<'a>(s: &'a str, word: &str) -> Option<(&'a str, &'a str)>
     requires some { 0 < length word.now }
@@ -157,6 +159,7 @@ pub fn text_pair<'a>(s: &'a str, word: &str) -> Option<(&'a str, &'a str)>
 }
 
 /// The whole number at a key, and what follows its line.
+#[inline(always)]
 #[tactic(auto, unfolding(toml::specs::Parse::line, toml::specs::Parse::expression))]
 pub fn number_pair<'a>(alloc: Global, s: &'a str, word: &str) -> Option<(i64, &'a str)>
     requires some { 0 < length word.now }
