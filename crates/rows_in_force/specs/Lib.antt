@@ -1,3 +1,4 @@
 pub mod InForce
 pub mod Own
 pub mod Kept
+pub mod LinkEnds

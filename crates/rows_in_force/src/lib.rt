@@ -3,8 +3,10 @@
 
 mod fronts;
 mod in_force;
+mod link_ends;
 mod own;
 mod placed;
 
 pub use in_force::InForce;
+pub use link_ends::LinkEnds;
 pub use placed::Placed;

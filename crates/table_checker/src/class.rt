@@ -6,7 +6,7 @@ use crate::refusal::{Kind, Refusal};
 use card_digits::{Amount, NodeNo, Prefix};
 use net_rows::{Issuer, Route, StandIn, Tables};
 use rank_cert::Cert;
-use rows_in_force::InForce;
+use rows_in_force::{InForce, LinkEnds};
 
 /// The rules at one class, with the rows in force there.
 #[derive(Clone, Copy, Debug)]
@@ -16,6 +16,7 @@ pub(crate) struct At<'a> {
     pub class: Prefix,
     pub routes: &'a InForce<'a, Route>,
     pub stand_ins: &'a InForce<'a, StandIn>,
+    pub ends: &'a LinkEnds,
 }
 
 /// The first refusals of what nodes may approve by themselves.
