@@ -83,9 +83,39 @@ impl Firsts {
         ensures over_ceiling { self.new.over_ceiling ≡ option_or self.old.over_ceiling (kind_refusal at.now.tables.now at.now.cert.now at.now.class Kind.OverCeiling (Some issuer.now)) }
         ensures no_issuer { self.new.no_issuer ≡ self.old.no_issuer }
     {
+        self.add_by_rank(at, issuer);
+        self.add_by_day(at, issuer);
+    }
+
+    /// Adds those that come of ranks, which are only looked for as long as one of the two is not found.
+    fn add_by_rank(&mut self, at: &At, issuer: &Issuer)
+        requires { HasRows at.now }
+        ensures no_rank { self.new.no_rank ≡ option_or self.old.no_rank (kind_refusal at.now.tables.now at.now.cert.now at.now.class Kind.NoRank (Some issuer.now)) }
+        ensures not_less { self.new.not_less ≡ option_or self.old.not_less (kind_refusal at.now.tables.now at.now.cert.now at.now.class Kind.NotLess (Some issuer.now)) }
+        ensures not_named { self.new.not_named ≡ self.old.not_named }
+        ensures over_ceiling { self.new.over_ceiling ≡ self.old.over_ceiling }
+        ensures no_issuer { self.new.no_issuer ≡ self.old.no_issuer }
+    {
+        if self.no_rank.is_some() && self.not_less.is_some() {
+            return;
+        }
         let by_rank = at.by_rank(issuer);
         self.no_rank = self.no_rank.or(by_rank.no_rank);
         self.not_less = self.not_less.or(by_rank.not_less);
+    }
+
+    /// Adds those that come of what nodes may approve, in the same way.
+    fn add_by_day(&mut self, at: &At, issuer: &Issuer)
+        requires { HasRows at.now }
+        ensures not_named { self.new.not_named ≡ option_or self.old.not_named (kind_refusal at.now.tables.now at.now.cert.now at.now.class Kind.NotNamed (Some issuer.now)) }
+        ensures over_ceiling { self.new.over_ceiling ≡ option_or self.old.over_ceiling (kind_refusal at.now.tables.now at.now.cert.now at.now.class Kind.OverCeiling (Some issuer.now)) }
+        ensures no_rank { self.new.no_rank ≡ self.old.no_rank }
+        ensures not_less { self.new.not_less ≡ self.old.not_less }
+        ensures no_issuer { self.new.no_issuer ≡ self.old.no_issuer }
+    {
+        if self.not_named.is_some() && self.over_ceiling.is_some() {
+            return;
+        }
         let by_day = at.by_day(issuer);
         self.not_named = self.not_named.or(by_day.not_named);
         self.over_ceiling = self.over_ceiling.or(by_day.over_ceiling);
