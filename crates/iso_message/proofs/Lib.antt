@@ -17,3 +17,4 @@ pub mod PartLemmas
 pub mod Together
 pub mod RunLemmas
 pub mod MemoryFault
+pub mod ReadOn

@@ -3,6 +3,7 @@ pub mod Elements
 pub mod Finding
 pub mod Fields
 pub mod Messages
+pub mod Unread
 pub mod Grammar
 pub mod HexDigits
 pub mod Spelling

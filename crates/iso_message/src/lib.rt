@@ -9,9 +9,11 @@ mod made;
 mod message;
 mod reading;
 mod runs;
+mod unread;
 mod writing;
 
 pub use elements::ElementIter;
 pub use message::{Message, bytes_of, encode, encode_into};
 pub use reading::decode;
+pub use unread::Unread;
 pub use writing::is_binary;

@@ -27,7 +27,7 @@ use std::alloc::Global;
 
 #[tactic(auto, unfolding(crate::specs::Elements::content_at))]
 #[inline(always)]
-fn content_of<'a>(
+pub(crate) fn content_of<'a>(
     class: Class,
     size: usize,
     number: u8,
@@ -78,7 +78,7 @@ fn length_of<'a>(
 
 #[tactic(auto, unfolding(crate::specs::Elements::counted_at))]
 #[inline(always)]
-fn counted_of<'a>(
+pub(crate) fn counted_of<'a>(
     width: usize,
     class: Class,
     most: usize,
@@ -110,7 +110,7 @@ fn eight_bytes(digits: &[u8]) -> Result<[u8; 8], FromHexError>
 }
 
 #[tactic(auto, unfolding(crate::specs::Elements::binary_at))]
-fn binary_of(number: u8, bytes: &[u8]) -> Result<([u8; 8], &[u8]), DecodeFault>
+pub(crate) fn binary_of(number: u8, bytes: &[u8]) -> Result<([u8; 8], &[u8]), DecodeFault>
     ensures { Reads (λ x. (x.0, x.1.now)) result (binary_at number bytes.now) }
 {
     if bytes.len() < 16 {
@@ -209,7 +209,7 @@ fn add_second<'a>(
 }
 
 #[tactic(auto, unfolding(crate::specs::Messages::kind_at))]
-fn read_kind(bytes: &[u8]) -> Result<(Kind, &[u8]), DecodeFault>
+pub(crate) fn read_kind(bytes: &[u8]) -> Result<(Kind, &[u8]), DecodeFault>
     ensures { Reads (λ x. (x.0, x.1.now)) result (kind_at bytes.now) }
 {
     if bytes.len() < 4 {
@@ -223,7 +223,7 @@ fn read_kind(bytes: &[u8]) -> Result<(Kind, &[u8]), DecodeFault>
 }
 
 #[tactic(auto, unfolding(crate::specs::Messages::map_at))]
-fn bit_map(bytes: &[u8]) -> Result<(u64, &[u8]), DecodeFault>
+pub(crate) fn bit_map(bytes: &[u8]) -> Result<(u64, &[u8]), DecodeFault>
     ensures { Reads (λ x. (x.0, x.1.now)) result (map_at bytes.now) }
 {
     if bytes.len() < 16 {
@@ -237,7 +237,7 @@ fn bit_map(bytes: &[u8]) -> Result<(u64, &[u8]), DecodeFault>
 }
 
 #[tactic(auto, unfolding(crate::specs::Messages::second_at))]
-fn second_map(first: u64, bytes: &[u8]) -> Result<(u64, &[u8]), DecodeFault>
+pub(crate) fn second_map(first: u64, bytes: &[u8]) -> Result<(u64, &[u8]), DecodeFault>
     ensures { Reads (λ x. (x.0, x.1.now)) result (second_at first bytes.now) }
 {
     if first < 1 << 63 {

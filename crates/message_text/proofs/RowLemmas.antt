@@ -1,5 +1,6 @@
 -- Bytes written in the front of a row.
-use Rattle.std.proofs.Common.{◌≡◌, ℕ, ◌+◌, ◌≤◌, List, ◌++◌, length, take, drop, sym, ap, ◌∙◌, append_assoc, length-append, arith}
+use Rattle.std.proofs.Common.{◌≡◌, ℕ, ◌+◌, ◌≤◌, List, Option, Some, ◌++◌, length, take, drop, sym, ap, subst, ◌∙◌, append_assoc, length-append, arith}
+use Rattle.std.specs.Prelude.{IfSome}
 use Rattle.std.proofs.lemmas.List.{take-append-drop, take-take, take_at, length-take-le}
 
 -- the first n bytes and the last n bytes, which may overlap, are all of them
@@ -15,3 +16,7 @@ two_words old mid new bytes first last at r m end n k front r_is first_is enough
     let kept : take m mid ≡ before ++ take k first = sym (take-take m r mid (omega (arith, m_is, r_is, few))) ∙ ap (take m) (front ∙ split) ∙ take_at (before ++ take k first) (drop k first) m both in
     let same : take k first ≡ take k bytes = ap (take k) first_is ∙ take-take k n bytes few in
     whole ∙ ap (λ z. z ++ last) (kept ∙ ap (λ z. before ++ z) same) ∙ append_assoc before (take k bytes) last ∙ ap (λ z. before ++ z) (ap (λ z. take k bytes ++ z) last_is ∙ take-append-drop k bytes)
+
+-- what is said of the value in an option that has one
+pub of_some : {A : Type 0} {x : Option A} {a : A} (P : A → Type 0) → x ≡ Some a → IfSome x P → P a
+of_some P e h = subst (λ y. IfSome y P) e h

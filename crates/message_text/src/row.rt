@@ -1,13 +1,20 @@
 //! The printed form of a message, written into a row of bytes that are there already.
-ghost use Rattle.std.specs.Prelude.{◌≡◌, ◌+◌, ◌≤◌, ◌++◌, [], length, take, codes, decimal, Some, IfSome};
+ghost use Rattle.std.specs.Prelude.{◌≡◌, ◌+◌, ◌≤◌, ◌++◌, [], true, false, length, take, codes, decimal, Some, Err, IfSome, IfOk, IfErr};
 ghost use Rattle.std.specs.Option.{option_copied};
 ghost use Rattle.hex.specs.Hex.{encode_upper};
-ghost use Rattle.message_text.specs.Printed.{element_line, element_lines, message_lines, fault_line, heading, PrintsBlock};
+ghost use Rattle.message_elements.specs.Table.{form_of};
+ghost use Rattle.message_elements.specs.declared.kind.Kind.{Kind};
+ghost use Rattle.iso_message.specs.Elements.{field_at};
+ghost use Rattle.iso_message.specs.Messages.{read};
+ghost use Rattle.iso_message.specs.Spelling.{is_binary};
+ghost use Rattle.iso_message.specs.Unread.{read_on};
+ghost use Rattle.message_text.specs.Lines.{WritesElement, WritesLeft, WritesMessage};
+ghost use Rattle.message_text.specs.Printed.{element_line, fault_line, heading, PrintsBlock};
 
 use crate::block::kind_line;
-use iso_message::{Message, is_binary};
+use iso_message::Unread;
 use itoa::Buffer;
-use message_elements::DecodeFault;
+use message_elements::{DecodeFault, Kind};
 
 /// Writes bytes at a place of a row, and returns the place behind them.
 #[inline(always)]
@@ -100,11 +107,12 @@ fn put_digits(row: &mut [u8], at: usize, value: &[u8]) -> Option<usize>
     Some(put(row, at, &digits))
 }
 
-/// Writes the line of an element; none where the row has no room for it, or where a binary element has not eight bytes.
+/// Writes the line of an element that isn't one of eight bytes; none where the row has no room for it.
 #[inline(always)]
 #[tactic(auto, unfolding(crate::specs::Printed::element_line))]
-fn put_element(row: &mut [u8], at: usize, number: u8, value: &[u8]) -> Option<usize>
-    requires { at ≤ length row.old }
+fn put_plain(row: &mut [u8], at: usize, number: u8, value: &[u8]) -> Option<usize>
+    requires at { at ≤ length row.old }
+    requires plain { is_binary (form_of number) ≡ false }
     ensures text { IfSome result (λ end. take end row.new ≡ take at row.old ++ element_line (number, value.now)) }
     ensures end { IfSome result (λ end. end ≤ length row.old) }
     ensures size { length row.new ≡ length row.old }
@@ -113,28 +121,75 @@ fn put_element(row: &mut [u8], at: usize, number: u8, value: &[u8]) -> Option<us
         return None;
     }
     let label = put_label(row, at, number);
-    let end = if is_binary(number) {
-        put_digits(row, label, value)?
-    } else {
-        put_bytes(row, label, value)
-    };
+    let end = put_bytes(row, label, value);
+    Some(put(row, end, b"\n"))
+}
+
+/// The same of an element of eight bytes; none too where there are others than eight.
+#[tactic(auto, unfolding(crate::specs::Printed::element_line))]
+fn put_binary(row: &mut [u8], at: usize, number: u8, value: &[u8]) -> Option<usize>
+    requires at { at ≤ length row.old }
+    requires binary { is_binary (form_of number) ≡ true }
+    ensures text { IfSome result (λ end. take end row.new ≡ take at row.old ++ element_line (number, value.now)) }
+    ensures end { IfSome result (λ end. end ≤ length row.old) }
+    ensures size { length row.new ≡ length row.old }
+{
+    if row.len() - at < OTHER_ROOM {
+        return None;
+    }
+    let label = put_label(row, at, number);
+    let end = put_digits(row, label, value)?;
     Some(put(row, end, b"\n"))
 }
 
 /// The room in a line for a label, a line feed, and sixteen digits in place of a value.
 const OTHER_ROOM: usize = 4 + 1 + 16;
 
-fn put_elements(row: &mut [u8], at: usize, message: &Message) -> Option<usize>
+/// Reads the element of a number, and writes its line; none where the row has no room for it.
+#[inline(always)]
+fn put_next(
+    row: &mut [u8],
+    at: usize,
+    number: u8,
+    unread: &mut Unread,
+) -> Result<Option<usize>, DecodeFault>
     requires { at ≤ length row.old }
-    ensures text { IfSome result (λ end. take end row.new ≡ take at row.old ++ element_lines message.now.elements) }
-    ensures end { IfSome result (λ end. end ≤ length row.old) }
+    ensures line { IfOk result (λ x. IfSome x (λ end. WritesElement number unread.old.bytes unread.new.bytes (take at row.old) (take end row.new))) }
+    ensures end { IfOk result (λ x. IfSome x (λ end. end ≤ length row.old)) }
+    ensures fault { IfErr result (λ fault. field_at (form_of number) number unread.old.bytes ≡ Err fault) }
+    ensures numbers { unread.new.numbers ≡ unread.old.numbers }
     ensures size { length row.new ≡ length row.old }
 {
-    let mut end = at;
-    for (number, value) in message.iter() {
-        end = put_element(row, end, number, value)?;
+    match unread.take_plain(number)? {
+        Some(value) => Ok(put_plain(row, at, number, value)),
+        None => {
+            let value = unread.take_binary(number)?;
+            Ok(put_binary(row, at, number, &value))
+        }
     }
-    Some(end)
+}
+
+/// Reads the elements that are left of a message, and writes their lines; none where the row has no room for them.
+#[inline(always)]
+fn put_left(row: &mut [u8], at: usize, unread: Unread) -> Result<Option<usize>, DecodeFault>
+    requires { at ≤ length row.old }
+    ensures lines { IfOk result (λ x. IfSome x (λ end. WritesLeft unread.entry (take at row.old) (take end row.new))) }
+    ensures end { IfOk result (λ x. IfSome x (λ end. end ≤ length row.old)) }
+    ensures fault { IfErr result (λ fault. (kind : Kind) → read_on kind [] unread.entry ≡ Err fault) }
+    ensures size { length row.new ≡ length row.old }
+{
+    let mut left = unread;
+    let mut end = at;
+    while let Some(number) = left.next_number() {
+        match put_next(row, end, number, &mut left)? {
+            None => return Ok(None),
+            Some(next) => end = next,
+        }
+    }
+    if !left.is_at_end() {
+        return Err(DecodeFault::Trailing);
+    }
+    Ok(Some(end))
 }
 
 /// Writes the line with a message's number at the front.
@@ -153,18 +208,21 @@ fn put_heading(row: &mut [u8], number: u64) -> usize
     put(row, at, b"\n")
 }
 
-/// Writes the lines of a message behind the line of its number; none where there is no room for them.
+/// Writes the lines of the message that the bytes are behind the line of its number; none where there is no room for them. After a
+/// fault anything may stand in the row.
 #[tactic(auto, unfolding(crate::specs::Printed::message_lines))]
 #[inline(always)]
-fn put_message(row: &mut [u8], number: u64, message: &Message) -> Option<usize>
+fn put_message(row: &mut [u8], number: u64, bytes: &[u8]) -> Result<Option<usize>, DecodeFault>
     requires { 59 ≤ length row.old }
-    ensures text { IfSome result (λ end. take end row.new ≡ heading number ++ message_lines message.now) }
-    ensures end { IfSome result (λ end. end ≤ length row.old) }
+    ensures lines { IfOk result (λ x. IfSome x (λ end. WritesMessage number bytes.now (take end row.new))) }
+    ensures end { IfOk result (λ x. IfSome x (λ end. end ≤ length row.old)) }
+    ensures fault { IfErr result (λ fault. read bytes.now ≡ Err fault) }
     ensures size { length row.new ≡ length row.old }
 {
+    let (kind, unread) = Unread::of(bytes)?;
     let at = put_heading(row, number);
-    let at = put(row, at, kind_line(message.kind()));
-    put_elements(row, at, message)
+    let at = put(row, at, kind_line(kind));
+    put_left(row, at, unread)
 }
 
 /// Writes the line of a fault that names an element, of which these are the words before its number.
@@ -202,22 +260,17 @@ fn put_fault(row: &mut [u8], at: usize, fault: DecodeFault) -> usize
 }
 
 /// Writes the lines of the message that the bytes are, or of its fault, in the front of a row. Returns where they end, and whether there
-/// is no fault; none where the row has no room for them. The message is read in the memory of an older one.
-fn put_block(
-    row: &mut [u8],
-    message: &mut Message,
-    number: u64,
-    bytes: &[u8],
-) -> Option<(usize, bool)>
+/// is no fault; none where the row has no room for them.
+fn put_block(row: &mut [u8], number: u64, bytes: &[u8]) -> Option<(usize, bool)>
     ensures block { IfSome result (λ r. PrintsBlock number (Some bytes.now) [] (take r.0 row.new) r.1) }
     ensures end { IfSome result (λ r. r.0 ≤ length row.new) }
 {
     if row.len() < FRONT_ROOM {
         return None;
     }
-    match message.read_again(bytes) {
-        Ok(()) => {
-            let end = put_message(row, number, message)?;
+    match put_message(row, number, bytes) {
+        Ok(written) => {
+            let end = written?;
             Some((end, true))
         }
         Err(fault) => {
@@ -228,17 +281,12 @@ fn put_block(
 }
 
 /// The same of an item; none too where it is a frame that is cut, which is the last.
-pub(crate) fn put_item(
-    row: &mut [u8],
-    message: &mut Message,
-    number: u64,
-    item: Option<&[u8]>,
-) -> Option<(usize, bool)>
+pub(crate) fn put_item(row: &mut [u8], number: u64, item: Option<&[u8]>) -> Option<(usize, bool)>
     ensures block { IfSome result (λ r. PrintsBlock number (option_copied item.entry) [] (take r.0 row.new) r.1) }
     ensures end { IfSome result (λ r. r.0 ≤ length row.new) }
 {
     match item {
-        Some(bytes) => put_block(row, message, number, bytes),
+        Some(bytes) => put_block(row, number, bytes),
         None => None,
     }
 }

@@ -20,12 +20,12 @@ pub const MOST_WAITING: usize = 65_536;
 /// So many bytes has the row in which a block is printed: more than the block of any message that the table of elements allows.
 const ROW: usize = 16_384;
 
-/// What waits to be written, and the memory in which a message is read and printed.
+/// What waits to be written, and the memory in which a message is printed.
 #[derive(Drop)]
 pub(crate) struct Buffers {
     pub waiting: Vec<u8>,
     row: [u8; ROW],
-    /// For a block that the row has no room for.
+    /// For a block that the row has no room for, and its message.
     text: Vec<u8>,
     message: Message,
 }
@@ -54,7 +54,7 @@ impl Buffers {
         ensures err { OnErr result (SendsFront number (option_copied item.entry) (W.written writer.old) (W.written writer.new) self.old.waiting.items) }
         ensures failed { OnErr result (0 < W.failures writer.new) }
     {
-        let Some((end, good)) = put_item(&mut self.row, &mut self.message, number, item) else {
+        let Some((end, good)) = put_item(&mut self.row, number, item) else {
             return self.add_longer(writer, number, item);
         };
         add_text(writer, &mut self.waiting, &self.row[..end])?;
