@@ -27,7 +27,7 @@ use std::alloc::Global;
 
 #[tactic(auto, unfolding(crate::specs::Elements::content_at))]
 #[inline(always)]
-pub(crate) fn content_of<'a>(
+fn content_of<'a>(
     class: Class,
     size: usize,
     number: u8,
@@ -50,7 +50,7 @@ pub(crate) fn content_of<'a>(
 
 #[tactic(auto, unfolding(crate::specs::Elements::length_at))]
 #[inline(always)]
-fn length_of<'a>(
+pub(crate) fn length_of<'a>(
     width: usize,
     most: usize,
     number: u8,
@@ -78,7 +78,7 @@ fn length_of<'a>(
 
 #[tactic(auto, unfolding(crate::specs::Elements::counted_at))]
 #[inline(always)]
-pub(crate) fn counted_of<'a>(
+fn counted_of<'a>(
     width: usize,
     class: Class,
     most: usize,

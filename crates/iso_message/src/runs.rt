@@ -113,7 +113,7 @@ fn run_from(class: Class, bytes: &[u8], from: usize) -> usize
 }
 
 impl Known {
-    ghost use Rattle.std.specs.Prelude.{◌≡◌, ◌≤◌, ◌-◌, length, take};
+    ghost use Rattle.std.specs.Prelude.{◌≡◌, ◌≤◌, ◌-◌, length, take, is_some, IfSome};
     ghost use Rattle.std.specs.List.{list_all};
     ghost use Rattle.message_elements.specs.Values.{fits, AreOf};
     ghost use Rattle.iso_message.specs.Known.{IsKnown};
@@ -161,6 +161,40 @@ impl Known {
         let after = bytes.len() - size;
         let left = self.left(class, after, bytes);
         left <= after || are_of(class, &bytes[..size])
+    }
+
+    /// What is known where so many bytes from the first on are of the class, none where they aren't.
+    #[inline(always)]
+    pub(crate) fn with_front(self, class: Class, size: usize, bytes: &[u8]) -> Option<Known>
+        requires size { size ≤ length bytes.now }
+        requires known { IsKnown self bytes.now }
+        ensures value { is_some result ≡ list_all (fits class) (take size bytes.now) }
+        ensures known { IfSome result (λ k. IsKnown k bytes.now) }
+    {
+        let left = match class {
+            Class::Digits => self.digits,
+            Class::Text => self.text,
+        };
+        if left <= bytes.len() - size {
+            return Some(self);
+        }
+        self.looked_at(class, size, bytes)
+    }
+
+    /// The same, where the bytes are looked at.
+    #[inline(never)]
+    fn looked_at(self, class: Class, size: usize, bytes: &[u8]) -> Option<Known>
+        requires size { size ≤ length bytes.now }
+        requires known { IsKnown self bytes.now }
+        ensures value { is_some result ≡ list_all (fits class) (take size bytes.now) }
+        ensures known { IfSome result (λ k. IsKnown k bytes.now) }
+    {
+        let mut known = self;
+        if known.is_front(class, size, bytes) {
+            Some(known)
+        } else {
+            None
+        }
     }
 
     /// Whether so few bytes from the first on are digits. They are looked at one by one where it isn't known.

@@ -1,15 +1,15 @@
 //! A message that is read element by element, and isn't kept.
-ghost use Rattle.std.specs.Prelude.{◌≡◌, ◌<◌, ◌≤◌, ◌==◌, true, false, [], ◌∷◌, length, MatchOption, MatchResult, IfOk, IfSome, Ok, Err};
+ghost use Rattle.std.specs.Prelude.{◌≡◌, ◌<◌, ◌≤◌, ◌==◌, true, false, [], ◌∷◌, length, take, drop, MatchOption, MatchResult, IfOk, IfSome, Ok, Err};
 ghost use Rattle.message_elements.specs.Table.{form_of};
-ghost use Rattle.iso_message.specs.Elements.{field_at};
+ghost use Rattle.iso_message.specs.Elements.{content_at, field_at};
 ghost use Rattle.iso_message.specs.Known.{IsKnown};
 ghost use Rattle.iso_message.specs.Messages.{marks, read};
 ghost use Rattle.iso_message.specs.Spelling.{is_binary};
 ghost use Rattle.iso_message.specs.Unread.{read_on};
 
-use crate::reading::{binary_of, bit_map, content_of, counted_of, read_kind, second_map};
+use crate::reading::{binary_of, bit_map, length_of, read_kind, second_map};
 use crate::runs::Known;
-use message_elements::{DecodeFault, Form, Kind, form_at};
+use message_elements::{Class, DecodeFault, Form, Kind, form_at};
 use std::marker::Model;
 
 /// What of a message is still to be read: the elements of its maps' bits.
@@ -47,33 +47,55 @@ fn take_mark(map: &mut u64, last: u8) -> u8
     last - place as u8
 }
 
-/// The bytes of an element that isn't one of eight bytes, and what stands behind it; none for one of eight bytes.
+/// The class and the length of an element's value, and the bytes from the value on; none for an element of eight bytes.
 #[inline(always)]
-fn plain_of<'a>(
+#[tactic(auto, unfolding(crate::specs::Elements::counted_at))]
+fn head_of<'a>(
     number: u8,
     bytes: &'a [u8],
-    known: &mut Known,
-) -> Result<Option<(&'a [u8], &'a [u8])>, DecodeFault>
-    requires { IsKnown known.old bytes.now }
-    ensures value { MatchResult result (λ x. MatchOption x (is_binary (form_of number) ≡ true) (λ y. field_at (form_of number) number bytes.now ≡ Ok (y.0.now, y.1.now))) (λ fault. field_at (form_of number) number bytes.now ≡ Err fault) }
+    known: &Known,
+) -> Result<Option<(Class, usize, &'a [u8])>, DecodeFault>
+    requires { IsKnown known.now bytes.now }
+    ensures value { MatchResult result (λ x. MatchOption x (is_binary (form_of number) ≡ true) (λ y. field_at (form_of number) number bytes.now ≡ content_at y.0 y.1 number y.2.now)) (λ fault. field_at (form_of number) number bytes.now ≡ Err fault) }
     ensures other { IfOk result (λ x. IfSome x (λ _. is_binary (form_of number) ≡ false)) }
-    ensures known { IfOk result (λ x. IfSome x (λ y. IsKnown known.new y.1.now)) }
+    ensures known { IfOk result (λ x. IfSome x (λ y. IsKnown known.now y.2.now)) }
 {
     match form_at(number) {
         None => Err(DecodeFault::Element(number)),
-        Some(Form::Fixed(class, size)) => {
-            let found = content_of(class, size, number, bytes, known)?;
-            Ok(Some(found))
-        }
+        Some(Form::Fixed(class, size)) => Ok(Some((class, size, bytes))),
         Some(Form::Llvar(class, most)) => {
-            let found = counted_of(2, class, most, number, bytes, known)?;
-            Ok(Some(found))
+            let (len, rest) = length_of(2, most, number, bytes, known)?;
+            Ok(Some((class, len, rest)))
         }
         Some(Form::Lllvar(class, most)) => {
-            let found = counted_of(3, class, most, number, bytes, known)?;
-            Ok(Some(found))
+            let (len, rest) = length_of(3, most, number, bytes, known)?;
+            Ok(Some((class, len, rest)))
         }
         Some(Form::Binary) => Ok(None),
+    }
+}
+
+/// What is known where the value that bytes begin with is of its class, of which it has so many bytes.
+#[inline(always)]
+#[tactic(auto, unfolding(crate::specs::Elements::content_at))]
+fn front_of(
+    class: Class,
+    size: usize,
+    number: u8,
+    bytes: &[u8],
+    known: Known,
+) -> Result<Known, DecodeFault>
+    requires { IsKnown known bytes.now }
+    ensures value { MatchResult result (λ _. content_at class size number bytes.now ≡ Ok (take size bytes.now, drop size bytes.now)) (λ fault. content_at class size number bytes.now ≡ Err fault) }
+    ensures size { IfOk result (λ _. size ≤ length bytes.now) }
+    ensures known { IfOk result (λ k. IsKnown k bytes.now) }
+{
+    if bytes.len() < size {
+        return Err(DecodeFault::Short);
+    }
+    match known.with_front(class, size, bytes) {
+        Some(more) => Ok(more),
+        None => Err(DecodeFault::Character(number)),
     }
 }
 
@@ -111,20 +133,22 @@ impl<'a> Unread<'a> {
         None
     }
 
-    /// Takes the bytes of the element of this number; none where it is one of eight bytes, which isn't taken.
+    /// Takes the bytes of the element of this number: all from its first on, and how many of them are its own. None where it is one of
+    /// eight bytes, which isn't taken.
     #[inline(always)]
-    pub fn take_plain(&mut self, number: u8) -> Result<Option<&'a [u8]>, DecodeFault>
-        ensures value { MatchResult result (λ x. MatchOption x (self.new.bytes ≡ self.old.bytes) (λ value. field_at (form_of number) number self.old.bytes ≡ Ok (value.now, self.new.bytes))) (λ fault. field_at (form_of number) number self.old.bytes ≡ Err fault) }
+    pub fn take_plain(&mut self, number: u8) -> Result<Option<(&'a [u8], usize)>, DecodeFault>
+        ensures value { MatchResult result (λ x. MatchOption x (self.new.bytes ≡ self.old.bytes) (λ y. field_at (form_of number) number self.old.bytes ≡ Ok (take y.1 y.0.now, self.new.bytes))) (λ fault. field_at (form_of number) number self.old.bytes ≡ Err fault) }
+        ensures size { IfOk result (λ x. IfSome x (λ y. y.1 ≤ length y.0.now)) }
         ensures variant { IfOk result (λ x. MatchOption x (is_binary (form_of number) ≡ true) (λ _. is_binary (form_of number) ≡ false)) }
         ensures numbers { self.new.numbers ≡ self.old.numbers }
     {
-        let mut known = self.known;
-        match plain_of(number, self.bytes, &mut known)? {
+        match head_of(number, self.bytes, &self.known)? {
             None => Ok(None),
-            Some((value, rest)) => {
+            Some((class, size, front)) => {
+                self.known = front_of(class, size, number, front, self.known)?;
+                let (_, rest) = front.split_at(size);
                 self.bytes = rest;
-                self.known = known;
-                Ok(Some(value))
+                Ok(Some((front, size)))
             }
         }
     }

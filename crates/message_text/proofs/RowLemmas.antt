@@ -2,6 +2,7 @@
 use Rattle.std.proofs.Common.{◌≡◌, ℕ, ◌+◌, ◌≤◌, List, Option, Some, ◌++◌, length, take, drop, sym, ap, subst, ◌∙◌, append_assoc, length-append, arith}
 use Rattle.std.specs.Prelude.{IfSome}
 use Rattle.std.proofs.lemmas.List.{take-append-drop, take-take, take_at, length-take-le}
+use Rattle.std.proofs.Math.Seq.{take-append-add}
 
 -- the first n bytes and the last n bytes, which may overlap, are all of them
 pub two_words : (old mid new bytes first last : List ℕ) (at r m end n k : ℕ) → take r mid ≡ take at old ++ first → r ≡ at + n → first ≡ take n bytes → n ≤ length bytes
@@ -20,3 +21,11 @@ two_words old mid new bytes first last at r m end n k front r_is first_is enough
 -- what is said of the value in an option that has one
 pub of_some : {A : Type 0} {x : Option A} {a : A} (P : A → Type 0) → x ≡ Some a → IfSome x P → P a
 of_some P e h = subst (λ y. IfSome y P) e h
+
+-- more bytes were written than are meant
+pub less_written : (old new bytes : List ℕ) (at n size : ℕ) → take (at + n) new ≡ take at old ++ take n bytes → size ≤ n → at ≤ length old → take (at + size) new ≡ take at old ++ take size bytes
+less_written old new bytes at n size written few within =
+    let before = take at old in
+    let long : length before ≡ at = length-take-le at old within in
+    let split : take (at + size) (before ++ take n bytes) ≡ before ++ take size (take n bytes) = ap (λ k. take (k + size) (before ++ take n bytes)) (sym long) ∙ take-append-add before (take n bytes) size in
+    sym (take-take (at + size) (at + n) new (omega (arith, few))) ∙ ap (take (at + size)) written ∙ split ∙ ap (λ z. before ++ z) (take-take size n bytes few)

@@ -107,25 +107,59 @@ fn put_digits(row: &mut [u8], at: usize, value: &[u8]) -> Option<usize>
     Some(put(row, at, &digits))
 }
 
-/// Writes the line of an element that isn't one of eight bytes; none where the row has no room for it.
+/// Writes the first of some bytes as `put` does. Where they are few, sixteen are written, where there are as many.
+#[inline(always)]
+fn put_front(row: &mut [u8], at: usize, front: &[u8], size: usize) -> usize
+    requires size { size ≤ length front.now }
+    requires few { at + size ≤ length row.old }
+    requires room { at + 16 ≤ length row.old }
+    ensures text { take result row.new ≡ take at row.old ++ take size front.now }
+    ensures end { result ≡ at + size }
+    ensures size { length row.new ≡ length row.old }
+{
+    if size <= 16 {
+        if let Some(word) = front.first_chunk::<16>() {
+            let word = *word;
+            let _behind = put(row, at, &word);
+            return at + size;
+        }
+    }
+    put_longer(row, at, &front[..size])
+}
+
+/// Writes bytes as `put_bytes` does.
+#[inline(never)]
+fn put_longer(row: &mut [u8], at: usize, bytes: &[u8]) -> usize
+    requires { at + length bytes.now ≤ length row.old }
+    ensures text { take result row.new ≡ take at row.old ++ bytes.now }
+    ensures end { result ≡ at + length bytes.now }
+    ensures size { length row.new ≡ length row.old }
+{
+    put_bytes(row, at, bytes)
+}
+
+/// Writes the line of an element that isn't one of eight bytes, of which the first of some bytes are the value; none where the row has
+/// no room for it.
 #[inline(always)]
 #[tactic(auto, unfolding(crate::specs::Printed::element_line))]
-fn put_plain(row: &mut [u8], at: usize, number: u8, value: &[u8]) -> Option<usize>
+fn put_plain(row: &mut [u8], at: usize, number: u8, front: &[u8], size: usize) -> Option<usize>
     requires at { at ≤ length row.old }
+    requires size { size ≤ length front.now }
     requires plain { is_binary (form_of number) ≡ false }
-    ensures text { IfSome result (λ end. take end row.new ≡ take at row.old ++ element_line (number, value.now)) }
+    ensures text { IfSome result (λ end. take end row.new ≡ take at row.old ++ element_line (number, take size front.now)) }
     ensures end { IfSome result (λ end. end ≤ length row.old) }
     ensures size { length row.new ≡ length row.old }
 {
-    if row.len() - at < value.len() + OTHER_ROOM {
+    if row.len() - at < size + OTHER_ROOM {
         return None;
     }
     let label = put_label(row, at, number);
-    let end = put_bytes(row, label, value);
+    let end = put_front(row, label, front, size);
     Some(put(row, end, b"\n"))
 }
 
 /// The same of an element of eight bytes; none too where there are others than eight.
+#[inline(never)]
 #[tactic(auto, unfolding(crate::specs::Printed::element_line))]
 fn put_binary(row: &mut [u8], at: usize, number: u8, value: &[u8]) -> Option<usize>
     requires at { at ≤ length row.old }
@@ -161,7 +195,7 @@ fn put_next(
     ensures size { length row.new ≡ length row.old }
 {
     match unread.take_plain(number)? {
-        Some(value) => Ok(put_plain(row, at, number, value)),
+        Some((front, size)) => Ok(put_plain(row, at, number, front, size)),
         None => {
             let value = unread.take_binary(number)?;
             Ok(put_binary(row, at, number, &value))
@@ -170,7 +204,7 @@ fn put_next(
 }
 
 /// Reads the elements that are left of a message, and writes their lines; none where the row has no room for them.
-#[inline(always)]
+#[inline(never)]
 fn put_left(row: &mut [u8], at: usize, unread: Unread) -> Result<Option<usize>, DecodeFault>
     requires { at ≤ length row.old }
     ensures lines { IfOk result (λ x. IfSome x (λ end. WritesLeft unread.entry (take at row.old) (take end row.new))) }
