@@ -178,20 +178,24 @@ impl Known {
         if left <= bytes.len() - size {
             return Some(self);
         }
-        self.looked_at(class, size, bytes)
+        let digits = self.looked_at(class, size, bytes)?;
+        Some(Known {
+            digits,
+            text: self.text,
+        })
     }
 
-    /// The same, where the bytes are looked at.
+    /// How many of the last bytes may be no digits, where so many from the first on are of the class, which are looked at.
     #[inline(never)]
-    fn looked_at(self, class: Class, size: usize, bytes: &[u8]) -> Option<Known>
+    fn looked_at(self, class: Class, size: usize, bytes: &[u8]) -> Option<usize>
         requires size { size ≤ length bytes.now }
         requires known { IsKnown self bytes.now }
         ensures value { is_some result ≡ list_all (fits class) (take size bytes.now) }
-        ensures known { IfSome result (λ k. IsKnown k bytes.now) }
+        ensures known { IfSome result (λ digits. AreOf Digits (take (length bytes.now - digits) bytes.now)) }
     {
         let mut known = self;
         if known.is_front(class, size, bytes) {
-            Some(known)
+            Some(known.digits)
         } else {
             None
         }

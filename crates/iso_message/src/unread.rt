@@ -1,5 +1,5 @@
 //! A message that is read element by element, and isn't kept.
-ghost use Rattle.std.specs.Prelude.{◌≡◌, ◌<◌, ◌≤◌, ◌==◌, true, false, [], ◌∷◌, length, take, drop, MatchOption, MatchResult, IfOk, IfSome, Ok, Err};
+ghost use Rattle.std.specs.Prelude.{◌≡◌, ◌<◌, ◌≤◌, ◌==◌, true, false, [], ◌∷◌, length, take, drop, MatchOption, MatchResult, IfOk, IfSome, OnErr, Ok, Err};
 ghost use Rattle.message_elements.specs.Table.{form_of};
 ghost use Rattle.iso_message.specs.Elements.{content_at, field_at};
 ghost use Rattle.iso_message.specs.Known.{IsKnown};
@@ -134,13 +134,14 @@ impl<'a> Unread<'a> {
     }
 
     /// Takes the bytes of the element of this number: all from its first on, and how many of them are its own. None where it is one of
-    /// eight bytes, which isn't taken.
+    /// eight bytes, which isn't taken. Nothing is taken where it has a fault.
     #[inline(always)]
     pub fn take_plain(&mut self, number: u8) -> Result<Option<(&'a [u8], usize)>, DecodeFault>
         ensures value { MatchResult result (λ x. MatchOption x (self.new.bytes ≡ self.old.bytes) (λ y. field_at (form_of number) number self.old.bytes ≡ Ok (take y.1 y.0.now, self.new.bytes))) (λ fault. field_at (form_of number) number self.old.bytes ≡ Err fault) }
         ensures size { IfOk result (λ x. IfSome x (λ y. y.1 ≤ length y.0.now)) }
         ensures variant { IfOk result (λ x. MatchOption x (is_binary (form_of number) ≡ true) (λ _. is_binary (form_of number) ≡ false)) }
         ensures numbers { self.new.numbers ≡ self.old.numbers }
+        ensures err { OnErr result (self.new.bytes ≡ self.old.bytes) }
     {
         match head_of(number, self.bytes, &self.known)? {
             None => Ok(None),
@@ -153,12 +154,13 @@ impl<'a> Unread<'a> {
         }
     }
 
-    /// Takes the eight bytes of the element of this number.
+    /// Takes the eight bytes of the element of this number, nothing where it has a fault.
     #[inline(always)]
     pub fn take_binary(&mut self, number: u8) -> Result<[u8; 8], DecodeFault>
         requires { is_binary (form_of number) ≡ true }
         ensures value { MatchResult result (λ value. field_at (form_of number) number self.old.bytes ≡ Ok (value, self.new.bytes)) (λ fault. field_at (form_of number) number self.old.bytes ≡ Err fault) }
         ensures numbers { self.new.numbers ≡ self.old.numbers }
+        ensures err { OnErr result (self.new.bytes ≡ self.old.bytes) }
     {
         let (value, rest) = binary_of(number, self.bytes)?;
         self.bytes = rest;

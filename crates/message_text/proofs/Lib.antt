@@ -4,3 +4,4 @@ pub mod WrittenLemmas
 pub mod LabelLemmas
 pub mod RowLemmas
 pub mod DigitLemmas
+pub mod LabelTable

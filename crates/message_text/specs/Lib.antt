@@ -1,3 +1,4 @@
 pub mod Printed
 pub mod Parts
 pub mod Lines
+pub mod Labels

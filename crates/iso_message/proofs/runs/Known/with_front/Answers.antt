@@ -1,4 +1,4 @@
-use Rattle.std.proofs.Common.{◌≡◌, ◌≤◌, ◌-◌, length, sym, arith}
+use Rattle.std.proofs.Common.{sym, arith}
 use Rattle.message_elements.specs.declared.form.Class.TheVariants.{Digits, Text}
 use Rattle.iso_message.proofs.KnownLemmas.{front_known}
 use Rattle.iso_message.proofs.runs.Known.with_front.Goals as goal
