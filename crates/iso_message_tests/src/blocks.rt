@@ -73,6 +73,32 @@ fn frames(rt: HostRuntime) -> Result<(), Fail> {
     Ok(())
 }
 
+/// The lengths of values at which they are written otherwise, and values of them.
+const LENGTHS: [(&str, &str); 7] = [
+    ("00", ""),
+    ("01", "1"),
+    ("15", "123456789012345"),
+    ("16", "1234567890123456"),
+    ("17", "12345678901234567"),
+    ("32", "12345678901234567890123456789012"),
+    ("33", "123456789012345678901234567890123"),
+];
+
+/// Each value stands last in a message, and before others of 15 and of 2 bytes.
+#[test]
+fn lengths_of_values(rt: HostRuntime) -> Result<(), Fail> {
+    let alloc = rt.alloc();
+    for (len, value) in LENGTHS {
+        let input = format!(in alloc; "01000000000020000000{len}{value}\n")?;
+        let text = format!(in alloc; "message 1\ntype 0100\n35 {value}\n")?;
+        assert!(rt; answers(&rt, &input, &text, true)?);
+        let more = format!(in alloc; "01000000000022400000{len}{value}68MERCHANT0000001")?;
+        let text = format!(in alloc; "{text}39 68\n42 MERCHANT0000001\n")?;
+        assert!(rt; answers(&rt, &more, &text, true)?);
+    }
+    Ok(())
+}
+
 /// Each line is a message that has a fault, and the words of the fault.
 const FAULTS: &str = "\
 02000000000000000000 2 type
