@@ -2,6 +2,7 @@ mod Again
 mod Behind
 mod Cuts
 mod Growing
+mod Lines
 pub mod LineFields
 mod Pairs
 pub mod Ranked

@@ -5,6 +5,7 @@ mod cert;
 mod fault;
 mod kept;
 mod marks;
+mod page;
 mod read;
 mod row;
 mod runs;

@@ -1,13 +1,12 @@
 //! The text of a certificate.
-ghost use Rattle.std.specs.Prelude.{◌≡◌, ◌+◌, ◌<◌, ◌≤◌, [], ◌∷◌, ◌++◌, length, IfOk, OnOk, Ok, All};
-ghost use Rattle.std.specs.Vec.{vec_len, vec_capacity};
-ghost use Rattle.card_digits.specs.Digits.{IsPrefix};
+ghost use Rattle.std.specs.Prelude.{◌≡◌, ◌+◌, ◌≤◌, [], ◌∷◌, ◌++◌, length, take, IfOk, OnOk, Ok, All};
+ghost use Rattle.std.specs.Fmt.{decimal};
 ghost use Rattle.rank_cert.specs.Ranks.{IsRow};
 ghost use Rattle.rank_cert.specs.Reading.{cert_in};
-ghost use Rattle.rank_cert.specs.Writing.{digits_text, line_of, lines_of, text_of};
+ghost use Rattle.rank_cert.specs.Writing.{line_of, lines_of, text_of};
 
 use crate::cert::{Cert, Rank};
-use card_digits::Prefix;
+use crate::page::{put, put_digits, put_few};
 use itoa::Buffer;
 use std::alloc::{AllocError, Global};
 
@@ -25,73 +24,61 @@ pub fn write_cert(alloc: Global, cert: &Cert) -> Result<Vec<u8>, AllocError>
     Ok(text)
 }
 
+/// As many bytes as are put together before they are added to the text.
+const PAGE: usize = 4096;
+
+/// The most bytes of a line: eight of a name, twelve of a prefix, five of a rank, two spaces and the line feed.
+const LINE: usize = 28;
+
+/// Adds the lines of rows, page by page.
 fn write_rows(rows: &[Rank], text: &mut Vec<u8>) -> Result<(), AllocError>
     requires { All IsRow rows.now }
     ensures { OnOk result (text.new.items ≡ text.old.items ++ lines_of rows.now) }
 {
+    let mut page = [0u8; PAGE];
+    let mut end = 0;
     for row in rows {
-        write_row(row, text)?;
+        if end > PAGE - LINE {
+            text.extend_from_slice(&page[..end])?;
+            end = 0;
+        }
+        end = put_line(&mut page, end, row);
     }
-    Ok(())
+    text.extend_from_slice(&page[..end])
 }
 
-/// The most bytes of a line behind its name: twelve of a prefix, five of a rank, two spaces and the line feed.
-const BEHIND_NAME: usize = 20;
-
-/// A row's line. It is short, so room is made for all of it, and its bytes are put there one by one.
-fn write_row(row: &Rank, text: &mut Vec<u8>) -> Result<(), AllocError>
-    requires { IsRow row.now }
-    ensures { OnOk result (text.new.items ≡ text.old.items ++ (line_of row.now ++ 10 ∷ [])) }
+/// Puts a row's line, and returns the place behind it.
+#[inline(always)]
+fn put_line(page: &mut [u8], at: usize, row: &Rank) -> usize
+    requires good { IsRow row.now }
+    requires room { at + 28 ≤ length page.old }
+    ensures text { take result page.new ≡ take at page.old ++ (line_of row.now ++ 10 ∷ []) }
+    ensures end { result ≤ at + 28 }
+    ensures size { length page.new ≡ length page.old }
 {
-    let name = row.node.as_slice();
-    text.reserve(name.len() + BEHIND_NAME)?;
-    put_bytes(name, text);
-    text.push_reserved(b' ');
-    put_digits(&row.prefix, text);
-    text.push_reserved(b' ');
-    write_number(row.rank, text)?;
-    text.push(b'\n')?;
-    Ok(())
+    let at = put_few(page, at, row.node.as_slice());
+    let at = put(page, at, b" ");
+    let at = put_digits(page, at, row.prefix.digits());
+    let at = put(page, at, b" ");
+    put_rank(page, at, row.rank)
 }
 
-#[inline]
-fn put_bytes(bytes: &[u8], text: &mut Vec<u8>)
-    requires { vec_len text.old + length bytes.now ≤ vec_capacity text.old }
-    ensures items { text.new.items ≡ text.old.items ++ bytes.now }
-    ensures len { vec_len text.new ≡ vec_len text.old + length bytes.now }
-    ensures capacity { vec_capacity text.new ≡ vec_capacity text.old }
+/// Puts the digits of a rank and a line feed. Most ranks have one digit or two.
+#[inline(always)]
+fn put_rank(page: &mut [u8], at: usize, rank: u16) -> usize
+    requires { at + 6 ≤ length page.old }
+    ensures text { take result page.new ≡ take at page.old ++ (decimal rank ++ 10 ∷ []) }
+    ensures end { result ≤ at + 6 }
+    ensures size { length page.new ≡ length page.old }
 {
-    for byte in bytes {
-        text.push_reserved(*byte);
+    if rank < 10 {
+        return put(page, at, &[b'0' + rank as u8, b'\n']);
     }
-}
-
-#[inline]
-fn put_digits(prefix: &Prefix, text: &mut Vec<u8>)
-    requires form { IsPrefix prefix.now }
-    requires room { vec_len text.old + length prefix.now ≤ vec_capacity text.old }
-    ensures items { text.new.items ≡ text.old.items ++ digits_text prefix.now }
-    ensures len { vec_len text.new ≡ vec_len text.old + length prefix.now }
-    ensures capacity { vec_capacity text.new ≡ vec_capacity text.old }
-{
-    for digit in prefix.digits() {
-        text.push_reserved(*digit + b'0');
+    if rank < 100 {
+        let (tens, ones) = (rank / 10, rank % 10);
+        return put(page, at, &[b'0' + tens as u8, b'0' + ones as u8, b'\n']);
     }
+    let mut digits = Buffer::new();
+    let at = put_few(page, at, digits.format(rank).as_bytes());
+    put(page, at, b"\n")
 }
-
-/// The number in decimal digits. Most ranks have one.
-#[tactic(auto, using(std::proofs::lemmas::Fmt::decimal_digit))]
-fn write_number(number: u16, text: &mut Vec<u8>) -> Result<(), AllocError>
-    requires { vec_len text.old < vec_capacity text.old }
-    ensures { OnOk result (text.new.items ≡ text.old.items ++ decimal number) }
-{
-    if number < 10 {
-        text.push_reserved(b'0' + number as u8);
-        return Ok(());
-    }
-    let mut buffer = Buffer::new();
-    text.extend_from_slice(buffer.format(number).as_bytes())?;
-    Ok(())
-}
-
-ghost use Rattle.std.specs.Fmt.{decimal};
