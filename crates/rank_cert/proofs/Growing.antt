@@ -40,14 +40,14 @@ each-other rows r prefix other (Some place) run = record {
 digits_alike : IsEquivalence (pointwise ◌==◌)
 digits_alike = search (comparing, rules)
 
-same_digits : (p : List ℕ) → pointwise ◌==◌ p p ≡ true
+pub same_digits : (p : List ℕ) → pointwise ◌==◌ p p ≡ true
 same_digits p = digits_alike.refl p
 
 or_same : (b : Bool) (x : ℕ) (o p : Option ℕ) → cond b (Some x) (option_or o p) ≡ option_or (cond b (Some x) o) p
 or_same true x o p = refl
 or_same false x o p = refl
 
-rank-push : (rows : List Rank) (r : Rank) (name prefix : List ℕ) → rank_of (rows ++ r ∷ []) name prefix ≡ option_or (rank_of rows name prefix) (rank_of (r ∷ []) name prefix)
+pub rank-push : (rows : List Rank) (r : Rank) (name prefix : List ℕ) → rank_of (rows ++ r ∷ []) name prefix ≡ option_or (rank_of rows name prefix) (rank_of (r ∷ []) name prefix)
 rank-push [] r name prefix = refl
 rank-push (s ∷ rows) r name prefix = ap (cond (is_of s name prefix) (Some s.rank)) (rank-push rows r name prefix) ∙ or_same (is_of s name prefix) s.rank (rank_of rows name prefix) (rank_of (r ∷ []) name prefix)
 
@@ -85,7 +85,7 @@ pub digits_are : (p q : List ℕ) → pointwise ◌==◌ p q ≡ true → p ≡ 
 digits_are p q is = same_text p q (sym is)
 
 -- the run of the last row's prefix
-last_run : (rows : List Rank) (begins : List (List ℕ × ℕ)) (last : ℕ) (prefix : List ℕ) → AreRuns rows begins last → begins_with (drop last rows) prefix ≡ true → IsRun rows prefix last
+pub last_run : (rows : List Rank) (begins : List (List ℕ × ℕ)) (last : ℕ) (prefix : List ℕ) → AreRuns rows begins last → begins_with (drop last rows) prefix ≡ true → IsRun rows prefix last
 last_run rows begins last prefix runs is = rw (runs.last_begins prefix is) at (runs.each prefix)
 
 -- the pair of a row of that prefix is there where the run has its name
@@ -93,7 +93,7 @@ pub last_known : (rows : List Rank) (begins : List (List ℕ × ℕ)) (last : �
 last_known rows begins last r runs is =
     ap is_some ((last_run rows begins last r.prefix runs is).ranks r.node) ∙ run_known (drop last rows) r.node r.prefix (runs.last_goes_on r.prefix is)
 
-begins-push : (rows : List Rank) (r : Rank) (p prefix : List ℕ) → begins_with rows p ≡ true → begins_with (rows ++ r ∷ []) prefix ≡ begins_with rows prefix
+pub begins-push : (rows : List Rank) (r : Rank) (p prefix : List ℕ) → begins_with rows p ≡ true → begins_with (rows ++ r ∷ []) prefix ≡ begins_with rows prefix
 begins-push [] r p prefix is = absurd cc
 begins-push (s ∷ rows) r p prefix is = refl
 

@@ -6,5 +6,6 @@ mod Lines
 pub mod LineFields
 mod Pairs
 pub mod Ranked
+mod Repeated
 pub mod Together
 mod Marked

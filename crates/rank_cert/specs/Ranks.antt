@@ -37,6 +37,12 @@ AddsRows done (r ∷ rs) = IsRow r × (rank_of done r.node r.prefix ≡ None) ×
 abbrev pub IsCert : List Rank → Type 0
 IsCert rows = AddsRows [] rows
 
+-- a row of a prefix for each of these, with its name and the next of some ranks
+abbrev pub like_rows : List Rank → List ℕ → List ℕ → List Rank
+like_rows [] prefix ranks = []
+like_rows (r ∷ rs) prefix [] = []
+like_rows (r ∷ rs) prefix (k ∷ ks) = record { node = r.node; prefix = prefix; rank = k } ∷ like_rows rs prefix ks
+
 -- the last row has the prefix
 pub record EndsWith (prefix : List ℕ) (rows : List Rank) : Type 0 where
   pub front : List Rank

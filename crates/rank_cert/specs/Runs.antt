@@ -43,3 +43,9 @@ pub record AreRuns (rows : List Rank) (begins : List (List ℕ × ℕ)) (last : 
   pub each : (prefix : List ℕ) → MatchOption (begin_of begins prefix) (HasNone rows prefix) (IsRun rows prefix)
   pub last_begins : (prefix : List ℕ) → begins_with (drop last rows) prefix ≡ true → begin_of begins prefix ≡ Some last
   pub last_goes_on : (prefix : List ℕ) → begins_with (drop last rows) prefix ≡ true → AreOf (drop last rows) prefix
+
+-- the rows from a place on have one prefix, and none has the other
+pub record CanRepeat (rows : List Rank) (place : ℕ) (prefix : List ℕ) : Type 0 where
+  pub last : List ℕ
+  pub one : AreOf (drop place rows) last
+  pub none : HasNone rows prefix

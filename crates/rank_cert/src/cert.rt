@@ -1,6 +1,6 @@
 //! Ranks of pairs of a node's name and a prefix.
-ghost use Rattle.std.specs.Prelude.{◌≡◌, [], ◌∷◌, ◌++◌, Some, IfOk, IfSome, OnErr};
-ghost use Rattle.rank_cert.specs.Ranks.{rank_of, is_new, IsRow, IsCert, EndsWith};
+ghost use Rattle.std.specs.Prelude.{◌≡◌, ◌≢◌, [], ◌∷◌, ◌++◌, drop, Some, IfOk, IfSome, OnErr};
+ghost use Rattle.rank_cert.specs.Ranks.{rank_of, is_new, like_rows, IsRow, IsCert, EndsWith};
 ghost use Rattle.rank_cert.specs.Runs.{IsRun};
 
 use crate::kept::Kept;
@@ -116,6 +116,22 @@ impl Cert {
         ensures err { OnErr result (self.new ≡ self.old) }
     {
         self.add_row(Rank { node, prefix, rank })
+    }
+
+    /// Adds a row of a prefix for each row from a place on, with its name and the next of these ranks. That is done, for less than a row
+    /// costs otherwise, only where those are the rows of the last prefix, which stand together as those of each prefix do, where
+    /// there is a rank for each, and where this prefix has no row; otherwise it is `false`.
+    pub fn repeat_run(
+        &mut self,
+        place: usize,
+        prefix: Prefix,
+        ranks: &[u16],
+    ) -> Result<bool, AllocError>
+        ensures yes { result ≡ Ok true → self.new ≡ self.old ++ like_rows (drop place self.old) prefix ranks.now }
+        ensures no { result ≢ Ok true → self.new ≡ self.old }
+    {
+        let _ = prefix.digits();
+        self.kept.repeat_run(place, prefix, ranks)
     }
 
     /// The rows in the order in which they were added.

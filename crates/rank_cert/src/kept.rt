@@ -1,8 +1,8 @@
 //! The rows of a certificate: in runs as long as each prefix's rows stand together, and otherwise in a set.
-ghost use Rattle.std.specs.Prelude.{◌≡◌, ◌≤◌, ◌∷◌, ◌++◌, [], true, false, is_none, Ok, IfOk, IfSome, OnErr, if◌then◌else◌};
-ghost use Rattle.rank_cert.specs.Ranks.{rank_of, IsCert, EndsWith};
+ghost use Rattle.std.specs.Prelude.{◌≡◌, ◌≤◌, ◌∷◌, ◌++◌, ◌≢◌, [], true, false, drop, is_none, Ok, IfOk, IfSome, OnErr, if◌then◌else◌};
+ghost use Rattle.rank_cert.specs.Ranks.{rank_of, like_rows, IsCert, EndsWith};
 ghost use Rattle.rank_cert.specs.Kept.{rows_of};
-ghost use Rattle.rank_cert.specs.Runs.{IsRun};
+ghost use Rattle.rank_cert.specs.Runs.{IsRun, CanRepeat};
 
 use crate::cert::{NEAR, Rank};
 use crate::runs::{Added, Runs, rank_in_run, rows_from};
@@ -111,6 +111,24 @@ impl Kept {
                 Added::Twice => Ok(false),
                 Added::Apart => self.move_over(&row),
             },
+        }
+    }
+
+    /// Adds a row of a prefix for each row from a place on, with its name and the next of these ranks, where the rows of each prefix stand
+    /// together and those are the last prefix's.
+    pub fn repeat_run(
+        &mut self,
+        place: usize,
+        prefix: Prefix,
+        ranks: &[u16],
+    ) -> Result<bool, AllocError>
+        ensures may { result ≡ Ok true → CanRepeat (rows_of self.old) place prefix }
+        ensures yes { result ≡ Ok true → rows_of self.new ≡ rows_of self.old ++ like_rows (drop place (rows_of self.old)) prefix ranks.now }
+        ensures no { result ≢ Ok true → rows_of self.new ≡ rows_of self.old }
+    {
+        match self {
+            Kept::Together(runs) => runs.repeat_run(place, prefix, ranks),
+            Kept::Apart(_) => Ok(false),
         }
     }
 

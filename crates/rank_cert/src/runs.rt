@@ -1,8 +1,9 @@
 //! Rows of ranks of which those of one prefix stand together.
-ghost use Rattle.std.specs.Prelude.{◌≡◌, ◌≤◌, ◌==◌, ◌∷◌, ◌++◌, ◌≢◌, [], ℕ, List, true, false, is_some, length, drop, Some, None, Ok, IfOk, MatchOption, OnErr, if◌then◌else◌};
+ghost use Rattle.std.specs.Prelude.{◌≡◌, ◌+◌, ◌≤◌, ◌==◌, ◌∷◌, ◌++◌, ◌≢◌, [], ℕ, List, true, false, is_some, length, drop, Some, None, Ok, IfOk, MatchOption, OnErr, if◌then◌else◌};
 ghost use Rattle.std.specs.Cmp.Lexicographic.{pointwise};
-ghost use Rattle.rank_cert.specs.Ranks.{rank_of, IsCert, EndsWith};
-ghost use Rattle.rank_cert.specs.Runs.{rank_in_run, begins_with, has_name, begin_of, IsRun, HasNone};
+ghost use Rattle.std.specs.Vec.{vec_len, vec_capacity};
+ghost use Rattle.rank_cert.specs.Ranks.{rank_of, like_rows, IsCert, EndsWith};
+ghost use Rattle.rank_cert.specs.Runs.{rank_in_run, begins_with, has_name, begin_of, IsRun, HasNone, CanRepeat};
 ghost use Rattle.rank_cert.specs.Marks.{AreMarked};
 
 use crate::cert::{NEAR, Rank};
@@ -128,6 +129,30 @@ impl Runs {
         }
     }
 
+    /// Adds a row of a prefix that has none for each row of the last run, with its name and the next of these ranks. The run has to
+    /// begin at the place, and to have as many rows.
+    pub fn repeat_run(
+        &mut self,
+        place: usize,
+        prefix: Prefix,
+        ranks: &[u16],
+    ) -> Result<bool, AllocError>
+        ensures may { result ≡ Ok true → CanRepeat self.old place prefix }
+        ensures yes { result ≡ Ok true → self.new ≡ self.old ++ like_rows (drop place self.old) prefix ranks.now }
+        ensures no { result ≢ Ok true → self.new ≡ self.old }
+    {
+        let begin = self.rows.len();
+        if place != self.last || place >= begin || begin - place != ranks.len() {
+            return Ok(false);
+        }
+        if begin_repeat(&mut self.rows, &mut self.begins, place, prefix, ranks)? {
+            self.last = begin;
+            Ok(true)
+        } else {
+            Ok(false)
+        }
+    }
+
     /// The same rows as a set, in which rows of one prefix may stand apart.
     pub fn to_set(&self) -> Result<IndexSet<Rank>, AllocError>
         requires { IsCert self.now }
@@ -235,6 +260,43 @@ fn begin_run(
     begins.insert(row.prefix, rows.len())?;
     rows.push_reserved(row);
     Ok(true)
+}
+
+/// Begins a run of a prefix that has none, with a row for each row from a place on. Memory is asked for before anything is written.
+fn begin_repeat(
+    rows: &mut Vec<Rank>,
+    begins: &mut HashMap<Prefix, usize>,
+    place: usize,
+    prefix: Prefix,
+    ranks: &[u16],
+) -> Result<bool, AllocError>
+    requires { place + length ranks.now ≡ length rows.old.items }
+    ensures new { result ≡ Ok true → begin_of begins.old.entries prefix ≡ None }
+    ensures rows { result ≡ Ok true → rows.new.items ≡ rows.old.items ++ like_rows (drop place rows.old.items) prefix ranks.now }
+    ensures begins { result ≡ Ok true → (p : List ℕ) → begin_of begins.new.entries p ≡ (if pointwise ◌==◌ prefix p then Some (length rows.old.items) else begin_of begins.old.entries p) }
+    ensures rows_stay { result ≢ Ok true → rows.new.items ≡ rows.old.items }
+    ensures begins_stay { result ≢ Ok true → begins.new.entries ≡ begins.old.entries }
+{
+    if begins.contains_key(&prefix) {
+        return Ok(false);
+    }
+    rows.reserve(ranks.len())?;
+    begins.insert(prefix, rows.len())?;
+    repeat_names(rows, place, prefix, ranks);
+    Ok(true)
+}
+
+/// Adds a row for each row from a place on, with its name and the next of these ranks.
+fn repeat_names(rows: &mut Vec<Rank>, place: usize, prefix: Prefix, ranks: &[u16])
+    requires each { place + length ranks.now ≡ length rows.old.items }
+    requires room { vec_len rows.old + length ranks.now ≤ vec_capacity rows.old }
+    ensures { rows.new.items ≡ rows.old.items ++ like_rows (drop place rows.old.items) prefix ranks.now }
+{
+    for i in 0..ranks.len() {
+        let node = rows[place + i].node;
+        let rank = ranks[i];
+        rows.push_reserved(Rank { node, prefix, rank });
+    }
 }
 
 /// The rows as a set. None is lost, since no two have the same pair.

@@ -189,3 +189,30 @@ fn finds_a_row_behind_the_longest_run(rt: HostRuntime) -> Result<(), Fail> {
     }
     Ok(())
 }
+
+#[test]
+fn repeats_the_names_of_the_last_run(rt: HostRuntime) -> Result<(), Fail> {
+    let a = Prefix::read(b"4").ok().ok_or("prefix")?;
+    let b = Prefix::read(b"5").ok().ok_or("prefix")?;
+    let c = Prefix::read(b"6").ok().ok_or("prefix")?;
+    let ranks = [7; 64];
+    let mut cert = ranks_of_many(rt.alloc(), a, 64)?;
+    assert!(rt; !cert.repeat_run(0, a, &ranks)?);
+    assert!(rt; !cert.repeat_run(1, b, &ranks[..63])?);
+    assert!(rt; !cert.repeat_run(0, b, &ranks[..63])?);
+    assert!(rt; !cert.repeat_run(64, b, &[])?);
+    assert!(rt; cert.repeat_run(0, b, &ranks)?);
+    assert!(rt; !cert.repeat_run(0, c, &ranks)?);
+    assert!(rt; cert.repeat_run(64, c, &ranks)?);
+    assert_eq!(rt; cert.rows().len(), 192);
+    for number in 0..64 {
+        let name = pair_of_letters(number);
+        let node = Name::read(&name).ok_or("name")?;
+        assert_eq!(rt; cert.rank(&node, &a), Some(u16::from(number)));
+        assert_eq!(rt; cert.rank(&node, &c), Some(7));
+        assert!(rt; !cert.add(&name, c, 8)?);
+    }
+    assert!(rt; cert.add(b"X", c, 9)?);
+    assert_eq!(rt; cert.rows().len(), 193);
+    Ok(())
+}
