@@ -1,5 +1,5 @@
 //! Ranks for all classes.
-use crate::walk::{Routes, Stop, Walk};
+use crate::walk::{MOST_NODES, Routes, Stop, Walk};
 use card_digits::{NodeNo, Prefix};
 use net_rows::{Route, Tables, classes};
 use rank_cert::Cert;
@@ -85,6 +85,29 @@ fn add_ranks(
     cert: &mut Cert,
 ) -> Result<(), Stop> {
     walk.start_anew();
+    let rows = cert.rows().len();
+    if rows > 0 {
+        // The ranks of the class before have the names of all nodes, in their order.
+        let nodes = routes.tables.nodes().len();
+        let ranks = all_ranks(walk, routes)?;
+        if cert.repeat_run(rows.saturating_sub(nodes), *class, &ranks[..nodes])? {
+            return Ok(());
+        }
+    }
+    add_each(walk, routes, class, cert)
+}
+
+/// The ranks of all nodes, in their order, and 0 behind them.
+fn all_ranks(walk: &mut Walk, routes: &Routes) -> Result<[u16; MOST_NODES], Stop> {
+    let mut ranks = [0; MOST_NODES];
+    for i in 0..routes.tables.nodes().len() {
+        ranks[i] = walk.rank(routes, NodeNo::new(i))?;
+    }
+    Ok(ranks)
+}
+
+/// Adds the ranks of a class one by one.
+fn add_each(walk: &mut Walk, routes: &Routes, class: &Prefix, cert: &mut Cert) -> Result<(), Stop> {
     for (i, row) in routes.tables.nodes().iter().enumerate() {
         let rank = walk.rank(routes, NodeNo::new(i))?;
         if !cert.add_rank(row.name, *class, rank)? {

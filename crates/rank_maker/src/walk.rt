@@ -6,7 +6,7 @@ use net_rows::{Route, Tables};
 use rows_in_force::InForce;
 use std::alloc::{AllocError, AllocFailed, Global};
 
-const MOST_NODES: usize = 64;
+pub(crate) const MOST_NODES: usize = 64;
 
 /// What is known of a node.
 #[derive(Clone, Copy, Debug)]
