@@ -9,7 +9,7 @@ ghost use Rattle.rank_cert.specs.Like.{IsNamed, IsRanked, IsLike};
 
 use crate::cert::{Cert, Rank};
 use crate::fault::CertFault;
-use card_digits::{Name, Prefix, all_digits, decimal};
+use card_digits::{Name, Prefix, all_digits, decimal, same_bytes};
 use std::marker::Model;
 
 /// A prefix, and how it is spelled between a name and a rank: in digits, and a space.
@@ -44,7 +44,7 @@ fn behind_word<'a>(text: &'a [u8], word: &[u8]) -> Option<&'a [u8]>
     ensures { IfSome result (λ rest. text.now ≡ word.now ++ rest.now) }
 {
     let len = word.len();
-    if text.len() < len || &text[..len] != word {
+    if text.len() < len || !same_bytes(&text[..len], word) {
         return None;
     }
     Some(&text[len..])
