@@ -3,7 +3,7 @@ use crate::walk::{MOST_NODES, Routes, Stop, Walk};
 use card_digits::{NodeNo, Prefix};
 use net_rows::{Route, Tables, classes};
 use rank_cert::Cert;
-use rows_in_force::InForce;
+use rows_in_force::{InForce, LinkEnds};
 use std::alloc::{AllocError, Global};
 
 /// What was made of tables.
@@ -47,6 +47,7 @@ fn add_classes(
     cert: &mut Cert,
 ) -> Result<(), Made> {
     let mut walk = Walk::new(alloc);
+    let ends = LinkEnds::new(tables);
     for class in classes {
         in_force.enter(*class);
         let Some(issuer) = tables.issuer_at(class) else {
@@ -54,6 +55,7 @@ fn add_classes(
         };
         let routes = Routes {
             tables,
+            ends: &ends,
             in_force: &*in_force,
             home: issuer.home,
         };
@@ -84,7 +86,7 @@ fn add_ranks(
     class: &Prefix,
     cert: &mut Cert,
 ) -> Result<(), Stop> {
-    walk.start_anew();
+    walk.start_anew(routes);
     let rows = cert.rows().len();
     if rows > 0 {
         // The ranks of the class before have the names of all nodes, in their order.

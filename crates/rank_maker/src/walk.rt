@@ -1,9 +1,12 @@
 //! Longest walks along the routes for a class.
-ghost use Rattle.std.specs.Prelude.{◌≤◌, length};
+ghost use Rattle.std.specs.Prelude.{◌≡◌, ◌≤◌, length};
+ghost use Rattle.net_rows.specs.Network.{Network};
+ghost use Rattle.rank_maker.specs.Longest.{known_rank, rank_past};
+ghost use Rattle.rows_in_force.specs.LinkEnds.{AreEnds};
 
 use card_digits::{LinkNo, NodeNo};
 use net_rows::{Route, Tables};
-use rows_in_force::InForce;
+use rows_in_force::{InForce, LinkEnds};
 use std::alloc::{AllocError, AllocFailed, Global};
 
 pub(crate) const MOST_NODES: usize = 64;
@@ -40,6 +43,7 @@ impl<T: Drop> From<AllocFailed<T>> for Stop {
 #[derive(Clone, Copy, Debug)]
 pub(crate) struct Routes<'t> {
     pub(crate) tables: &'t Tables,
+    pub(crate) ends: &'t LinkEnds,
     pub(crate) in_force: &'t InForce<'t, Route>,
     pub(crate) home: NodeNo,
 }
@@ -60,6 +64,9 @@ impl<'t> Routes<'t> {
 #[derive(Debug, Drop)]
 pub(crate) struct Walk {
     marks: [Mark; MOST_NODES],
+    /// The nodes with ranks, in the order in which they got them.
+    order: [NodeNo; MOST_NODES],
+    ranked: usize,
     path: Vec<NodeNo>,
     alloc: Global,
 }
@@ -68,15 +75,34 @@ impl Walk {
     pub(crate) fn new(alloc: Global) -> Walk {
         Walk {
             marks: [Mark::New; MOST_NODES],
+            order: [NodeNo::new(0); MOST_NODES],
+            ranked: 0,
             path: Vec::new(alloc),
             alloc,
         }
     }
 
-    /// Forgets all ranks, for another class.
-    pub(crate) fn start_anew(&mut self) {
+    /// Forgets all ranks, for another class. The nodes get new ones in the order of before, as far as the ends of their links have ranks by
+    /// then. As the classes are much alike, most have. None of these nodes leads to a circle, so the first circle stays the first.
+    pub(crate) fn start_anew(&mut self, routes: &Routes) {
+        let (order, ranked) = (self.order, self.ranked);
         self.marks = [Mark::New; MOST_NODES];
+        self.ranked = 0;
         self.path.clear();
+        for node in order.iter().take(ranked) {
+            if let Some(rank) = self.rank_past(routes.ends, *node, routes.links(*node)) {
+                self.set_rank(*node, rank);
+            }
+        }
+    }
+
+    #[inline]
+    fn set_rank(&mut self, node: NodeNo, rank: u16) {
+        self.marks[node.place()] = Mark::Ranked(rank);
+        if let Some(place) = self.order.get_mut(self.ranked) {
+            *place = node;
+            self.ranked += 1;
+        }
     }
 
     /// The number of links of the longest walk from the node.
@@ -90,11 +116,28 @@ impl Walk {
 
     /// The rank of a node that has one already, as most ends of links have.
     #[inline]
-    fn known(&self, node: NodeNo) -> Option<u16> {
+    fn known(&self, node: NodeNo) -> Option<u16>
+        ensures { result ≡ known_rank self.now.marks node }
+    {
         match self.marks[node.place()] {
             Mark::Ranked(rank) => Some(rank),
             Mark::New | Mark::OnPath => None,
         }
+    }
+
+    /// The rank of a node by those of the ends of its links; none where one has none.
+    #[inline]
+    fn rank_past(&self, ends: &LinkEnds, node: NodeNo, links: &[LinkNo]) -> Option<u16>
+        ensures { (t : Network) → AreEnds t ends.now → result ≡ rank_past t self.now.marks node 0 links.now }
+    {
+        let mut rank = 0u16;
+        for link in links {
+            match self.known(ends.other_end(node, *link)) {
+                Some(far_rank) => rank = rank.max(far_rank.saturating_add(1)),
+                None => return None,
+            }
+        }
+        Some(rank)
     }
 
     /// The rank of a node that has none yet. No path is longer than all nodes, so `depth` is enough.
@@ -110,7 +153,7 @@ impl Walk {
         self.path.push(node)?;
         let mut rank = 0u16;
         for link in routes.links(node) {
-            let far = routes.tables.other_end(node, *link);
+            let far = routes.ends.other_end(node, *link);
             let far_rank = match self.known(far) {
                 Some(known) => known,
                 None => self.rank_anew(routes, far, depth - 1)?,
@@ -118,7 +161,7 @@ impl Walk {
             rank = rank.max(far_rank.saturating_add(1));
         }
         self.path.pop();
-        self.marks[node.place()] = Mark::Ranked(rank);
+        self.set_rank(node, rank);
         Ok(rank)
     }
 }

@@ -20,4 +20,6 @@ mod rows;
 #[cfg(test)]
 mod tries;
 #[cfg(test)]
+mod walks;
+#[cfg(test)]
 mod words;

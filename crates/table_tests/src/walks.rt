@@ -1,0 +1,101 @@
+//! Ranks and circles of made networks, beside those of a walk for each class by itself.
+mod made;
+mod old_walk;
+
+use card_digits::{NodeNo, Prefix};
+use made::{Numbers, network};
+use net_rows::{Route, Tables, classes};
+use old_walk::{MOST_NODES, Routes, Stop, Walk};
+use rank_cert::Cert;
+use rank_maker::{Made, make};
+use rows_in_force::InForce;
+use std::alloc::{AllocError, Global};
+use std::test::Fail;
+
+fn old_made(alloc: Global, tables: &Tables) -> Result<Made, AllocError> {
+    let mut cert = Cert::new(alloc);
+    let mut in_force = InForce::new(alloc, tables.routes())?;
+    for class in classes(alloc, tables)?.iter() {
+        in_force.enter(*class);
+        let Some(issuer) = tables.issuer_at(class) else {
+            continue;
+        };
+        let routes = Routes {
+            tables,
+            in_force: &in_force,
+            home: issuer.home,
+        };
+        match add_ranks(alloc, &routes, class, &mut cert) {
+            Ok(()) => {}
+            Err(Stop::Circle(nodes)) => return Ok(Made::Circle(*class, nodes)),
+            Err(Stop::GaveUp) => return Ok(Made::GaveUp),
+        }
+    }
+    Ok(Made::Ranks(cert))
+}
+
+fn add_ranks(alloc: Global, routes: &Routes, class: &Prefix, cert: &mut Cert) -> Result<(), Stop> {
+    let mut walk = Walk::new(alloc);
+    for (i, row) in routes.tables.nodes().iter().enumerate() {
+        let rank = walk.rank(routes, NodeNo::new(i), MOST_NODES)?;
+        if !cert.add_rank(row.name, *class, rank)? {
+            return Err(Stop::GaveUp);
+        }
+    }
+    Ok(())
+}
+
+fn are_same_ranks(cert: &Cert, other: &Cert) -> bool {
+    cert.rows().len() == other.rows().len()
+        && cert
+            .rows()
+            .iter()
+            .zip(other.rows())
+            .all(|(row, old)| *row == *old && row.rank == old.rank)
+}
+
+fn is_same(made: &Made, old: &Made) -> bool {
+    match (made, old) {
+        (Made::Ranks(cert), Made::Ranks(other)) => are_same_ranks(cert, other),
+        (Made::Circle(class, nodes), Made::Circle(other_class, others)) => {
+            *class == *other_class && nodes.as_slice() == others.as_slice()
+        }
+        _ => false,
+    }
+}
+
+/// How many of some networks have ranks, and how many a circle.
+#[derive(Drop)]
+struct Counts {
+    ranked: u32,
+    circles: u32,
+}
+
+fn compare(alloc: Global, counts: &mut Counts, tables: &Tables) -> Result<(), Fail> {
+    let made = make(alloc, tables);
+    let old = old_made(alloc, tables)?;
+    if !is_same(&made, &old) {
+        return Err("another answer".into());
+    }
+    match made {
+        Made::Ranks(_) => counts.ranked = counts.ranked.saturating_add(1),
+        _ => counts.circles = counts.circles.saturating_add(1),
+    }
+    Ok(())
+}
+
+#[test]
+fn as_by_walks_of_each_class(rt: HostRuntime) -> Result<(), Fail> {
+    let mut counts = Counts {
+        ranked: 0,
+        circles: 0,
+    };
+    let mut numbers = Numbers::new(7);
+    for _ in 0..400 {
+        let tables = network(rt.alloc(), &mut numbers)?;
+        compare(rt.alloc(), &mut counts, &tables)?;
+    }
+    assert!(rt; counts.ranked >= 100);
+    assert!(rt; counts.circles >= 100);
+    Ok(())
+}
