@@ -11,7 +11,8 @@ use toml_parser::text::{byte_at, first, skip};
 /// One more digit makes no number that is too large.
 const MOST_BEFORE_LAST: u64 = 99_999_999_999_999_999;
 
-/// The number that the digits at the front write, and how many they are. None of numbers of more than eighteen digits.
+/// The number that the digits at the front write, and how many they are. None of a number that is too large for
+/// eighteen digits.
 fn front_digits(bytes: &[u8]) -> Option<(u64, usize)>
     ensures len { IfSome result (λ p. p.1 ≡ prefix_len is_ascii_digit bytes.now) }
     ensures digits { IfSome result (λ p. AllDigits 10 (take p.1 bytes.now)) }

@@ -1,4 +1,4 @@
-//! The walk for one class by itself, as ranks were made before classes followed one another.
+//! The walk for one class by itself, with which ranks and circles are compared.
 ghost use Rattle.std.specs.Prelude.{◌≤◌, length};
 
 use card_digits::{LinkNo, NodeNo};
