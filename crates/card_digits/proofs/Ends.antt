@@ -7,7 +7,7 @@ use Rattle.std.proofs.lemmas.Bool.Decides.{same_from_decides}
 use Rattle.std.proofs.lemmas.List.{take-append-drop}
 
 -- so many at the end
-abbrev ending : ℕ → List ℕ → List ℕ
+abbrev pub ending : ℕ → List ℕ → List ℕ
 ending w xs = drop (length xs - w) xs
 
 -- what stands behind the first w is behind so many of the last w

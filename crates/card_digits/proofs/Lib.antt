@@ -9,4 +9,5 @@ pub mod Cuts
 pub mod LineCuts
 pub mod Padded
 pub mod Ends
+pub mod BytesInOrder
 pub mod Attempts

@@ -4,7 +4,7 @@ ghost use Rattle.std.specs.Char.{is_ascii_digit};
 ghost use Rattle.std.specs.List.{list_all};
 ghost use Rattle.card_digits.specs.Digits.{digits_of};
 
-use crate::words::same_bytes;
+use crate::words::{order_of_bytes, same_bytes};
 use std::cmp::Ordering;
 use std::hash::{Hash, Hasher};
 use std::marker::Model;
@@ -125,8 +125,9 @@ impl<const N: usize> Ord for ShortBytes<N> {
 
     ghost matches_eq = { Prim.search (comparing, rules) };
 
+    // The arrays decide, as what is not used is zero, and where they are the same the number of bytes.
     fn cmp(&self, other: &ShortBytes<N>) -> Ordering {
-        self.as_slice().cmp(other.as_slice())
+        order_of_bytes(&self.bytes, &other.bytes).then(self.len.cmp(&other.len))
     }
 }
 

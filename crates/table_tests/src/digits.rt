@@ -1,7 +1,7 @@
 //! Card numbers, prefixes, ids and amounts.
 use card_digits::{
     Amount, Card, DateLabel, DigitFault, Id, Name, Prefix, begins, begins_class, cut, first_line,
-    luhn, pad11, same_bytes,
+    luhn, pad11, put, same_bytes,
 };
 
 /// Whether a card's check digit is right. `no card` where the text is none.
@@ -193,4 +193,45 @@ fn same_bytes_at_each_length(rt: HostRuntime) {
             assert!(rt; !same_bytes(front, &other[..len]), "{len} {place}");
         }
     }
+}
+
+/// Digits in an order that looks like none: `len` of them from a seed.
+fn made_digits(seed: usize, len: usize) -> [u8; 12] {
+    let mut digits = *b"000000000000";
+    for place in 0..len {
+        digits[place] = b'0' + (seed * 7 + place * seed % 5) as u8 % 3;
+    }
+    digits
+}
+
+/// Prefixes of all lengths, nearly all of whose digits agree with another's, come in the order of their digits.
+#[test]
+fn prefixes_in_the_order_of_their_digits(rt: HostRuntime) {
+    for seed in 0..36usize {
+        for other_seed in 0..36usize {
+            let (len, other_len) = (seed % 12 + 1, other_seed % 12 + 1);
+            let (text, other_text) = (
+                made_digits(seed / 12, len),
+                made_digits(other_seed / 12, other_len),
+            );
+            let (Ok(prefix), Ok(other)) = (
+                Prefix::read(&text[..len]),
+                Prefix::read(&other_text[..other_len]),
+            ) else {
+                assert!(rt; false, "{seed} {other_seed}");
+                return;
+            };
+            assert!(rt;
+                prefix.cmp(&other) == prefix.digits().cmp(other.digits()),
+                "{prefix} {other}"
+            );
+        }
+    }
+}
+
+#[test]
+fn bytes_at_a_place(rt: HostRuntime) {
+    let mut row = *b"abcdef";
+    assert!(rt; put(&mut row, 2, b"..") == 4);
+    assert!(rt; row == *b"ab..ef");
 }
