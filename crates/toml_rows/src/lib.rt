@@ -11,7 +11,6 @@ mod row;
 mod string;
 mod value;
 
-pub use plain::{
-    bare_row_header, close_texts, next_text, number_pair, open_texts, row_header, text_pair,
-};
+pub use line::bare_row_header;
+pub use plain::{close_texts, next_text, number_pair, open_texts, text_pair};
 pub use row::{first_table, is_over, next_row, start};

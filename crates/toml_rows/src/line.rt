@@ -117,15 +117,30 @@ pub(crate) fn after_row_header<'a>(alloc: Global, s: &'a str, word: &str) -> Opt
     Some(rest)
 }
 
-/// The same for a word that is a bare key, where no white space stands in the header.
+/// What follows the word of a header, a bare key, and its closing bracket. Mostly this stands right behind the word, which is compared
+/// where it stands.
 #[inline(always)]
-pub(crate) fn after_bare_row_header<'a>(s: &'a str, word: &str) -> Option<&'a str>
+fn after_bare_word<'a>(alloc: Global, s: &'a str, word: &str) -> Option<&'a str>
+    requires some { 0 < length word.now }
+    requires bare { list_all is_bare word.now ≡ true }
+    ensures value { IfSome result (λ rest. spec.header_key s.now ≡ Some (([], word.now), rest.now)) }
+    ensures shorter { IfSome result (λ rest. length rest.now < length s.now) }
+{
+    if let Some(rest) = after_bare_bracket(s, word) {
+        return Some(rest);
+    }
+    after_word(alloc, s, word)
+}
+
+/// What follows the line `[[word]]` of a word that is a bare key, where it comes next.
+#[inline(always)]
+pub fn bare_row_header<'a>(alloc: Global, s: &'a str, word: &str) -> Option<&'a str>
     requires some { 0 < length word.now }
     requires bare { list_all is_bare word.now ≡ true }
     ensures { IfSome result (λ rest. IsLine (row_line word.now) s.now rest.now) }
 {
     let inside = after_brackets(s)?;
-    let after = after_bare_bracket(inside, word)?;
+    let after = after_bare_word(alloc, inside, word)?;
     let rest = after_last_bracket(after)?;
     Some(rest)
 }

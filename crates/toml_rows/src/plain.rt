@@ -6,39 +6,19 @@ ghost use Rattle.toml_parser.specs.Lexical.{is_bare};
 ghost use Rattle.toml.specs.Data.{string, integer};
 ghost use Rattle.toml.specs.Parse as spec;
 ghost use Rattle.toml_parser.specs.Lexical as lexical;
-ghost use Rattle.toml_rows.specs.Rows.{IsLine, row_line, pair_line};
+ghost use Rattle.toml_rows.specs.Rows.{IsLine, pair_line};
 ghost use Rattle.toml_rows.specs.Texts.{IsOpened, IsText, IsClosed};
 
 use crate::blank::{skip_blank, skip_ws};
 use crate::digits::digits_alone;
 use crate::key::after_bare;
-use crate::line::{after_bare_row_header, after_row_header, ends_line};
+use crate::line::ends_line;
 use crate::string::plain_string;
 use crate::value::after_element;
 use std::alloc::Global;
 use toml_parser::bytes::{byte_at, is_ws};
 use toml_parser::text::{first, skip};
 use toml_parser::{Scalar, starts_string, unquoted};
-
-/// What follows the header `[[word]]`, where it comes next.
-pub fn row_header<'a>(alloc: Global, s: &'a str, word: &str) -> Option<&'a str>
-    ensures { IfSome result (λ rest. IsLine (row_line word.now) s.now rest.now) }
-{
-    after_row_header(alloc, s, word)
-}
-
-/// The same for a word that is a bare key, which is compared where it stands. White space in the header is looked for afterwards.
-#[inline(always)]
-pub fn bare_row_header<'a>(alloc: Global, s: &'a str, word: &str) -> Option<&'a str>
-    requires some { 0 < length word.now }
-    requires bare { list_all is_bare word.now ≡ true }
-    ensures { IfSome result (λ rest. IsLine (row_line word.now) s.now rest.now) }
-{
-    if let Some(rest) = after_bare_row_header(s, word) {
-        return Some(rest);
-    }
-    after_row_header(alloc, s, word)
-}
 
 /// Whether ` = ` comes next, and no more white space.
 #[inline]

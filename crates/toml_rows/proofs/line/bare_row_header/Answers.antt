@@ -1,7 +1,7 @@
 use Rattle.std.proofs.Common.{◌<◌, length, drop, arith}
 use Rattle.toml_parser.specs.Lexical.{skip_blank}
 use Rattle.toml_rows.proofs.Headers.{row_header_line}
-use Rattle.toml_rows.proofs.line.after_bare_row_header.Goals as goal
+use Rattle.toml_rows.proofs.line.bare_row_header.Goals as goal
 
 pub returns : goal.returns
 returns c =
