@@ -12,6 +12,8 @@ mod maker;
 #[cfg(test)]
 mod networks;
 #[cfg(test)]
+mod numbers;
+#[cfg(test)]
 mod plain_rows;
 #[cfg(test)]
 mod row_forms;

@@ -1,4 +1,5 @@
 //! Look-ups in a trie.
+use crate::numbers::Numbers;
 use card_digits::{Card, Prefix, begins};
 use prefix_trie::{Fault, Trie};
 use sample_networks::words;
@@ -180,12 +181,9 @@ fn card_of(alloc: Global, number: u64) -> Result<Card, Fail> {
 
 /// Fails at the first of a thousand cards whose row is another.
 fn all_same(alloc: Global, trie: &Trie<u32>, rows: &[Prefix]) -> Result<(), Fail> {
-    let mut number: u64 = 1;
+    let mut numbers = Numbers::new(1);
     for _ in 0..1_000 {
-        number = number
-            .wrapping_mul(6_364_136_223_846_793_005)
-            .wrapping_add(1_442_695_040_888_963_407);
-        if !is_same(trie, rows, &card_of(alloc, number)?) {
+        if !is_same(trie, rows, &card_of(alloc, numbers.next())?) {
             return Err("another row".into());
         }
     }

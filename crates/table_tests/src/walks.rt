@@ -2,8 +2,9 @@
 mod made;
 mod old_walk;
 
+use crate::numbers::Numbers;
 use card_digits::{NodeNo, Prefix};
-use made::{Numbers, network};
+use made::{Form, network};
 use net_rows::{Route, Tables, classes};
 use old_walk::{MOST_NODES, Routes, Stop, Walk};
 use rank_cert::Cert;
@@ -84,18 +85,64 @@ fn compare(alloc: Global, counts: &mut Counts, tables: &Tables) -> Result<(), Fa
     Ok(())
 }
 
-#[test]
-fn as_by_walks_of_each_class(rt: HostRuntime) -> Result<(), Fail> {
+fn compare_many(
+    alloc: Global,
+    numbers: &mut Numbers,
+    networks: u32,
+    form: Form,
+) -> Result<Counts, Fail> {
     let mut counts = Counts {
         ranked: 0,
         circles: 0,
     };
-    let mut numbers = Numbers::new(7);
-    for _ in 0..400 {
-        let tables = network(rt.alloc(), &mut numbers)?;
-        compare(rt.alloc(), &mut counts, &tables)?;
+    for _ in 0..networks {
+        let tables = network(alloc, numbers, form)?;
+        compare(alloc, &mut counts, &tables)?;
     }
-    assert!(rt; counts.ranked >= 100);
-    assert!(rt; counts.circles >= 100);
+    Ok(counts)
+}
+
+#[test]
+fn as_by_walks_of_each_class(rt: HostRuntime) -> Result<(), Fail> {
+    let mut numbers = Numbers::new(7);
+    for nodes in 4..13u64 {
+        let form = Form {
+            nodes,
+            ways: 2,
+            one_in: 3 * nodes,
+        };
+        let counts = compare_many(rt.alloc(), &mut numbers, 45, form)?;
+        assert!(rt; counts.ranked >= 5, "{nodes}");
+        assert!(rt; counts.circles >= 5, "{nodes}");
+    }
+    Ok(())
+}
+
+/// As many nodes, and as many links in a row, as tables may have.
+#[test]
+fn as_by_walks_at_the_limits(rt: HostRuntime) -> Result<(), Fail> {
+    let mut numbers = Numbers::new(11);
+    let nodes = compare_many(
+        rt.alloc(),
+        &mut numbers,
+        12,
+        Form {
+            nodes: 64,
+            ways: 4,
+            one_in: 150,
+        },
+    )?;
+    let links = compare_many(
+        rt.alloc(),
+        &mut numbers,
+        12,
+        Form {
+            nodes: 32,
+            ways: 8,
+            one_in: 80,
+        },
+    )?;
+    assert!(rt; nodes.ranked > 0 && nodes.circles > 0);
+    assert!(rt; links.ranked > 0 && links.circles > 0);
     Ok(())
 }

@@ -1,30 +1,10 @@
 //! Networks that numbers decide.
+use crate::numbers::Numbers;
 use net_tables::{Tables, read_tables};
 use sample_networks::SETTINGS;
 use std::alloc::Global;
 use std::fmt::Write;
 use std::test::Fail;
-
-/// Numbers one after another by a linear congruence.
-#[derive(Drop)]
-pub(crate) struct Numbers {
-    state: u64,
-}
-
-impl Numbers {
-    pub(crate) fn new(seed: u64) -> Numbers {
-        Numbers { state: seed }
-    }
-
-    /// A number below a limit; 0 where that is 0.
-    fn below(&mut self, limit: u64) -> u64 {
-        self.state = self
-            .state
-            .wrapping_mul(6_364_136_223_846_793_005)
-            .wrapping_add(1_442_695_040_888_963_407);
-        (self.state >> 33).checked_rem(limit).unwrap_or(0)
-    }
-}
 
 fn push_node(toml: &mut String, node: u64) -> Result<(), Fail> {
     let id = node.wrapping_add(1_001);
@@ -40,26 +20,48 @@ fn push_link(toml: &mut String, link: u64, node: u64, end: u64) -> Result<(), Fa
     Ok(())
 }
 
-/// Two links lead from each node but the first to nodes before it. Those of node n have the numbers 2 n and 2 n + 1.
-fn push_links(toml: &mut String, numbers: &mut Numbers, nodes: u64) -> Result<(), Fail> {
-    for node in 1..nodes {
-        let first = node.wrapping_mul(2);
+/// What a network is like.
+#[derive(Clone, Copy)]
+pub(crate) struct Form {
+    /// How many nodes it has: at least four.
+    pub(crate) nodes: u64,
+    /// How many links lead from each node but the first to nodes before it. Those of node n have the numbers from `ways` times n on.
+    pub(crate) ways: u64,
+    /// One in so many rows has a link that leads to the node, too.
+    pub(crate) one_in: u64,
+}
+
+fn push_links(toml: &mut String, numbers: &mut Numbers, form: Form) -> Result<(), Fail> {
+    for node in 1..form.nodes {
+        let first = node.wrapping_mul(form.ways);
         push_link(toml, first, node, node.wrapping_sub(1))?;
-        push_link(toml, first.wrapping_add(1), node, numbers.below(node))?;
+        for way in 1..form.ways {
+            push_link(toml, first.wrapping_add(way), node, numbers.below(node))?;
+        }
     }
     Ok(())
 }
 
-/// A route row at a node: one of its links, and now and then one that leads to the node.
-fn push_route(toml: &mut String, numbers: &mut Numbers, node: u64, class: u64) -> Result<(), Fail> {
-    let first = node.wrapping_mul(2);
-    let link = first.wrapping_add(numbers.below(2));
+/// A route row at a node: one or more of its links, and now and then one that leads to the node.
+fn push_route(
+    toml: &mut String,
+    numbers: &mut Numbers,
+    form: Form,
+    node: u64,
+    class: u64,
+) -> Result<(), Fail> {
+    let first = node.wrapping_mul(form.ways);
+    let begin = numbers.below(form.ways);
     write!(
         toml,
-        "[[route]]\nnode = \"N{node}\"\nprefix = \"{class}\"\nlinks = [\"L{link}\""
+        "[[route]]\nnode = \"N{node}\"\nprefix = \"{class}\"\nlinks = [\"L{}\"",
+        first.wrapping_add(begin)
     )?;
-    if numbers.below(20) == 0 {
-        write!(toml, ", \"L{}\"", first.wrapping_add(2))?;
+    for way in begin.wrapping_add(2)..form.ways {
+        write!(toml, ", \"L{}\"", first.wrapping_add(way))?;
+    }
+    if numbers.below(form.one_in) == 0 {
+        write!(toml, ", \"L{}\"", first.wrapping_add(form.ways))?;
     }
     write!(toml, "]\n")?;
     Ok(())
@@ -74,38 +76,36 @@ fn push_issuer(toml: &mut String, issuer: u64, home: u64) -> Result<(), Fail> {
     Ok(())
 }
 
-/// Rows of an issuer's prefix at all nodes but the first and the last, and of prefixes of three digits at one node each.
+/// Rows of a prefix of one digit at all nodes but the first and the last, and of prefixes of three digits at one node each.
 fn push_routes(
     toml: &mut String,
     numbers: &mut Numbers,
-    nodes: u64,
-    issuer: u64,
+    form: Form,
+    digit: u64,
 ) -> Result<(), Fail> {
-    let last = nodes.wrapping_sub(1);
+    let last = form.nodes.wrapping_sub(1);
     for node in 1..last {
-        push_route(toml, numbers, node, issuer)?;
+        push_route(toml, numbers, form, node, digit)?;
     }
     for class in 0..5u64 {
-        let prefix = issuer.wrapping_mul(100).wrapping_add(class);
+        let prefix = digit.wrapping_mul(100).wrapping_add(class);
         let node = numbers.below(last.wrapping_sub(1)).wrapping_add(1);
-        push_route(toml, numbers, node, prefix)?;
+        push_route(toml, numbers, form, node, prefix)?;
     }
     Ok(())
 }
 
-/// A network of four to twelve nodes.
-pub(crate) fn network(alloc: Global, numbers: &mut Numbers) -> Result<Tables, Fail> {
-    let nodes = numbers.below(9).wrapping_add(4);
+/// A network with routes of three digits, of which the second has no issuer.
+pub(crate) fn network(alloc: Global, numbers: &mut Numbers, form: Form) -> Result<Tables, Fail> {
     let mut toml = String::from_str(alloc, SETTINGS)?;
-    for node in 0..nodes {
+    for node in 0..form.nodes {
         push_node(&mut toml, node)?;
     }
-    push_links(&mut toml, numbers, nodes)?;
-    for issuer in 4..6u64 {
-        push_issuer(&mut toml, issuer, numbers.below(2))?;
-    }
-    for issuer in 4..6u64 {
-        push_routes(&mut toml, numbers, nodes, issuer)?;
+    push_links(&mut toml, numbers, form)?;
+    push_issuer(&mut toml, 4, numbers.below(2))?;
+    push_issuer(&mut toml, 6, numbers.below(2))?;
+    for digit in 4..7u64 {
+        push_routes(&mut toml, numbers, form, digit)?;
     }
     Ok(read_tables(alloc, toml.as_bytes()).ok().ok_or("tables")?)
 }
