@@ -4,6 +4,7 @@ ghost use Rattle.std.specs.List.{concat};
 ghost use Rattle.replay_text.specs.Lines.{way_text};
 
 use bundle_text::link_name;
+use card_digits::put;
 use itoa::Buffer;
 use net_rows::Tables;
 use request_book::Way;
@@ -14,19 +15,6 @@ pub(crate) const ROW: usize = 64;
 
 /// The names of nodes and links have at most so many letters; a longer one would go to what waits piece by piece.
 const NAME: usize = 8;
-
-/// Writes bytes at a place of a row, and returns the place behind them.
-#[inline(always)]
-fn put(row: &mut [u8], at: usize, bytes: &[u8]) -> usize
-    requires { at + length bytes.now ≤ length row.old }
-    ensures text { take result row.new ≡ take at row.old ++ bytes.now }
-    ensures end { result ≡ at + length bytes.now }
-    ensures size { length row.new ≡ length row.old }
-{
-    let end = at + bytes.len();
-    row[at..end].copy_from_slice(bytes);
-    end
-}
 
 /// Writes as many bytes as one word has, or up to twice as many: the first word and the last one.
 #[inline(always)]
