@@ -1,6 +1,7 @@
 mod Again
 mod Behind
 mod Cuts
+mod Fresh
 mod Growing
 mod Lines
 pub mod LineFields

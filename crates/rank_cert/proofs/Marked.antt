@@ -1,9 +1,9 @@
 -- Marks of the names in a run.
-use Rattle.std.proofs.Common.{◌≡◌, ℕ, ◌==◌, ◌++◌, ◌≤◌, ◌<◌, Bool, true, false, List, [], ◌∷◌, refl, ◌∙◌, inl, inr, length, drop, set}
+use Rattle.std.proofs.Common.{◌≡◌, ℕ, ◌+◌, ◌==◌, ◌++◌, ◌≤◌, ◌<◌, Bool, true, false, List, [], ◌∷◌, refl, sym, ap, ◌∙◌, inl, inr, length, take, drop, get_or, set}
 use Rattle.std.specs.Cmp.Lexicographic.{pointwise}
 use Rattle.std.proofs.lemmas.Bool.{cases_Bool}
 use Rattle.std.proofs.lemmas.Bool.Decides.{eqb_tells}
-use Rattle.std.proofs.lemmas.List.{drop-append-le, get_or-set_same, get_or-set_other}
+use Rattle.std.proofs.lemmas.List.{drop-append-le, take_more, get_or-set_same, get_or-set_other}
 use Rattle.std.proofs.Math.Seq.{drop-append_seam}
 use Rattle.rank_cert.specs.declared.cert.Rank.{Rank}
 use Rattle.rank_cert.specs.Runs.{has_name}
@@ -29,7 +29,8 @@ stays marks place within other is = elim (eqb_tells other place) [
   | inr differs ↦ get_or-set_other marks place other true false differs.1 ∙ is
 ]
 
-marked-push : (old new : List Bool) (rows : List Rank) (r : Rank) → Keeps old new → is_marked new (place_of r.node) ≡ true → AreMarked old rows → AreMarked new (rows ++ r ∷ [])
+-- a row more
+pub marked-push : (old new : List Bool) (rows : List Rank) (r : Rank) → Keeps old new → is_marked new (place_of r.node) ≡ true → AreMarked old rows → AreMarked new (rows ++ r ∷ [])
 marked-push old new [] r keeps is marked = (is, tt)
 marked-push old new (s ∷ rows) r keeps is marked = (keeps (place_of s.node) marked.0, marked-push old new rows r keeps is marked.1)
 
@@ -41,3 +42,9 @@ push_marked old new rows begin r keeps is within marked = rw (drop-append-le beg
 -- a row that begins a run
 pub push_first : (marks : List Bool) (rows : List Rank) (r : Rank) → is_marked marks (place_of r.node) ≡ true → AreMarked marks (drop (length rows) (rows ++ r ∷ []))
 push_first marks rows r is = rw (drop-append_seam rows (r ∷ [])) (is, tt)
+
+-- the marks of the first rows, and one more
+pub mark_more : (old new : List Bool) (rows : List Rank) (i : ℕ) (r : Rank) → i < length rows → r ≡ get_or rows i r → Keeps old new → is_marked new (place_of r.node) ≡ true → AreMarked old (take i rows) → AreMarked new (take (i + 1) rows)
+mark_more old new rows i r within at keeps is marked =
+    let next : take (i + 1) rows ≡ take i rows ++ r ∷ [] = take_more rows i r within ∙ ap (λ (s : Rank). take i rows ++ s ∷ []) (sym at) in
+    rw next (marked-push old new (take i rows) r keeps is marked)

@@ -30,3 +30,8 @@ pub record IsLike (text : List ℕ) (r : Rank) (rest : List ℕ) : Type 0 where
   pub first : lines text ≡ line ∷ lines rest
   pub row : row_of line ≡ Some r
   pub shorter : length rest < length text
+
+-- the text's first lines are the rows, and this stands behind them
+abbrev pub AreLike : List ℕ → List Rank → List ℕ → Type 0
+AreLike text [] rest = text ≡ rest
+AreLike text (r ∷ rs) rest = (behind : List ℕ) × IsLike text r behind × AreLike behind rs rest

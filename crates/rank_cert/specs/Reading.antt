@@ -1,5 +1,5 @@
 -- What the text of a certificate says, or the first fault in it.
-use Rattle.std.specs.Prelude.{◌≡◌, ℕ, ◌+◌, ◌==◌, ◌||◌, nat_lt, not, Bool, true, false, List, [], ◌∷◌, ◌++◌, length, codes, Option, Some, None, is_some, Result, Ok, Err, if◌then◌else◌}
+use Rattle.std.specs.Prelude.{ℕ, ◌+◌, ◌==◌, ◌||◌, nat_lt, not, Bool, true, false, List, [], ◌∷◌, ◌++◌, length, codes, Option, Some, None, is_some, Result, Ok, Err, if◌then◌else◌}
 use Rattle.std.specs.List.{list_all, slice_split}
 use Rattle.std.specs.Result.{result_ok}
 use Rattle.std.specs.Char.{is_ascii_digit}
@@ -8,7 +8,6 @@ use Rattle.card_digits.specs.Lines.{lines}
 use Rattle.card_digits.specs.Numbers.{decimal}
 use Rattle.card_digits.specs.Reading.{name_of, read_digits}
 use Rattle.card_digits.specs.Steps.{◌>>=◌}
-use Rattle.card_digits.specs.Attempts.{Fails}
 use Rattle.rank_cert.specs.declared.cert.Rank.{Rank}
 use Rattle.rank_cert.specs.declared.fault.CertFault.{CertFault}
 use Rattle.rank_cert.specs.declared.fault.CertFault.TheVariants.{Header, Line, Twice, NoEnd, AfterEnd, Memory}
@@ -85,7 +84,6 @@ abbrev pub is_memory : CertFault → Bool
 is_memory Memory = true
 is_memory e = false
 
--- the row of a line was added, or why it wasn't
-abbrev pub Adds : List Rank → List Rank → List ℕ → Result (List ℕ) CertFault → Type 0
-Adds old new line (Ok prefix) = (r : Rank) × (new_row old (row_of line) ≡ Ok r) × (new ≡ old ++ r ∷ [])
-Adds old new line (Err e) = Fails is_memory e (new_row old (row_of line))
+-- the rows of the next line and of the lines up to the end, behind those that are done
+abbrev pub rows_with : List Rank → Option Rank → List (List ℕ) → Result (List Rank) CertFault
+rows_with done next rest = then_rows (new_row done next) (λ r. rows_in (done ++ r ∷ []) rest)

@@ -130,8 +130,10 @@ impl Cert {
         ensures yes { result ≡ Ok true → self.new ≡ self.old ++ like_rows (drop place self.old) prefix ranks.now }
         ensures no { result ≢ Ok true → self.new ≡ self.old }
     {
-        let _ = prefix.digits();
-        self.kept.repeat_run(place, prefix, ranks)
+        if rows_from(self.rows(), place).len() != ranks.len() {
+            return Ok(false);
+        }
+        self.repeat_front(place, prefix, ranks)
     }
 
     /// The rows in the order in which they were added.
@@ -239,6 +241,26 @@ impl Cert {
         ensures err { OnErr result (self.new ≡ self.old) }
     {
         self.kept.add_to_last(row)
+    }
+
+    /// Where the last prefix's rows begin, where those of each prefix stand together.
+    pub(crate) fn last_run(&self) -> Option<usize> {
+        self.kept.last_run()
+    }
+
+    /// Adds rows as `repeat_run` does, but only for so many of the first rows of the last prefix as there are ranks.
+    pub(crate) fn repeat_front(
+        &mut self,
+        place: usize,
+        prefix: Prefix,
+        ranks: &[u16],
+    ) -> Result<bool, AllocError>
+        ensures yes { result ≡ Ok true → self.new ≡ self.old ++ like_rows (drop place self.old) prefix ranks.now }
+        ensures no { result ≢ Ok true → self.new ≡ self.old }
+        ensures good { IsCert self.new }
+    {
+        let _ = prefix.digits();
+        self.kept.repeat_run(place, prefix, ranks)
     }
 }
 

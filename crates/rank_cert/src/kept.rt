@@ -114,7 +114,15 @@ impl Kept {
         }
     }
 
-    /// Adds a row of a prefix for each row from a place on, with its name and the next of these ranks, where the rows of each prefix stand
+    /// Where the last prefix's rows begin, where those of each prefix stand together.
+    pub fn last_run(&self) -> Option<usize> {
+        match self {
+            Kept::Together(runs) => Some(runs.last()),
+            Kept::Apart(_) => None,
+        }
+    }
+
+    /// Adds a row of a prefix for each of these ranks, with the name of the next row from a place on, where the rows of each prefix stand
     /// together and those are the last prefix's.
     pub fn repeat_run(
         &mut self,

@@ -1,12 +1,12 @@
 //! Certificates from text.
 ghost use Rattle.std.specs.Prelude.{◌≡◌, [], codes};
 ghost use Rattle.card_digits.specs.Lines.{lines};
-ghost use Rattle.card_digits.specs.Attempts.{Gives};
-ghost use Rattle.rank_cert.specs.Reading.{is_line, new_row, line_behind, rows_in, cert_in, is_memory};
+ghost use Rattle.card_digits.specs.Attempts.{Gives, Fails};
+ghost use Rattle.rank_cert.specs.Reading.{is_line, new_row, line_behind, row_of, rows_in, cert_in, is_memory};
 
 use crate::cert::Cert;
 use crate::fault::CertFault;
-use crate::row::{Spelled, add_all_like, row_of};
+use crate::row::{Spelled, add_all_like, add_repeated, row_of};
 use card_digits::first_line;
 use std::alloc::Global;
 
@@ -57,7 +57,7 @@ fn read_rows(alloc: Global, text: &[u8]) -> Result<Cert, CertFault>
             return ended(cert, behind);
         }
         let place = cert.rows().len();
-        let spelled = read_row(&mut cert, line)?;
+        let (spelled, behind) = read_run(&mut cert, line, behind)?;
         rest = add_all_like(&mut cert, &spelled, place.wrapping_sub(before), behind)?;
         before = place;
     }
@@ -75,19 +75,29 @@ fn ended(cert: Cert, behind: &[u8]) -> Result<Cert, CertFault>
     }
 }
 
-ghost use Rattle.std.specs.Prelude.{IfOk};
+ghost use Rattle.std.specs.Prelude.{◌≤◌, length, IfOk, IfErr};
 ghost use Rattle.rank_cert.specs.Ranks.{EndsWith};
-ghost use Rattle.rank_cert.specs.Reading.{ended, Adds};
+ghost use Rattle.rank_cert.specs.Reading.{ended, rows_with};
 
-/// Adds the row of the next line, and gives its prefix.
-fn read_row<'a>(cert: &mut Cert, line: &'a [u8]) -> Result<Spelled<'a>, CertFault>
-    ensures row { Adds cert.old cert.new line.now result }
-    ensures ends { IfOk result (λ prefix. EndsWith prefix cert.new) }
+/// Adds the row of the next line, and with it those of lines behind it that have the names of the last prefix's rows. Gives the row's
+/// prefix, and what stands behind the lines.
+fn read_run<'a>(
+    cert: &mut Cert,
+    line: &'a [u8],
+    behind: &'a [u8],
+) -> Result<(Spelled<'a>, &'a [u8]), CertFault>
+    ensures on { IfOk result (λ p. rows_with cert.old (row_of line.now) (lines behind.now) ≡ rows_in cert.new (lines p.1.now)) }
+    ensures ends { IfOk result (λ p. EndsWith p.0 cert.new) }
+    ensures shorter { IfOk result (λ p. length p.1.now ≤ length behind.now) }
+    ensures fault { IfErr result (λ e. Fails is_memory e (new_row cert.old (row_of line.now))) }
 {
     let number = cert.rows().len() + 2;
     let (row, spelled) = row_of(line).ok_or(CertFault::Line(number))?;
+    if let Some(rest) = add_repeated(cert, &row, &spelled, behind)? {
+        return Ok((spelled, rest));
+    }
     if cert.add_row(row)? {
-        Ok(spelled)
+        Ok((spelled, behind))
     } else {
         Err(CertFault::Twice(number))
     }

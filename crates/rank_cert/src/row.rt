@@ -1,14 +1,15 @@
 //! A row as a line of the text.
-ghost use Rattle.std.specs.Prelude.{◌≡◌, ℕ, List, ◌==◌, ◌<◌, ◌≤◌, ◌++◌, false, length, All, IfSome, IfOk, IfErr, MatchOption, option_map};
+ghost use Rattle.std.specs.Prelude.{◌≡◌, ℕ, List, ◌==◌, ◌<◌, ◌≤◌, ◌++◌, ◌∷◌, true, false, length, take, drop, get_or, Some, All, IfSome, IfOk, IfErr, MatchOption, option_map};
 ghost use Rattle.card_digits.specs.Cut.{IsCut};
 ghost use Rattle.card_digits.specs.Lines.{lines};
-ghost use Rattle.rank_cert.specs.Ranks.{IsRow, EndsWith};
+ghost use Rattle.rank_cert.specs.Ranks.{like_rows, IsRow, EndsWith};
 ghost use Rattle.card_digits.specs.Attempts.{Fails};
-ghost use Rattle.rank_cert.specs.Reading.{row_of, number_of, rows_in, is_memory};
-ghost use Rattle.rank_cert.specs.Like.{IsNamed, IsRanked, IsLike};
+ghost use Rattle.rank_cert.specs.Reading.{row_of, number_of, rows_in, rows_with, is_memory};
+ghost use Rattle.rank_cert.specs.Like.{IsNamed, IsRanked, IsLike, AreLike};
 
-use crate::cert::{Cert, Rank};
+use crate::cert::{Cert, NEAR, Rank};
 use crate::fault::CertFault;
+use crate::runs::rows_from;
 use card_digits::{Name, Prefix, all_digits, decimal, same_bytes};
 use std::marker::Model;
 
@@ -39,7 +40,7 @@ fn field(text: &[u8]) -> Option<(&[u8], &[u8])>
 }
 
 /// What stands behind a word, where the text begins with it.
-#[inline]
+#[inline(always)]
 fn behind_word<'a>(text: &'a [u8], word: &[u8]) -> Option<&'a [u8]>
     ensures { IfSome result (λ rest. text.now ≡ word.now ++ rest.now) }
 {
@@ -51,7 +52,7 @@ fn behind_word<'a>(text: &'a [u8], word: &[u8]) -> Option<&'a [u8]>
 }
 
 /// What stands behind a name and a space, where the text begins with them.
-#[inline]
+#[inline(always)]
 fn behind_name<'a>(text: &'a [u8], name: Name) -> Option<&'a [u8]>
     ensures { IfSome result (λ behind. IsNamed text.now name behind.now) }
 {
@@ -80,7 +81,7 @@ fn name_in_front<'a>(text: &'a [u8], rows: &[Rank], place: usize) -> Option<(Nam
 const MOST_DIGITS: usize = 5;
 
 /// The rank that is all that stands before the first line feed, and what stands behind that.
-#[inline]
+#[inline(always)]
 fn last_number(text: &[u8]) -> Option<(u16, &[u8])>
     ensures { IfSome result (λ p. IsRanked text.now p.0 p.1.now) }
 {
@@ -123,13 +124,100 @@ impl Spelled<'_> {
         ensures prefix { IfSome result (λ p. p.0.prefix ≡ self.now) }
         ensures good { IfSome result (λ p. IsRow p.0) }
     {
-        let (rank, rest) = last_number(behind_word(behind, self.text)?)?;
+        let (rank, rest) = self.rank_behind(behind)?;
         let row = Rank {
             node,
             prefix: self.prefix,
             rank,
         };
         Some((row, rest))
+    }
+
+    /// The rank of that row.
+    #[inline(always)]
+    fn rank_behind<'t>(&self, behind: &'t [u8]) -> Option<(u16, &'t [u8])>
+        ensures { IfSome result (λ p. (text name : List ℕ) → IsNamed text name behind.now → IsLike text (record { node = name; prefix = self.now; rank = p.0 }) p.1.now) }
+    {
+        let (rank, rest) = last_number(behind_word(behind, self.text)?)?;
+        Some((rank, rest))
+    }
+
+    /// The rank of the first line, where that has this name and spells this prefix in this way, and what stands behind the line.
+    #[inline(always)]
+    fn rank_of<'t>(&self, name: Name, text: &'t [u8]) -> Option<(u16, &'t [u8])>
+        ensures { IfSome result (λ p. IsLike text.now (record { node = name; prefix = self.now; rank = p.0 }) p.1.now) }
+    {
+        let (rank, rest) = self.rank_behind(behind_name(text, name)?)?;
+        Some((rank, rest))
+    }
+}
+
+/// Reads the ranks of the lines that spell this prefix and have the names of these rows, one after the other, up to the first other line.
+/// The first row's rank is there already. Gives how many ranks there are then, and what stands behind their lines.
+#[inline(never)]
+fn read_ranks<'a>(
+    run: &[Rank],
+    spelled: &Spelled,
+    ranks: &mut [u16; NEAR],
+    text: &'a [u8],
+) -> (usize, &'a [u8])
+    requires { 0 < length run.now }
+    ensures some { 0 < result.0 }
+    ensures most { result.0 ≤ 64 }
+    ensures first { get_or ranks.new 0 0 ≡ get_or ranks.old 0 0 }
+    ensures like { AreLike text.now (drop 1 (like_rows run.now spelled.now (take result.0 ranks.new))) result.1.now }
+{
+    let mut rest = text;
+    let count = run.len().min(NEAR);
+    for i in 1..count {
+        let Some((rank, behind)) = spelled.rank_of(run[i].node, rest) else {
+            return (i, rest);
+        };
+        ranks[i] = rank;
+        rest = behind;
+    }
+    (count, rest)
+}
+
+/// Adds the row of a line together with those of the lines behind it, as many as have the names of the last prefix's rows, one after the
+/// other, and spell the row's prefix: such rows are new where their prefix is, so no name is looked for. Gives what stands behind them.
+#[inline(never)]
+pub(crate) fn add_repeated<'a>(
+    cert: &mut Cert,
+    row: &Rank,
+    spelled: &Spelled,
+    text: &'a [u8],
+) -> Result<Option<&'a [u8]>, CertFault>
+    requires { spelled.now ≡ row.now.prefix }
+    ensures on { IfOk result (λ o. MatchOption o (cert.new ≡ cert.old) (λ rest. rows_with cert.old (Some row.now) (lines text.now) ≡ rows_in cert.new (lines rest.now))) }
+    ensures ends { IfOk result (λ o. IfSome o (λ _. EndsWith row.now.prefix cert.new)) }
+    ensures shorter { IfOk result (λ o. IfSome o (λ rest. length rest.now ≤ length text.now)) }
+    ensures fault { IfErr result (λ e. is_memory e ≡ true) }
+{
+    let Some(place) = cert.last_run() else {
+        return Ok(None);
+    };
+    let run = rows_from(cert.rows(), place);
+    if !begins_with_name(run, &row.node) {
+        return Ok(None);
+    }
+    let mut ranks = [row.rank; NEAR];
+    let (count, rest) = read_ranks(run, spelled, &mut ranks, text);
+    if cert.repeat_front(place, row.prefix, &ranks[..count])? {
+        Ok(Some(rest))
+    } else {
+        Ok(None)
+    }
+}
+
+/// Whether the first row has the name.
+fn begins_with_name(rows: &[Rank], name: &Name) -> bool
+    ensures some { result ≡ true → 0 < length rows.now }
+    ensures named { result ≡ true → (r : Rank) (rs : List Rank) → rows.now ≡ r ∷ rs → r.node ≡ name.now }
+{
+    match rows.first() {
+        Some(row) => row.node == *name,
+        None => false,
     }
 }
 

@@ -129,8 +129,13 @@ impl Runs {
         }
     }
 
-    /// Adds a row of a prefix that has none for each row of the last run, with its name and the next of these ranks. The run has to
-    /// begin at the place, and to have as many rows.
+    /// Where the last run begins.
+    pub fn last(&self) -> usize {
+        self.last
+    }
+
+    /// Adds a row of a prefix that has none for each of these ranks, with the name of the next row of the last run. The run has to begin
+    /// at the place, and to have so many rows at least.
     pub fn repeat_run(
         &mut self,
         place: usize,
@@ -142,15 +147,17 @@ impl Runs {
         ensures no { result ≢ Ok true → self.new ≡ self.old }
     {
         let begin = self.rows.len();
-        if place != self.last || place >= begin || begin - place != ranks.len() {
+        if place != self.last || place >= begin || ranks.is_empty() || ranks.len() > begin - place {
             return Ok(false);
         }
-        if begin_repeat(&mut self.rows, &mut self.begins, place, prefix, ranks)? {
-            self.last = begin;
-            Ok(true)
-        } else {
-            Ok(false)
+        if !begin_repeat(&mut self.rows, &mut self.begins, place, prefix, ranks)? {
+            return Ok(false);
         }
+        self.last = begin;
+        if ranks.len() < begin - place {
+            self.marks = marks_of(rows_from(&self.rows, begin));
+        }
+        Ok(true)
     }
 
     /// The same rows as a set, in which rows of one prefix may stand apart.
@@ -262,7 +269,8 @@ fn begin_run(
     Ok(true)
 }
 
-/// Begins a run of a prefix that has none, with a row for each row from a place on. Memory is asked for before anything is written.
+/// Begins a run of a prefix that has none, with a row for each of these ranks and the name of the next row from a place on. Memory is
+/// asked for before anything is written.
 fn begin_repeat(
     rows: &mut Vec<Rank>,
     begins: &mut HashMap<Prefix, usize>,
@@ -270,7 +278,7 @@ fn begin_repeat(
     prefix: Prefix,
     ranks: &[u16],
 ) -> Result<bool, AllocError>
-    requires { place + length ranks.now ≡ length rows.old.items }
+    requires { place + length ranks.now ≤ length rows.old.items }
     ensures new { result ≡ Ok true → begin_of begins.old.entries prefix ≡ None }
     ensures rows { result ≡ Ok true → rows.new.items ≡ rows.old.items ++ like_rows (drop place rows.old.items) prefix ranks.now }
     ensures begins { result ≡ Ok true → (p : List ℕ) → begin_of begins.new.entries p ≡ (if pointwise ◌==◌ prefix p then Some (length rows.old.items) else begin_of begins.old.entries p) }
@@ -286,9 +294,9 @@ fn begin_repeat(
     Ok(true)
 }
 
-/// Adds a row for each row from a place on, with its name and the next of these ranks.
+/// Adds a row for each of these ranks, with the name of the next row from a place on.
 fn repeat_names(rows: &mut Vec<Rank>, place: usize, prefix: Prefix, ranks: &[u16])
-    requires each { place + length ranks.now ≡ length rows.old.items }
+    requires each { place + length ranks.now ≤ length rows.old.items }
     requires room { vec_len rows.old + length ranks.now ≤ vec_capacity rows.old }
     ensures { rows.new.items ≡ rows.old.items ++ like_rows (drop place rows.old.items) prefix ranks.now }
 {
@@ -297,6 +305,17 @@ fn repeat_names(rows: &mut Vec<Rank>, place: usize, prefix: Prefix, ranks: &[u16
         let rank = ranks[i];
         rows.push_reserved(Rank { node, prefix, rank });
     }
+}
+
+/// The marks of the names of some rows.
+fn marks_of(rows: &[Rank]) -> Marks
+    ensures { AreMarked result rows.now }
+{
+    let mut marks = Marks::none();
+    for row in rows {
+        marks.mark(place_of(row.node.as_slice()));
+    }
+    marks
 }
 
 /// The rows as a set. None is lost, since no two have the same pair.
