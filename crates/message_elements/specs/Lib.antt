@@ -3,3 +3,4 @@ pub mod Groups
 pub mod Table
 pub mod Values
 pub mod Codes
+pub mod Fixed

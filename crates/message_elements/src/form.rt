@@ -1,6 +1,7 @@
 //! The table of elements (ISO 8583:1987, the elements that this profile takes).
 ghost use Rattle.std.specs.Prelude.{◌≡◌, ℕ, ◌<◌, None, slice_index_or};
 ghost use Rattle.message_elements.specs.Table.{form_of};
+ghost use Rattle.message_elements.specs.Fixed.{fixed_of};
 
 /// Which bytes an element takes.
 #[derive(Clone, Copy, Debug, PartialEq, Eq)]
@@ -157,6 +158,31 @@ static FORMS: [Option<Form>; 129] = [
     Some(Form::Binary), // 128: message authentication code
 ];
 
+/// The class and the length of an element of a fixed length.
+#[derive(Clone, Copy, Debug, PartialEq, Eq)]
+pub struct FixedForm {
+    pub class: Class,
+    pub size: u8,
+}
+
+/// How many bytes each element has, 0 for one that hasn't always so many.
+static FIXED_SIZES: [u8; 129] = [
+    0, 0, 0, 6, 12, 12, 12, 10, 8, 8, 8, 6, 6, 4, 4, 4, 4, 4, 4, 3, 3, 3, 3, 3, 3, 2, 2, 1, 9, 9,
+    9, 9, 0, 0, 0, 0, 0, 12, 6, 2, 3, 8, 15, 40, 0, 0, 0, 0, 0, 3, 3, 3, 0, 16, 0, 0, 0, 0, 0, 0,
+    0, 0, 0, 0, 0, 0, 0, 0, 0, 0, 3, 0, 0, 0, 0, 0, 0, 0, 0, 0, 0, 0, 0, 0, 0, 0, 0, 0, 0, 0, 42,
+    0, 0, 0, 0, 42, 0, 0, 0, 0, 0, 0, 0, 0, 0, 0, 0, 0, 0, 0, 0, 0, 0, 0, 0, 0, 0, 0, 0, 0, 0, 0,
+    0, 0, 0, 0, 0, 0, 0,
+];
+
+/// The same of the elements of text alone.
+static FIXED_TEXT: [u8; 129] = [
+    0, 0, 0, 0, 0, 0, 0, 0, 0, 0, 0, 0, 0, 0, 0, 0, 0, 0, 0, 0, 0, 0, 0, 0, 0, 0, 0, 0, 9, 9, 9, 9,
+    0, 0, 0, 0, 0, 12, 6, 2, 3, 8, 15, 40, 0, 0, 0, 0, 0, 3, 3, 3, 0, 0, 0, 0, 0, 0, 0, 0, 0, 0, 0,
+    0, 0, 0, 0, 0, 0, 0, 0, 0, 0, 0, 0, 0, 0, 0, 0, 0, 0, 0, 0, 0, 0, 0, 0, 0, 0, 0, 0, 0, 0, 0, 0,
+    42, 0, 0, 0, 0, 0, 0, 0, 0, 0, 0, 0, 0, 0, 0, 0, 0, 0, 0, 0, 0, 0, 0, 0, 0, 0, 0, 0, 0, 0, 0,
+    0, 0, 0,
+];
+
 /// The table here is that of the specs, number by number.
 pub(crate) fn one_table()
     ensures { (number : ℕ) → number < 129 → slice_index_or FORMS number None ≡ form_of number }
@@ -172,4 +198,25 @@ pub fn form_at(number: u8) -> Option<Form>
         return FORMS[place];
     }
     None
+}
+
+/// The class and the length of an element of a fixed length, none for another element. It is sooner looked up than the form.
+#[inline(always)]
+pub fn fixed_form_at(number: u8) -> Option<FixedForm>
+    ensures { result ≡ fixed_of (form_of number) }
+{
+    let place = number as usize;
+    if place >= FIXED_SIZES.len() {
+        return None;
+    }
+    let size = FIXED_SIZES[place];
+    if size == 0 {
+        return None;
+    }
+    let class = if FIXED_TEXT[place] == 0 {
+        Class::Digits
+    } else {
+        Class::Text
+    };
+    Some(FixedForm { class, size })
 }

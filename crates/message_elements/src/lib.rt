@@ -10,6 +10,6 @@ mod values;
 
 pub use code::Code;
 pub use fault::DecodeFault;
-pub use form::{Class, Form, form_at};
+pub use form::{Class, FixedForm, Form, fixed_form_at, form_at};
 pub use kind::{Group, Kind};
 pub use values::{are_of, value_fault};
