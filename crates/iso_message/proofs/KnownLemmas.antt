@@ -1,10 +1,10 @@
 -- What is known of bytes, as these are read.
 use Rattle.std.proofs.Common.{◌≡◌, ℕ, ◌+◌, ◌-◌, ◌≤◌, true, List, ◌++◌, Ok, length, take, drop, refl, sym, ap, subst, ◌∙◌, arith, inl, inr}
-use Rattle.std.proofs.lemmas.Bool.{and_parts, cases_lt}
+use Rattle.std.proofs.lemmas.Bool.{and_parts, cases_lt, leb-true, le-leb}
 use Rattle.std.proofs.lemmas.List.{take-append-drop, length-append, length-take-le}
 use Rattle.std.proofs.lemmas.List.Folds.{list_all-append}
 use Rattle.std.proofs.Math.Seq.{take-append-add}
-use Rattle.std.specs.List.{list_all}
+use Rattle.std.specs.List.{list_all, slice_index}
 use Rattle.message_elements.specs.Values.{fits}
 use Rattle.iso_message.specs.Elements.{binary_at}
 use Rattle.iso_message.proofs.Pieces.{binary_takes}
@@ -52,3 +52,20 @@ pub front_of : (class : Class) (bytes : List ℕ) (run : ℕ) → run ≤ length
 front_of class bytes run le h =
     let same : length bytes - (length bytes - run) ≡ run = omega (arith, le) in
     rw same (front_passes (fits class) bytes run le h)
+
+text_of_digit : (b : ℕ) → fits Digits b ≡ true → fits Text b ≡ true
+text_of_digit b h =
+    let d = and_parts _ _ h in
+    let low = leb-true 48 b d.0 in
+    let high = leb-true b 57 d.1 in
+    rw (le-leb 32 b (omega (arith, low)), le-leb b 126 (omega (arith, high))) refl
+
+-- all bytes are digits
+pub all_digits : (bytes : List ℕ) (run : ℕ) → run ≡ length bytes → PassBetween (fits Digits) bytes 0 run → IsKnown (record { digits = 0; text = 0 }) bytes
+all_digits bytes run e h =
+    let le : run ≤ length bytes = omega (arith, e) in
+    let all : length bytes - 0 ≡ run = omega (arith, e) in
+    record {
+      digits = ap (λ k. list_all (fits Digits) (take k bytes)) all ∙ front_passes (fits Digits) bytes run le h;
+      text = ap (λ k. list_all (fits Text) (take k bytes)) all ∙ front_passes (fits Text) bytes run le (λ k from below. text_of_digit (slice_index bytes k) (h k from below));
+    }

@@ -1,17 +1,18 @@
 -- Elements as they are read of a body, and their pieces.
-use Rattle.std.proofs.Common.{◌≡◌, ℕ, ◌+◌, ◌-◌, ◌/◌, ◌%◌, ◌≤◌, true, List, [], ◌∷◌, ◌++◌, length, take, drop, Some, Ok, sym, ap, ap₂, ◌∙◌, append_assoc, arith, length-append}
+use Rattle.std.proofs.Common.{◌≡◌, ℕ, ◌+◌, ◌-◌, ◌/◌, ◌%◌, ◌<◌, ◌≤◌, true, false, List, [], ◌∷◌, ◌++◌, length, take, drop, Option, Some, None, Ok, refl, sym, ap, ap₂, ◌∙◌, append_assoc, arith, length-append}
 use Rattle.std.specs.Prelude.{slice_range}
 use Rattle.std.proofs.lemmas.Bool.{and_parts, leb-true}
 use Rattle.std.proofs.lemmas.List.{take-append-drop, take_at, drop_at, length-take-le}
 use Rattle.message_elements.specs.declared.form.Class.{Class}
 use Rattle.message_elements.specs.declared.form.Class.TheVariants.{Digits}
+use Rattle.message_elements.specs.declared.form.Form.{Form}
 use Rattle.message_elements.specs.declared.form.Form.TheVariants as forms
 use Rattle.iso_message.specs.declared.elements.Span.{Span}
 use Rattle.message_elements.specs.Values.{fits}
-use Rattle.iso_message.specs.Elements.{content_at, counted_at, binary_at}
+use Rattle.iso_message.specs.Elements.{content_at, counted_at, binary_at, field_at}
 use Rattle.iso_message.specs.Grammar.{Writes}
 use Rattle.message_elements.specs.Table.{form_of}
-use Rattle.iso_message.specs.Spelling.{two_digits, three_digits, piece}
+use Rattle.iso_message.specs.Spelling.{two_digits, three_digits, piece, is_binary}
 use Rattle.iso_message.specs.Spans.{text_of, start_of, end_of, seen, AreWithin}
 use Rattle.iso_message.specs.Parts.{Body, IsEnd, IsPart}
 use Rattle.iso_message.proofs.SpansMore.{range_more, within_push, seen_push}
@@ -125,6 +126,18 @@ three_part class most n bytes v rest f e =
       digits = omega (arith, p.2.0);
       few = omega (arith, p.3, few_listed n (forms.Lllvar class most) f);
     }
+
+-- of any form but that of eight bytes
+pub plain_part : (form : Option Form) (n : ℕ) (bytes v rest : List ℕ) → form_of n ≡ form → is_binary form ≡ false → field_at form n bytes ≡ Ok (v, rest) → IsPart n bytes v rest
+plain_part None n bytes v rest f plain e = cc e
+plain_part (Some (forms.Fixed class size)) n bytes v rest f plain e = fixed_part class size n bytes v rest f e
+plain_part (Some (forms.Llvar class most)) n bytes v rest f plain e = two_part class most n bytes v rest f e
+plain_part (Some (forms.Lllvar class most)) n bytes v rest f plain e = three_part class most n bytes v rest f e
+plain_part (Some forms.Binary) n bytes v rest f plain e = cc plain
+
+-- such a value is short
+pub plain_few : (n : ℕ) (bytes v rest : List ℕ) → is_binary (form_of n) ≡ false → field_at (form_of n) n bytes ≡ Ok (v, rest) → length v < 1_000
+plain_few n bytes v rest plain e = (plain_part (form_of n) n bytes v rest refl plain e).few
 
 -- the view with one element more
 pub added : (values body : List ℕ) (spans more : List Span) (old : Body) (n : ℕ) (v : List ℕ) → body ≡ old.body → seen values spans ≡ old.elements → seen values more ≡ seen values spans ++ (n, v) ∷ []

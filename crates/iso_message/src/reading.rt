@@ -1,5 +1,5 @@
 //! Reading a message.
-ghost use Rattle.std.specs.Prelude.{◌≡◌, ◌<◌, ◌≤◌, ◌⊎◌, true, [], length, IfOk, IfErr, OnErr, MatchResult, Ok, Err};
+ghost use Rattle.std.specs.Prelude.{◌≡◌, ◌<◌, ◌≤◌, ◌⊎◌, true, [], ◌∷◌, length, IfOk, IfErr, OnErr, MatchResult, Ok, Err};
 ghost use Rattle.hex.specs.Hex.{decode_sized};
 ghost use Rattle.std.specs.List.{list_all};
 ghost use Rattle.message_elements.specs.Types.{kind_of};
@@ -163,6 +163,19 @@ fn add_next<'a>(
     }
 }
 
+/// Takes the highest bit off a map, and returns the number that it stands for. The lowest bit stands for the last number.
+#[inline(always)]
+pub(crate) fn take_mark(map: &mut u64, last: u8) -> u8
+    requires some { 0 < map.old }
+    requires least { 64 ≤ last }
+    requires most { last ≤ 128 }
+    ensures { marks last 64 map.old ≡ result ∷ marks last 64 map.new }
+{
+    let place = 63 - map.leading_zeros();
+    *map -= 1 << place;
+    last - place as u8
+}
+
 /// Reads the elements of a bit map's set bits, and adds them.
 fn add_all<'a>(
     parts: &mut Parts,
@@ -182,10 +195,8 @@ fn add_all<'a>(
     let mut left = map;
     let mut rest = bytes;
     while left != 0 {
-        let place = 63 - left.leading_zeros();
-        let number = last - place as u8;
+        let number = take_mark(&mut left, last);
         rest = add_next(parts, number, rest, known)?;
-        left -= 1 << place;
     }
     Ok(rest)
 }

@@ -123,6 +123,9 @@ impl Known {
         ensures { IsKnown result bytes.now }
     {
         let digits = run_from(Class::Digits, bytes, 0);
+        if digits == bytes.len() {
+            return Known { digits: 0, text: 0 };
+        }
         let text = run_from(Class::Text, bytes, digits);
         Known {
             digits: bytes.len() - digits,

@@ -1,15 +1,15 @@
 //! A message that is read element by element, and isn't kept.
-ghost use Rattle.std.specs.Prelude.{◌≡◌, ◌<◌, ◌≤◌, ◌==◌, true, false, [], ◌∷◌, length, take, drop, MatchOption, MatchResult, IfOk, IfSome, OnErr, Ok, Err};
+ghost use Rattle.std.specs.Prelude.{◌≡◌, ◌≤◌, ◌==◌, true, false, [], ◌∷◌, length, take, drop, MatchOption, MatchResult, IfOk, IfSome, OnErr, Ok, Err};
 ghost use Rattle.message_elements.specs.Table.{form_of};
 ghost use Rattle.iso_message.specs.Elements.{content_at, field_at};
 ghost use Rattle.iso_message.specs.Known.{IsKnown};
-ghost use Rattle.iso_message.specs.Messages.{marks, read};
+ghost use Rattle.iso_message.specs.Messages.{read};
 ghost use Rattle.iso_message.specs.Spelling.{is_binary};
 ghost use Rattle.iso_message.specs.Unread.{read_on};
 
-use crate::reading::{binary_of, bit_map, length_of, read_kind, second_map};
+use crate::reading::{binary_of, bit_map, length_of, read_kind, second_map, take_mark};
 use crate::runs::Known;
-use message_elements::{Class, DecodeFault, Form, Kind, form_at};
+use message_elements::{Class, DecodeFault, FixedForm, Form, Kind, fixed_form_at, form_at};
 use std::marker::Model;
 
 /// What of a message is still to be read: the elements of its maps' bits.
@@ -34,66 +34,63 @@ impl<'a> Model for Unread<'a> {
     ghost invariant = { λ a. IsKnown a.known a.bytes.now };
 }
 
-/// Takes the highest bit off a map, and returns the number that it stands for. The lowest bit stands for the last number.
-#[inline(always)]
-fn take_mark(map: &mut u64, last: u8) -> u8
-    requires some { 0 < map.old }
-    requires least { 64 ≤ last }
-    requires most { last ≤ 128 }
-    ensures { marks last 64 map.old ≡ result ∷ marks last 64 map.new }
-{
-    let place = 63 - map.leading_zeros();
-    *map -= 1 << place;
-    last - place as u8
+/// Where the value of an element stands: its class and its length, and the bytes from its first on.
+#[derive(Clone, Copy, Debug)]
+struct Head<'a> {
+    class: Class,
+    size: usize,
+    front: &'a [u8],
 }
 
-/// The class and the length of an element's value, and the bytes from the value on; none for an element of eight bytes.
+/// The head of the element that bytes begin with, none for an element of eight bytes.
 #[inline(always)]
 #[tactic(auto, unfolding(crate::specs::Elements::counted_at))]
-fn head_of<'a>(
-    number: u8,
-    bytes: &'a [u8],
-    known: &Known,
-) -> Result<Option<(Class, usize, &'a [u8])>, DecodeFault>
+fn head_of<'a>(number: u8, bytes: &'a [u8], known: &Known) -> Result<Option<Head<'a>>, DecodeFault>
     requires { IsKnown known.now bytes.now }
-    ensures value { MatchResult result (λ x. MatchOption x (is_binary (form_of number) ≡ true) (λ y. field_at (form_of number) number bytes.now ≡ content_at y.0 y.1 number y.2.now)) (λ fault. field_at (form_of number) number bytes.now ≡ Err fault) }
+    ensures value { MatchResult result (λ x. MatchOption x (is_binary (form_of number) ≡ true) (λ head. field_at (form_of number) number bytes.now ≡ content_at head.class head.size number head.front.now)) (λ fault. field_at (form_of number) number bytes.now ≡ Err fault) }
     ensures other { IfOk result (λ x. IfSome x (λ _. is_binary (form_of number) ≡ false)) }
-    ensures known { IfOk result (λ x. IfSome x (λ y. IsKnown known.now y.2.now)) }
+    ensures known { IfOk result (λ x. IfSome x (λ head. IsKnown known.now head.front.now)) }
 {
+    if let Some(FixedForm { class, size }) = fixed_form_at(number) {
+        let size = size as usize;
+        return Ok(Some(Head {
+            class,
+            size,
+            front: bytes,
+        }));
+    }
     match form_at(number) {
         None => Err(DecodeFault::Element(number)),
-        Some(Form::Fixed(class, size)) => Ok(Some((class, size, bytes))),
+        Some(Form::Fixed(class, size)) => Ok(Some(Head {
+            class,
+            size,
+            front: bytes,
+        })),
         Some(Form::Llvar(class, most)) => {
-            let (len, rest) = length_of(2, most, number, bytes, known)?;
-            Ok(Some((class, len, rest)))
+            let (size, front) = length_of(2, most, number, bytes, known)?;
+            Ok(Some(Head { class, size, front }))
         }
         Some(Form::Lllvar(class, most)) => {
-            let (len, rest) = length_of(3, most, number, bytes, known)?;
-            Ok(Some((class, len, rest)))
+            let (size, front) = length_of(3, most, number, bytes, known)?;
+            Ok(Some(Head { class, size, front }))
         }
         Some(Form::Binary) => Ok(None),
     }
 }
 
-/// What is known where the value that bytes begin with is of its class, of which it has so many bytes.
+/// What is known where the value behind a head is of its class, of which it has so many bytes.
 #[inline(always)]
 #[tactic(auto, unfolding(crate::specs::Elements::content_at))]
-fn front_of(
-    class: Class,
-    size: usize,
-    number: u8,
-    bytes: &[u8],
-    known: Known,
-) -> Result<Known, DecodeFault>
-    requires { IsKnown known bytes.now }
-    ensures value { MatchResult result (λ _. content_at class size number bytes.now ≡ Ok (take size bytes.now, drop size bytes.now)) (λ fault. content_at class size number bytes.now ≡ Err fault) }
-    ensures size { IfOk result (λ _. size ≤ length bytes.now) }
-    ensures known { IfOk result (λ k. IsKnown k bytes.now) }
+fn with_value(head: Head, number: u8, known: Known) -> Result<Known, DecodeFault>
+    requires { IsKnown known head.front.now }
+    ensures value { MatchResult result (λ _. content_at head.entry.class head.entry.size number head.entry.front.now ≡ Ok (take head.entry.size head.entry.front.now, drop head.entry.size head.entry.front.now)) (λ fault. content_at head.entry.class head.entry.size number head.entry.front.now ≡ Err fault) }
+    ensures size { IfOk result (λ _. head.entry.size ≤ length head.entry.front.now) }
+    ensures known { IfOk result (λ k. IsKnown k head.entry.front.now) }
 {
-    if bytes.len() < size {
+    if head.front.len() < head.size {
         return Err(DecodeFault::Short);
     }
-    match known.with_front(class, size, bytes) {
+    match known.with_front(head.class, head.size, head.front) {
         Some(more) => Ok(more),
         None => Err(DecodeFault::Character(number)),
     }
@@ -145,11 +142,11 @@ impl<'a> Unread<'a> {
     {
         match head_of(number, self.bytes, &self.known)? {
             None => Ok(None),
-            Some((class, size, front)) => {
-                self.known = front_of(class, size, number, front, self.known)?;
-                let (_, rest) = front.split_at(size);
+            Some(head) => {
+                self.known = with_value(head, number, self.known)?;
+                let (_, rest) = head.front.split_at(head.size);
                 self.bytes = rest;
-                Ok(Some((front, size)))
+                Ok(Some((head.front, head.size)))
             }
         }
     }

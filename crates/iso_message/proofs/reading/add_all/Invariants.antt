@@ -1,4 +1,4 @@
-use Rattle.std.proofs.Common.{◌≡◌}
+use Rattle.std.proofs.Common.{◌≡◌, length}
 use Rattle.iso_message.specs.Elements.{with_all}
 use Rattle.iso_message.specs.Messages.{marks}
 use Rattle.iso_message.specs.Known.{IsKnown}
@@ -13,4 +13,4 @@ invariant-loop-left l = record {
 }
 
 abbrev pub decreases-loop-left : goal.decreases-loop-left
-decreases-loop-left l = l.left
+decreases-loop-left l = length (marks l.last 64 l.left)

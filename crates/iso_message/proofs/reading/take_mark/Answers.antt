@@ -1,6 +1,6 @@
 use Rattle.std.proofs.Common.{arith}
 use Rattle.iso_message.proofs.Steps.{top_bit-le, marks_next}
-use Rattle.iso_message.proofs.unread.take_mark.Goals as goal
+use Rattle.iso_message.proofs.reading.take_mark.Goals as goal
 
 pub overflow_sub-map : goal.overflow_sub-map
 overflow_sub-map c = top_bit-le c.args.map.now c.requires.some (omega arith)
