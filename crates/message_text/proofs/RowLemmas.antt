@@ -1,6 +1,6 @@
 -- Bytes written in the front of a row.
 use Rattle.std.proofs.Common.{◌≡◌, ℕ, ◌+◌, ◌≤◌, List, Option, Some, ◌++◌, length, take, drop, sym, ap, subst, ◌∙◌, append_assoc, length-append, arith}
-use Rattle.std.specs.Prelude.{IfSome}
+use Rattle.std.specs.Prelude.{MatchOption}
 use Rattle.std.proofs.lemmas.List.{take-append-drop, take-take, take_at, length-take-le}
 use Rattle.std.proofs.Math.Seq.{take-append-add}
 
@@ -19,8 +19,8 @@ two_words old mid new bytes first last at r m end n k front r_is first_is enough
     whole ∙ ap (λ z. z ++ last) (kept ∙ ap (λ z. before ++ z) same) ∙ append_assoc before (take k bytes) last ∙ ap (λ z. before ++ z) (ap (λ z. take k bytes ++ z) last_is ∙ take-append-drop k bytes)
 
 -- what is said of the value in an option that has one
-pub of_some : {A : Type 0} {x : Option A} {a : A} (P : A → Type 0) → x ≡ Some a → IfSome x P → P a
-of_some P e h = subst (λ y. IfSome y P) e h
+pub of_some : {A : Type 0} {x : Option A} {a : A} (N : Type 0) (P : A → Type 0) → x ≡ Some a → MatchOption x N P → P a
+of_some N P e h = subst (λ y. MatchOption y N P) e h
 
 -- more bytes were written than are meant
 pub less_written : (old new bytes : List ℕ) (at n size : ℕ) → take (at + n) new ≡ take at old ++ take n bytes → size ≤ n → at ≤ length old → take (at + size) new ≡ take at old ++ take size bytes

@@ -1,5 +1,5 @@
 //! The printed form of a message, written into a row of bytes that are there already.
-ghost use Rattle.std.specs.Prelude.{◌≡◌, ◌+◌, ◌≤◌, ◌++◌, [], true, false, length, take, codes, decimal, Some, Err, IfSome, IfOk, IfErr};
+ghost use Rattle.std.specs.Prelude.{◌≡◌, ◌+◌, ◌≤◌, ◌++◌, [], true, false, length, take, codes, decimal, Some, None, Err, IfSome, IfOk, IfErr};
 ghost use Rattle.std.specs.Option.{option_copied};
 ghost use Rattle.hex.specs.Hex.{encode_upper};
 ghost use Rattle.message_elements.specs.Table.{form_of};
@@ -123,19 +123,36 @@ fn put_bytes(row: &mut [u8], at: usize, bytes: &[u8]) -> usize
 
 /// Writes eight bytes as hexadecimal digits.
 #[tactic(auto, using(crate::proofs::DigitLemmas::capitals))]
-fn put_digits(row: &mut [u8], at: usize, value: &[u8]) -> Option<usize>
+fn put_digits(row: &mut [u8], at: usize, value: &[u8; 8]) -> usize
     requires { at + 16 ≤ length row.old }
-    ensures text { IfSome result (λ end. take end row.new ≡ take at row.old ++ encode_upper value.now) }
-    ensures end { IfSome result (λ end. end ≡ at + 16) }
+    ensures text { take result row.new ≡ take at row.old ++ encode_upper value.now }
+    ensures end { result ≡ at + 16 }
     ensures size { length row.new ≡ length row.old }
 {
     let mut digits = [0u8; 16];
-    hex::encode_to_slice(value, &mut digits).ok()?;
+    let _done = hex::encode_to_slice(value.as_slice(), &mut digits);
     digits.make_ascii_uppercase();
-    Some(put(row, at, &digits))
+    put(row, at, &digits)
 }
 
-/// Writes the first of some bytes as `put` does. Where they are few, sixteen are written, where there are as many.
+/// Writes the first of some bytes as `put` does, as one word, of which the last bytes may be meant for others; none where there are
+/// fewer bytes than the word has.
+#[inline(always)]
+fn put_word<const N: usize>(row: &mut [u8], at: usize, front: &[u8], size: usize) -> Option<usize>
+    requires word { N ≤ 16 }
+    requires few { size ≤ N }
+    requires room { at + N ≤ length row.old }
+    ensures text { IfSome result (λ end. take end row.new ≡ take at row.old ++ take size front.now) }
+    ensures end { IfSome result (λ end. end ≡ at + size) }
+    ensures size { length row.new ≡ length row.old }
+    ensures none { result ≡ None → row.new ≡ row.old }
+{
+    let word = *front.first_chunk::<N>()?;
+    let _behind = put(row, at, &word);
+    Some(at + size)
+}
+
+/// Writes the first of some bytes as `put` does. Where they are few, sixteen are written, where there are as many, or eight.
 #[inline(always)]
 fn put_front(row: &mut [u8], at: usize, front: &[u8], size: usize) -> usize
     requires size { size ≤ length front.now }
@@ -146,10 +163,13 @@ fn put_front(row: &mut [u8], at: usize, front: &[u8], size: usize) -> usize
     ensures size { length row.new ≡ length row.old }
 {
     if size <= 16 {
-        if let Some(word) = front.first_chunk::<16>() {
-            let word = *word;
-            let _behind = put(row, at, &word);
-            return at + size;
+        if let Some(end) = put_word::<16>(row, at, front, size) {
+            return end;
+        }
+    }
+    if size <= 8 {
+        if let Some(end) = put_word::<8>(row, at, front, size) {
+            return end;
         }
     }
     put_longer(row, at, &front[..size])
@@ -166,58 +186,54 @@ fn put_longer(row: &mut [u8], at: usize, bytes: &[u8]) -> usize
     put_bytes(row, at, bytes)
 }
 
-/// Writes the line of an element that isn't one of eight bytes, of which the first of some bytes are the value; none where the row has
-/// no room for it.
-#[inline(always)]
-#[tactic(auto, unfolding(crate::specs::Printed::element_line))]
-fn put_plain(row: &mut [u8], at: usize, number: u8, front: &[u8], size: usize) -> Option<usize>
-    requires at { at ≤ length row.old }
-    requires size { size ≤ length front.now }
-    requires plain { is_binary (form_of number) ≡ false }
-    ensures text { IfSome result (λ end. take end row.new ≡ take at row.old ++ element_line (number, take size front.now)) }
-    ensures end { IfSome result (λ end. end ≤ length row.old) }
-    ensures size { length row.new ≡ length row.old }
-{
-    if row.len() - at < size + OTHER_ROOM {
-        return None;
-    }
-    let label = put_label(row, at, number);
-    let end = put_front(row, label, front, size);
-    Some(put(row, end, b"\n"))
-}
-
-/// The same of an element of eight bytes; none too where there are others than eight.
-#[inline(never)]
-#[tactic(auto, unfolding(crate::specs::Printed::element_line))]
-fn put_binary(row: &mut [u8], at: usize, number: u8, value: &[u8]) -> Option<usize>
-    requires at { at ≤ length row.old }
-    requires binary { is_binary (form_of number) ≡ true }
-    ensures text { IfSome result (λ end. take end row.new ≡ take at row.old ++ element_line (number, value.now)) }
-    ensures end { IfSome result (λ end. end ≤ length row.old) }
-    ensures size { length row.new ≡ length row.old }
-{
-    if row.len() - at < OTHER_ROOM {
-        return None;
-    }
-    let label = put_label(row, at, number);
-    let end = put_digits(row, label, value)?;
-    Some(put(row, end, b"\n"))
-}
-
 /// The room in a line for a label, a line feed, and sixteen digits in place of a value.
 const OTHER_ROOM: usize = 4 + 1 + 16;
 
-/// Reads the element of a number, and writes its line; none where the row has no room for it.
+/// Writes the line of an element that isn't one of eight bytes, of which the first of some bytes are the value.
+#[inline(always)]
+#[tactic(auto, unfolding(crate::specs::Printed::element_line))]
+fn put_plain(row: &mut [u8], at: usize, number: u8, front: &[u8], size: usize) -> usize
+    requires size { size ≤ length front.now }
+    requires room { at + size + OTHER_ROOM ≤ length row.old }
+    requires plain { is_binary (form_of number) ≡ false }
+    ensures text { take result row.new ≡ take at row.old ++ element_line (number, take size front.now) }
+    ensures end { result ≤ at + size + OTHER_ROOM }
+    ensures size { length row.new ≡ length row.old }
+{
+    let label = put_label(row, at, number);
+    let end = put_front(row, label, front, size);
+    put(row, end, b"\n")
+}
+
+/// The same of an element of eight bytes.
+#[inline(never)]
+#[tactic(auto, unfolding(crate::specs::Printed::element_line))]
+fn put_binary(row: &mut [u8], at: usize, number: u8, value: &[u8; 8]) -> usize
+    requires room { at + OTHER_ROOM ≤ length row.old }
+    requires binary { is_binary (form_of number) ≡ true }
+    ensures text { take result row.new ≡ take at row.old ++ element_line (number, value.now) }
+    ensures end { result ≤ at + OTHER_ROOM }
+    ensures size { length row.new ≡ length row.old }
+{
+    let label = put_label(row, at, number);
+    let end = put_digits(row, label, value);
+    put(row, end, b"\n")
+}
+
+/// The room for a line: no value has more than 999 bytes.
+const LINE_ROOM: usize = 999 + OTHER_ROOM;
+
+/// Reads the element of a number, and writes its line.
 #[inline(always)]
 fn put_next(
     row: &mut [u8],
     at: usize,
     number: u8,
     unread: &mut Unread,
-) -> Result<Option<usize>, DecodeFault>
-    requires { at ≤ length row.old }
-    ensures line { IfOk result (λ x. IfSome x (λ end. WritesElement number unread.old.bytes unread.new.bytes (take at row.old) (take end row.new))) }
-    ensures end { IfOk result (λ x. IfSome x (λ end. end ≤ length row.old)) }
+) -> Result<usize, DecodeFault>
+    requires { at + LINE_ROOM ≤ length row.old }
+    ensures line { IfOk result (λ end. WritesElement number unread.old.bytes unread.new.bytes (take at row.old) (take end row.new)) }
+    ensures end { IfOk result (λ end. end ≤ length row.old) }
     ensures fault { IfErr result (λ fault. field_at (form_of number) number unread.old.bytes ≡ Err fault) }
     ensures numbers { unread.new.numbers ≡ unread.old.numbers }
     ensures size { length row.new ≡ length row.old }
@@ -231,7 +247,7 @@ fn put_next(
     }
 }
 
-/// Reads the elements that are left of a message, and writes their lines; none where the row has no room for them.
+/// Reads the elements that are left of a message, and writes their lines; none where the row has no room for any next one.
 #[inline(never)]
 fn put_left(row: &mut [u8], at: usize, unread: Unread) -> Result<Option<usize>, DecodeFault>
     requires { at ≤ length row.old }
@@ -243,10 +259,10 @@ fn put_left(row: &mut [u8], at: usize, unread: Unread) -> Result<Option<usize>, 
     let mut left = unread;
     let mut end = at;
     while let Some(number) = left.next_number() {
-        match put_next(row, end, number, &mut left)? {
-            None => return Ok(None),
-            Some(next) => end = next,
+        if row.len() - end < LINE_ROOM {
+            return Ok(None);
         }
+        end = put_next(row, end, number, &mut left)?;
     }
     if !left.is_at_end() {
         return Err(DecodeFault::Trailing);

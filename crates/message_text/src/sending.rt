@@ -17,7 +17,8 @@ use std::alloc::{AllocError, Global};
 /// From so many bytes on, what waits is written.
 pub const MOST_WAITING: usize = 65_536;
 
-/// So many bytes has the row in which a block is printed: more than the block of any message that the table of elements allows.
+/// So many bytes has the row in which a block is printed: more than the block of any message that the table of elements allows,
+/// and one line more.
 const ROW: usize = 16_384;
 
 /// What waits to be written, and the memory in which a message is printed.

@@ -6,7 +6,7 @@ use Rattle.message_text.proofs.row.put_block.Goals as goal
 
 pub returns-in_ok-end-in-Ok-clause-block : goal.returns-in_ok-end-in-Ok-clause-block
 returns-in_ok-end-in-Ok-clause-block c =
-    let written : WritesMessage c.args.number c.args.bytes.now (take c.in_ok-end-in-Ok.end c.put_message.new.row) = of_some (λ end. WritesMessage c.args.number c.args.bytes.now (take end c.put_message.new.row)) c.in_ok-end-in-Ok.was c.in-Ok.ensures.lines in
+    let written : WritesMessage c.args.number c.args.bytes.now (take c.in_ok-end-in-Ok.end c.put_message.new.row) = of_some _ (λ end. WritesMessage c.args.number c.args.bytes.now (take end c.put_message.new.row)) c.in_ok-end-in-Ok.was c.in-Ok.ensures.lines in
     (Ok (WritesMessage.message written), inl (sym (WritesMessage.found written)), WritesMessage.text written, refl)
 
 pub returns-in-Err-clause-block : goal.returns-in-Err-clause-block

@@ -1,37 +1,32 @@
-use Rattle.std.proofs.Common.{◌≤◌, [], ◌∷◌, ◌++◌, eqb, length, take, refl, sym, ap, ◌∙◌, append-nil, arith}
+use Rattle.std.proofs.Common.{[], ◌∷◌, ◌++◌, eqb, length, take, refl, sym, ap, ◌∙◌, append-nil, arith}
 use Rattle.std.proofs.lemmas.List.{flat_map_more}
 use Rattle.std.proofs.lemmas.Result.{err_from_is_err_and}
 use Rattle.iso_message.proofs.ReadOn.{on_element, on_fault, at_end, left_over}
 use Rattle.message_text.specs.Printed.{element_line}
 use Rattle.message_text.specs.Lines.{WritesElement}
-use Rattle.message_text.proofs.RowLemmas.{of_some}
 use Rattle.message_text.proofs.row.put_left.Goals as goal
 
 pub loop-number-init : goal.loop-number-init
 loop-number-init c = record { so_far = []; same = λ kind. refl; text = sym (append-nil (take c.args.at c.args.row.now)); fits = c.requires; size = refl }
 
-pub put_next-requires : goal.put_next-requires
-put_next-requires c = c.loop-number.invariant.fits
-
-pub returns-in_err-put_next-clause-fault : goal.returns-in_err-put_next-clause-fault
-returns-in_err-put_next-clause-fault c =
+pub returns-in_err-end-clause-fault : goal.returns-in_err-end-clause-fault
+returns-in_err-end-clause-fault c =
     let p = err_from_is_err_and c.from_residual.result c.from_residual.ensures.1 in
     let before = c.loop-number.invariant in
-    rw (p.1, p.2) (λ kind. before.same kind ∙ on_fault kind before.so_far c.in-Some.number c.in_err-put_next.field-0.0 c.loop-number.left c.next_number.new.self c.in-Some.ensures.numbers c.in-Some.ensures.bytes c.in_err-put_next.ensures.fault)
+    rw (p.1, p.2) (λ kind. before.same kind ∙ on_fault kind before.so_far c.in-Some.number c.in_err-end.field-0.0 c.loop-number.left c.next_number.new.self c.in-Some.ensures.numbers c.in-Some.ensures.bytes c.in_err-end.ensures.fault)
 
 pub loop-number-preserved : goal.loop-number-preserved
 loop-number-preserved c =
     let n = c.in-Some.number in
     let before = c.loop-number.invariant in
-    let line : WritesElement n c.next_number.new.self.bytes c.put_next.new.unread.bytes (take c.loop-number.end c.loop-number.row) (take c.in-Some-2.next c.put_next.new.row) = of_some (λ end. WritesElement n c.next_number.new.self.bytes c.put_next.new.unread.bytes (take c.loop-number.end c.loop-number.row) (take end c.put_next.new.row)) c.in-Some-2.is c.in_ok-put_next.ensures.line in
-    let end : c.in-Some-2.next ≤ length c.loop-number.row = of_some (λ end. end ≤ length c.loop-number.row) c.in-Some-2.is c.in_ok-put_next.ensures.end in
+    let line : WritesElement n c.next_number.new.self.bytes c.put_next.new.unread.bytes (take c.loop-number.end c.loop-number.row) (take c.in_ok-end.end c.put_next.new.row) = c.in_ok-end.ensures.line in
     let value = WritesElement.value line in
     record {
       so_far = before.so_far ++ (n, value) ∷ [];
-      same = λ kind. before.same kind ∙ on_element kind before.so_far n value c.loop-number.left c.next_number.new.self c.put_next.new.unread c.in-Some.ensures.numbers c.in-Some.ensures.bytes c.in_ok-put_next.ensures.numbers (WritesElement.found line);
+      same = λ kind. before.same kind ∙ on_element kind before.so_far n value c.loop-number.left c.next_number.new.self c.put_next.new.unread c.in-Some.ensures.numbers c.in-Some.ensures.bytes c.in_ok-end.ensures.numbers (WritesElement.found line);
       text = WritesElement.text line ∙ ap (λ z. z ++ element_line (n, value)) before.text ∙ flat_map_more element_line (take c.args.at c.args.row.now) before.so_far (n, value);
-      fits = omega (arith, end, c.in_ok-put_next.ensures.size);
-      size = c.in_ok-put_next.ensures.size ∙ before.size;
+      fits = omega (arith, c.in_ok-end.ensures.end, c.in_ok-end.ensures.size);
+      size = c.in_ok-end.ensures.size ∙ before.size;
     }
 
 pub returns-then-not-is_at_end-clause-fault : goal.returns-then-not-is_at_end-clause-fault
