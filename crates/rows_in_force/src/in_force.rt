@@ -1,5 +1,5 @@
 //! The rows in force, class by class.
-ghost use Rattle.std.specs.Prelude.{◌≡◌, ◌≤◌, [], length, take, IfOk};
+ghost use Rattle.std.specs.Prelude.{◌≡◌, ◌≤◌, [], length, take, option_and_then, slice_get, unwrap_or, None, IfOk};
 ghost use Rattle.std.specs.Option.{option_copied};
 ghost use Rattle.rows_in_force.specs.InForce.{in_force, row_at};
 
@@ -57,12 +57,27 @@ impl<'t, R: Placed> InForce<'t, R> {
         self.class = ShortBytes::from_slice(class.digits());
     }
 
+    /// The place of the node's row in force among the rows.
+    #[inline]
+    pub fn place(&self, node: NodeNo) -> Option<usize>
+        ensures { option_and_then (slice_get self.now.rows) result ≡ in_force R.node_of R.prefix_of self.now.rows node self.now.class }
+    {
+        place_of(self.fronts.at(self.class.as_slice().len()), node)
+    }
+
     /// The node's row in force: of those with the most digits whose prefix begins the class the first.
     pub fn row(&self, node: NodeNo) -> Option<&'t R>
         ensures { option_copied result ≡ in_force R.node_of R.prefix_of self.now.rows node self.now.class }
     {
         row_of(self.rows, self.fronts.at(self.class.as_slice().len()), node)
     }
+}
+
+/// The place of a node.
+fn place_of(places: &Places, node: NodeNo) -> Option<usize>
+    ensures { result ≡ unwrap_or (slice_get places.now node) None }
+{
+    places[node.place()]
 }
 
 /// The row at a node's place.

@@ -27,18 +27,9 @@ pub(crate) struct ByDay {
 }
 
 impl At<'_> {
-    ghost use Rattle.table_checker.specs.Ranks.{rank_at};
     ghost use Rattle.table_checker.specs.Rules.{not_named, over_ceiling, node_refusal, has_row, no_issuer};
     ghost use Rattle.table_checker.specs.Search.{first_below};
     ghost use Rattle.table_checker.specs.Known.{HasRows};
-
-    /// The rank of a node; `near` as in `Cert::rank_near`.
-    pub fn rank(&self, near: &mut usize, node: NodeNo) -> Option<u16>
-        ensures { result ≡ rank_at self.now.tables.now self.now.cert.now node self.now.class }
-    {
-        let row = self.tables.nodes().get(node.place())?;
-        self.cert.rank_near(near, &row.name, &self.class)
-    }
 
     /// The refusal of a node that may approve so much by itself, and so isn't among the named.
     fn not_named(&self, named: &[NodeNo], node: NodeNo, day: u64) -> Option<Refusal>

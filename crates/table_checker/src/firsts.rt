@@ -4,9 +4,10 @@ ghost use Rattle.std.specs.Option.{option_or};
 ghost use Rattle.table_checker.specs.Firsts.{of_kind};
 ghost use Rattle.table_checker.specs.Rules.{refusal_at, kind_refusal, kinds};
 ghost use Rattle.table_checker.specs.Search.{first_some};
-ghost use Rattle.table_checker.specs.Known.{HasRows};
+ghost use Rattle.table_checker.specs.Known.{AreFalling, HasRows};
 
 use crate::class::At;
+use crate::known::Known;
 use crate::refusal::{Kind, Refusal};
 use net_rows::Issuer;
 
@@ -65,41 +66,47 @@ impl Firsts {
     }
 
     /// Adds the refusals at the next class.
-    pub fn add(&mut self, at: &At)
-        requires { HasRows at.now }
-        ensures { (kind : Kind) → of_kind self.new kind ≡ option_or (of_kind self.old kind) (refusal_at at.now.tables.now at.now.cert.now kind at.now.class) }
+    pub fn add(&mut self, at: &At, known: &mut Known)
+        requires rows { HasRows at.now }
+        requires falling { AreFalling at.now.tables.now known.old.ranks known.old.falling }
+        ensures firsts { (kind : Kind) → of_kind self.new kind ≡ option_or (of_kind self.old kind) (refusal_at at.now.tables.now at.now.cert.now kind at.now.class) }
+        ensures falling { AreFalling at.now.tables.now known.new.ranks known.new.falling }
     {
         match at.tables.issuer_at(&at.class) {
-            Some(issuer) => self.add_with_issuer(at, issuer),
+            Some(issuer) => self.add_with_issuer(at, known, issuer),
             None => self.add_without_issuer(at),
         }
     }
 
-    fn add_with_issuer(&mut self, at: &At, issuer: &Issuer)
-        requires { HasRows at.now }
+    fn add_with_issuer(&mut self, at: &At, known: &mut Known, issuer: &Issuer)
+        requires rows { HasRows at.now }
+        requires falling { AreFalling at.now.tables.now known.old.ranks known.old.falling }
         ensures no_rank { self.new.no_rank ≡ option_or self.old.no_rank (kind_refusal at.now.tables.now at.now.cert.now at.now.class Kind.NoRank (Some issuer.now)) }
         ensures not_less { self.new.not_less ≡ option_or self.old.not_less (kind_refusal at.now.tables.now at.now.cert.now at.now.class Kind.NotLess (Some issuer.now)) }
         ensures not_named { self.new.not_named ≡ option_or self.old.not_named (kind_refusal at.now.tables.now at.now.cert.now at.now.class Kind.NotNamed (Some issuer.now)) }
         ensures over_ceiling { self.new.over_ceiling ≡ option_or self.old.over_ceiling (kind_refusal at.now.tables.now at.now.cert.now at.now.class Kind.OverCeiling (Some issuer.now)) }
         ensures no_issuer { self.new.no_issuer ≡ self.old.no_issuer }
+        ensures falling { AreFalling at.now.tables.now known.new.ranks known.new.falling }
     {
-        self.add_by_rank(at, issuer);
+        self.add_by_rank(at, known, issuer);
         self.add_by_day(at, issuer);
     }
 
     /// Adds those that come of ranks, which are only looked for as long as one of the two is not found.
-    fn add_by_rank(&mut self, at: &At, issuer: &Issuer)
-        requires { HasRows at.now }
+    fn add_by_rank(&mut self, at: &At, known: &mut Known, issuer: &Issuer)
+        requires rows { HasRows at.now }
+        requires falling { AreFalling at.now.tables.now known.old.ranks known.old.falling }
         ensures no_rank { self.new.no_rank ≡ option_or self.old.no_rank (kind_refusal at.now.tables.now at.now.cert.now at.now.class Kind.NoRank (Some issuer.now)) }
         ensures not_less { self.new.not_less ≡ option_or self.old.not_less (kind_refusal at.now.tables.now at.now.cert.now at.now.class Kind.NotLess (Some issuer.now)) }
         ensures not_named { self.new.not_named ≡ self.old.not_named }
         ensures over_ceiling { self.new.over_ceiling ≡ self.old.over_ceiling }
         ensures no_issuer { self.new.no_issuer ≡ self.old.no_issuer }
+        ensures falling { AreFalling at.now.tables.now known.new.ranks known.new.falling }
     {
         if self.no_rank.is_some() && self.not_less.is_some() {
             return;
         }
-        let by_rank = at.by_rank(issuer);
+        let by_rank = at.by_rank(issuer, known);
         self.no_rank = self.no_rank.or(by_rank.no_rank);
         self.not_less = self.not_less.or(by_rank.not_less);
     }

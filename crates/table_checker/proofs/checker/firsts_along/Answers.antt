@@ -8,9 +8,10 @@ pub loop-class-preserved : goal.loop-class-preserved
 loop-class-preserved c = record {
   routes = c.enter.ensures.rows ∙ c.loop-class.invariant.routes;
   stand_ins = c.enter-in-loop-class.ensures.rows ∙ c.loop-class.invariant.stand_ins;
+  falling = c.add.ensures.falling;
   firsts = λ kind.
       first_some_next (refusal_at c.args.tables.now c.args.cert.now kind) c.args.all.now c.loop-class.class-index c.class-item.result (of_kind c.loop-class.firsts kind) (of_kind c.add.new.self kind)
-      c.loop-class-test.true c.class-item.is (c.add.ensures kind)
+      c.loop-class-test.true c.class-item.is (c.add.ensures.firsts kind)
       ∙ c.loop-class.invariant.firsts kind;
 }
 

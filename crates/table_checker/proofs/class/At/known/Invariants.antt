@@ -1,5 +1,0 @@
-use Rattle.table_checker.specs.Known.{AreKnown}
-use Rattle.table_checker.proofs.class.At.known.Given as goal
-
-abbrev pub invariant-loop-i : goal.invariant-loop-i
-invariant-loop-i l = AreKnown l.self l.known.ranks

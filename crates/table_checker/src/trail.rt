@@ -1,0 +1,53 @@
+//! Where ranks are likely to stand.
+
+use crate::known::MOST_NODES;
+use card_digits::NodeNo;
+
+/// Where the rank of each node is likely to stand, in a certificate whose rows don't stand by prefix. Nothing hangs on it, since each
+/// row is looked at: where the nodes have their prefixes in one order, their rows are as far from each other at each class, and where
+/// the order is that of the classes, the next row of a node is at the next class.
+#[derive(Clone, Copy, Debug)]
+pub(crate) struct Trail {
+    /// Where the class begins, known from its first rank on.
+    begin: Option<usize>,
+    /// How far behind the begin of its class the rank of each node was.
+    offsets: [usize; MOST_NODES],
+    /// The place behind the rank that was last found, by node.
+    nexts: [usize; MOST_NODES],
+}
+
+impl Trail {
+    pub fn new() -> Trail {
+        Trail {
+            begin: None,
+            offsets: [0; MOST_NODES],
+            nexts: [0; MOST_NODES],
+        }
+    }
+
+    /// Goes on to the next class.
+    pub fn enter(&mut self) {
+        self.begin = None;
+    }
+
+    /// The place as far from the others of the class as before.
+    pub fn beside_others(&self, node: NodeNo) -> Option<usize> {
+        let begin = self.begin?;
+        Some(begin.wrapping_add(self.offsets[node.place()]))
+    }
+
+    /// The place behind the node's last rank.
+    pub fn behind_last(&self, node: NodeNo) -> usize {
+        self.nexts[node.place()]
+    }
+
+    /// Adds where a rank was found.
+    pub fn add(&mut self, node: NodeNo, place: usize) {
+        let at = node.place();
+        self.nexts[at] = place.wrapping_add(1);
+        match self.begin {
+            Some(begin) => self.offsets[at] = place.wrapping_sub(begin),
+            None => self.begin = Some(place.wrapping_sub(self.offsets[at])),
+        }
+    }
+}
