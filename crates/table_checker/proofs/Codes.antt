@@ -1,5 +1,5 @@
 -- What codes of ranks say.
-use Rattle.std.proofs.Common.{◌≡◌, ◌<◌, ℕ, zero, suc, List, [], ◌∷◌, true, Option, Some, None, nat_lt, refl, sym, ◌∙◌, ap, subst, ◌⊎◌, ◌==◌, ◌+◌, ◌≤◌, Bool, false, length, get_or, drop, inl, inr, arith}
+use Rattle.std.proofs.Common.{◌≡◌, ◌<◌, ℕ, zero, suc, List, [], ◌∷◌, true, Option, Some, None, nat_lt, refl, sym, ◌∙◌, ap, subst, ◌⊎◌, ◌==◌, ◌&&◌, ◌+◌, ◌≤◌, Bool, false, length, get_or, drop, inl, inr, arith}
 use Rattle.std.specs.Prelude.{replicate, slice_get, slice_set, unwrap_or, option_and_then}
 use Rattle.std.specs.List.{list_all}
 use Rattle.std.specs.Option.{option_or}
@@ -59,6 +59,30 @@ pub none_falling : {A : Type 0} (k n : ℕ) (place : A) → slice_get (replicate
 none_falling zero n place h = absurd cc
 none_falling (suc k) zero place h = absurd cc
 none_falling (suc k) (suc n) place h = none_falling k n place h
+
+-- what is known to fall hangs on no code that says nothing
+code_apart : (codes : List ℕ) (m c n : ℕ) → code_at codes n < 65536 → 65536 ≤ code_at codes m → code_at (slice_set codes m c) n ≡ code_at codes n
+code_apart [] m c n few many = refl
+code_apart (x ∷ codes) zero c zero few many = absurd (omega arith)
+code_apart (x ∷ codes) zero c (suc n) few many = refl
+code_apart (x ∷ codes) (suc m) c zero few many = refl
+code_apart (x ∷ codes) (suc m) c (suc n) few many = code_apart codes m c n few many
+
+module _ (t : Network) (codes : List ℕ) (m c n : ℕ) (many : 65536 ≤ code_at codes m) (own : code_at codes n < 65536) where
+  links_still : (links : List ℕ) → list_all (λ (l : ℕ). nat_lt (code_at codes (other_end t n l)) (code_at codes n)) links ≡ true
+      → list_all (λ (l : ℕ). nat_lt (code_at (slice_set codes m c) (other_end t n l)) (code_at codes n)) links ≡ true
+  links_still [] h = refl
+  links_still (l ∷ links) h =
+      let parts = and_parts _ _ h in
+      let lt : code_at codes (other_end t n l) < code_at codes n = ltb-true _ _ parts.0 in
+      rw (code_apart codes m c (other_end t n l) (omega arith) many, parts.0) (links_still links parts.1)
+
+pub still_falls : (t : Network) (codes : List ℕ) (m c n : ℕ) (links : List ℕ) → 65536 ≤ code_at codes m → falls_by t codes n links ≡ true → falls_by t (slice_set codes m c) n links ≡ true
+still_falls t codes m c n links many falls =
+    let parts = and_parts _ _ falls in
+    let own : code_at codes n < 65536 = ltb-true _ _ parts.0 in
+    let rest = links_still t codes m c n many own links parts.1 in
+    subst (λ (k : ℕ). (nat_lt k 65536 && list_all (λ (l : ℕ). nat_lt (code_at (slice_set codes m c) (other_end t n l)) k) links) ≡ true) (sym (code_apart codes m c n own many)) (rw parts.0 rest)
 
 module _ (at : At) (codes : List ℕ) (known : AreKnown at codes) where
   rank_in : (n : ℕ) (o : Option ℕ) → slice_get codes n ≡ o → unwrap_or o 65537 < 65536 → rank_at at.tables.now at.cert.now n at.class ≡ Some (unwrap_or o 65537)

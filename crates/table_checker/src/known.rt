@@ -1,5 +1,5 @@
 //! What was looked up at a class, and what of it is kept for the next.
-ghost use Rattle.std.specs.Prelude.{◌≡◌, ◌&&◌, true};
+ghost use Rattle.std.specs.Prelude.{◌≡◌, ◌≤◌, true};
 ghost use Rattle.net_rows.specs.Network.{Network};
 ghost use Rattle.table_checker.specs.Known.{AreFalling, IsCodeOf};
 
@@ -63,14 +63,14 @@ impl Known {
         }
     }
 
-    /// Adds what a node's rank turned out to be.
+    /// Adds what a node's rank turned out to be. No route is known to fall along one that was not looked up.
     pub fn add(&mut self, node: NodeNo, rank: Option<u16>)
+        requires { 65536 ≤ code_at self.old.ranks node }
         ensures ranks { self.new.ranks ≡ slice_set self.old.ranks node (code_of rank) }
         ensures code { IsCodeOf rank (code_of rank) }
-        ensures falling { (t : Network) → AreFalling t self.new.ranks self.new.falling }
+        ensures falling { (t : Network) → AreFalling t self.old.ranks self.old.falling → AreFalling t self.new.ranks self.new.falling }
     {
         self.ranks[node.place()] = code_of(rank);
-        self.falling = [None; MOST_NODES];
     }
 }
 
@@ -86,4 +86,4 @@ fn code_of(rank: Option<u16>) -> u32
 }
 
 ghost use Rattle.std.specs.Prelude.{Some, slice_get, slice_set};
-ghost use Rattle.table_checker.specs.Known.{code_of};
+ghost use Rattle.table_checker.specs.Known.{code_at, code_of};

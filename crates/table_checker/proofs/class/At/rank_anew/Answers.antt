@@ -4,8 +4,8 @@ use Rattle.table_checker.proofs.class.At.rank_anew.Goals as goal
 
 pub returns-clause-known : goal.returns-clause-known
 returns-clause-known c =
-    let kept : AreKnown c.args.self.now c.rank_sought-rank.new.known.ranks = rw c.rank_sought-rank.ensures.ranks c.requires.ranks in
+    let kept : AreKnown c.args.self.now c.rank_sought-rank.new.known.ranks = rw c.rank_sought-rank.ensures.ranks c.requires.known.ranks in
     record {
       ranks = rw c.add.ensures.ranks (set_known c.args.self.now c.rank_sought-rank.new.known.ranks c.args.node _ kept (rw (← c.rank_sought-rank.ensures.rank) c.add.ensures.code));
-      falling = c.add.ensures.falling c.args.self.now.tables.now;
+      falling = c.add.ensures.falling c.args.self.now.tables.now (rw (c.rank_sought-rank.ensures.ranks, c.rank_sought-rank.ensures.falling) c.requires.known.falling);
     }

@@ -1,5 +1,6 @@
-use Rattle.table_checker.proofs.Codes.{none_falling}
+use Rattle.table_checker.proofs.Codes.{still_falls}
 use Rattle.table_checker.proofs.known.Known.add.Goals as goal
 
 pub returns-clause-falling : goal.returns-clause-falling
-returns-clause-falling c = λ t n place r h at. absurd (none_falling 64 n place h)
+returns-clause-falling c = λ t before n place r h at.
+    still_falls t c.args.self.now.ranks c.place.result c.code_of.result n r.links (rw c.place.ensures.place c.requires) (before n place r h at)
