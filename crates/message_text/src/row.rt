@@ -12,22 +12,10 @@ ghost use Rattle.message_text.specs.Lines.{WritesElement, WritesLeft, WritesMess
 ghost use Rattle.message_text.specs.Printed.{element_line, fault_line, heading, PrintsBlock};
 
 use crate::block::kind_line;
+use card_digits::put;
 use iso_message::Unread;
 use itoa::Buffer;
 use message_elements::{DecodeFault, Kind};
-
-/// Writes bytes at a place of a row, and returns the place behind them.
-#[inline(always)]
-fn put(row: &mut [u8], at: usize, bytes: &[u8]) -> usize
-    requires { at + length bytes.now ≤ length row.old }
-    ensures text { take result row.new ≡ take at row.old ++ bytes.now }
-    ensures end { result ≡ at + length bytes.now }
-    ensures size { length row.new ≡ length row.old }
-{
-    let end = at + bytes.len();
-    row[at..end].copy_from_slice(bytes);
-    end
-}
 
 /// The number of each element, and spaces behind it.
 static LABELS: [[u8; 4]; 129] = [

@@ -2,20 +2,8 @@
 ghost use Rattle.std.specs.Prelude.{◌≡◌, ◌+◌, ◌<◌, ◌≤◌, ◌++◌, All, length, take};
 ghost use Rattle.card_digits.specs.Digits.{digits_text};
 
+use card_digits::put;
 use std::simd::prelude::*;
-
-/// Puts the bytes at a place, and returns the place behind them.
-#[inline(always)]
-pub(crate) fn put<const N: usize>(page: &mut [u8], at: usize, bytes: &[u8; N]) -> usize
-    requires { at + N ≤ length page.old }
-    ensures text { take result page.new ≡ take at page.old ++ bytes.now }
-    ensures end { result ≡ at + N }
-    ensures size { length page.new ≡ length page.old }
-{
-    let end = at + N;
-    page[at..end].copy_from_slice(bytes);
-    end
-}
 
 /// Puts the first `N` bytes, where there are so many, and returns the place behind them and the bytes that are left.
 #[inline(always)]

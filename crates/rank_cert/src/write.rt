@@ -6,7 +6,8 @@ ghost use Rattle.rank_cert.specs.Reading.{cert_in};
 ghost use Rattle.rank_cert.specs.Writing.{line_of, lines_of, text_of};
 
 use crate::cert::{Cert, Rank};
-use crate::page::{put, put_digits, put_few};
+use crate::page::{put_digits, put_few};
+use card_digits::put;
 use itoa::Buffer;
 use std::alloc::{AllocError, Global};
 
