@@ -61,6 +61,7 @@ fn head_of<'a>(number: u8, bytes: &'a [u8], known: &Known) -> Result<Option<Head
     }
     match form_at(number) {
         None => Err(DecodeFault::Element(number)),
+        // Was found above.
         Some(Form::Fixed(class, size)) => Ok(Some(Head {
             class,
             size,

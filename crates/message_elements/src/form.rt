@@ -165,7 +165,7 @@ pub struct FixedForm {
     pub size: u8,
 }
 
-/// How many bytes each element has, 0 for one that hasn't always so many.
+/// How many bytes each element has whose form is of a fixed length, and 0 for any other.
 static FIXED_SIZES: [u8; 129] = [
     0, 0, 0, 6, 12, 12, 12, 10, 8, 8, 8, 6, 6, 4, 4, 4, 4, 4, 4, 3, 3, 3, 3, 3, 3, 2, 2, 1, 9, 9,
     9, 9, 0, 0, 0, 0, 0, 12, 6, 2, 3, 8, 15, 40, 0, 0, 0, 0, 0, 3, 3, 3, 0, 16, 0, 0, 0, 0, 0, 0,
@@ -174,7 +174,7 @@ static FIXED_SIZES: [u8; 129] = [
     0, 0, 0, 0, 0, 0, 0,
 ];
 
-/// The same of the elements of text alone.
+/// The same for those of text alone, and 0 for those of digits.
 static FIXED_TEXT: [u8; 129] = [
     0, 0, 0, 0, 0, 0, 0, 0, 0, 0, 0, 0, 0, 0, 0, 0, 0, 0, 0, 0, 0, 0, 0, 0, 0, 0, 0, 0, 9, 9, 9, 9,
     0, 0, 0, 0, 0, 12, 6, 2, 3, 8, 15, 40, 0, 0, 0, 0, 0, 3, 3, 3, 0, 0, 0, 0, 0, 0, 0, 0, 0, 0, 0,

@@ -63,7 +63,8 @@ impl Known {
         }
     }
 
-    /// Adds what a node's rank turned out to be. No route is known to fall along one that was not looked up.
+    /// Adds what a node's rank turned out to be. A route that is known to fall goes by no rank that was not looked up, so what is known
+    /// stays.
     pub fn add(&mut self, node: NodeNo, rank: Option<u16>)
         requires { 65536 ≤ code_at self.old.ranks node }
         ensures ranks { self.new.ranks ≡ slice_set self.old.ranks node (code_of rank) }

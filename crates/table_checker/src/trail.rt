@@ -4,8 +4,8 @@ use crate::known::MOST_NODES;
 use card_digits::NodeNo;
 
 /// Where the rank of each node is likely to stand, in a certificate whose rows don't stand by prefix. Nothing hangs on it, since each
-/// row is looked at: where the nodes have their prefixes in one order, their rows are as far from each other at each class, and where
-/// the order is that of the classes, the next row of a node is at the next class.
+/// row is compared with the pair. Two orders are guessed: where every node has its prefixes in one order, the rows of a class are as far
+/// from each other as at the class before; where a node's prefixes come in the order of the classes, its next row is at the next class.
 #[derive(Clone, Copy, Debug)]
 pub(crate) struct Trail {
     /// Where the class begins, known from its first rank on.

@@ -95,7 +95,7 @@ fn push_routes(
     Ok(())
 }
 
-/// A network with routes of three digits, of which the second has no issuer.
+/// A network with routes for cards that begin with 4, 5 and 6, where 5 has no issuer.
 pub(crate) fn network(alloc: Global, numbers: &mut Numbers, form: Form) -> Result<Tables, Fail> {
     let mut toml = String::from_str(alloc, SETTINGS)?;
     for node in 0..form.nodes {
