@@ -3,6 +3,9 @@
 use crate::known::MOST_NODES;
 use card_digits::NodeNo;
 
+/// So many more ranks may stand elsewhere than where they were guessed before no place is guessed any more: those of a few classes.
+const PATIENCE: u16 = 256;
+
 /// Where the rank of each node is likely to stand, in a certificate whose rows don't stand by prefix. Nothing hangs on it, since each
 /// row is compared with the pair. Two orders are guessed: where every node has its prefixes in one order, the rows of a class are as far
 /// from each other as at the class before; where a node's prefixes come in the order of the classes, its next row is at the next class.
@@ -14,6 +17,8 @@ pub(crate) struct Trail {
     offsets: [usize; MOST_NODES],
     /// The place behind the rank that was last found, by node.
     nexts: [usize; MOST_NODES],
+    /// How many more may stand elsewhere.
+    patience: u16,
 }
 
 impl Trail {
@@ -22,6 +27,7 @@ impl Trail {
             begin: None,
             offsets: [0; MOST_NODES],
             nexts: [0; MOST_NODES],
+            patience: PATIENCE,
         }
     }
 
@@ -39,6 +45,21 @@ impl Trail {
     /// The place behind the node's last rank.
     pub fn behind_last(&self, node: NodeNo) -> usize {
         self.nexts[node.place()]
+    }
+
+    /// Whether places are still guessed.
+    pub fn is_followed(&self) -> bool {
+        self.patience > 0
+    }
+
+    /// A rank stood where it was guessed.
+    pub fn hit(&mut self) {
+        self.patience = self.patience.saturating_add(1).min(PATIENCE);
+    }
+
+    /// A rank didn't stand where it was guessed.
+    pub fn miss(&mut self) {
+        self.patience = self.patience.saturating_sub(1);
     }
 
     /// Adds where a rank was found.
