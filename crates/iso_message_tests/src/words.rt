@@ -2,7 +2,7 @@
 
 use crate::fixtures::{M, read};
 use iso_message::bytes_of;
-use message_elements::{Class, Form, Kind, are_of, form_at};
+use message_elements::{Class, FixedForm, Form, Kind, are_of, fixed_form_at, form_at};
 use std::test::*;
 
 /// The types of the standard that are known, by their four digits.
@@ -45,6 +45,22 @@ fn forms_of_elements(rt: HostRuntime) {
     assert!(rt; form_at(64) == Some(Form::Binary));
     assert!(rt; form_at(65).is_none());
     assert!(rt; form_at(255).is_none());
+}
+
+/// The fixed forms are those of the table, and no other element has one.
+#[test]
+fn fixed_forms_of_elements(rt: HostRuntime) {
+    for number in 0..255u8 {
+        let wanted = match form_at(number) {
+            Some(Form::Fixed(class, size)) => Some((class, size)),
+            _ => None,
+        };
+        let fixed = match fixed_form_at(number) {
+            Some(FixedForm { class, size }) => Some((class, size as usize)),
+            None => None,
+        };
+        assert!(rt; fixed == wanted, "{number}");
+    }
 }
 
 #[test]

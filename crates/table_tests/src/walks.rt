@@ -5,7 +5,7 @@ mod old_walk;
 use crate::numbers::Numbers;
 use card_digits::{NodeNo, Prefix};
 use made::{Form, network};
-use net_rows::{Tables, classes};
+use net_rows::{Route, Tables, classes};
 use old_walk::{MOST_NODES, Routes, Stop, Walk};
 use rank_cert::Cert;
 use rank_maker::{Made, make};
@@ -144,5 +144,42 @@ fn as_by_walks_at_the_limits(rt: HostRuntime) -> Result<(), Fail> {
     )?;
     assert!(rt; nodes.ranked > 0 && nodes.circles > 0);
     assert!(rt; links.ranked > 0 && links.circles > 0);
+    Ok(())
+}
+
+/// Whether the row in force at each node stands at its place among the rows.
+fn are_at_their_places(tables: &Tables, in_force: &InForce<'_, Route>) -> bool {
+    for i in 0..tables.nodes().len() {
+        let node = NodeNo::new(i);
+        let place = in_force.place(node);
+        let there = match (place, in_force.row(node)) {
+            (None, None) => true,
+            (Some(place), Some(row)) => match tables.routes().get(place) {
+                Some(other) => other.node == row.node && other.prefix == row.prefix,
+                None => false,
+            },
+            _ => false,
+        };
+        if !there {
+            return false;
+        }
+    }
+    true
+}
+
+#[test]
+fn rows_in_force_stand_at_their_places(rt: HostRuntime) -> Result<(), Fail> {
+    let mut numbers = Numbers::new(5);
+    let form = Form {
+        nodes: 12,
+        ways: 3,
+        one_in: 20,
+    };
+    let tables = network(rt.alloc(), &mut numbers, form)?;
+    let mut in_force = InForce::new(rt.alloc(), tables.routes())?;
+    for class in classes(rt.alloc(), &tables)?.iter() {
+        in_force.enter(*class);
+        assert!(rt; are_at_their_places(&tables, &in_force), "{class}");
+    }
     Ok(())
 }
