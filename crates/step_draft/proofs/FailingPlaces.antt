@@ -1,5 +1,5 @@
 -- The places of the requests that fail.
-use Rattle.std.proofs.Common.{◌≡◌, ◌⊎◌, inl, inr, ◌+◌, ◌-◌, ◌<◌, ◌≤◌, ℕ, zero, suc, List, [], ◌∷◌, map, ◌++◌, filter, drop, take, length, get_or, slice_get, arith, Bool, true, false, cond, refl, sym, ap, subst, ◌∙◌, Option, Some, None, nat_eq, nat_le, nat_lt}
+use Rattle.std.proofs.Common.{◌≡◌, ◌⊎◌, inl, inr, ◌+◌, ◌-◌, ◌<◌, ◌≤◌, ℕ, zero, suc, List, [], ◌∷◌, map, ◌++◌, filter, drop, take, length, get_or, slice_get, slice_set, replicate, arith, Bool, true, false, cond, refl, sym, ap, subst, ◌∙◌, Option, Some, None, nat_eq, nat_le, nat_lt}
 use Rattle.std.specs.Option.{option_map_or}
 use Rattle.std.specs.List.{Contains}
 use Rattle.std.specs.List.Sorted.{IsNonDecreasing}
@@ -17,7 +17,7 @@ use Rattle.node_machine.specs.Machine as machine
 use Rattle.node_machine.proofs.Readings.{failing_is}
 use Rattle.node_books.proofs.Loads.{one_row}
 use Rattle.request_book.proofs.At.{within}
-use Rattle.step_draft.specs.Failures.{AreDue, delay, fail_next, head_key, is_left, key_from, next_from}
+use Rattle.step_draft.specs.Failures.{AreDue, AreAddedDue, delay, fail_next, head_key, is_left, key_from, next_from}
 use Rattle.step_draft.proofs.Parts.{head_of_rows}
 
 -- rows of which none passes are left out
@@ -210,6 +210,37 @@ pub due_again : (t : Network) (count i : ℕ) (rows : List Row) (places : List �
 due_again t count i rows places same old j lt k r e f is = elim (cases_eq j i) [
   | inl at ↦ old same.0 same.1 k r e f (ap (λ d. r.count + d) same.2 ∙ subst (λ n. r.count + delay t n ≡ suc count) at is)
   | inr other ↦ old j (omega (arith, lt, other)) k r e f is
+]
+
+pub due_before : (t : Network) (count i : ℕ) (rows : List Row) (places : List ℕ) → AreDue t count (delay t i) rows places → ((j : ℕ) → j < i → AreDue t count (delay t j) rows places) → (j : ℕ) → j < suc i → AreDue t count (delay t j) rows places
+due_before t count i rows places new old = due_more t count i rows places places (λ x h. h) new old
+
+pub added_same : (t : Network) (count : ℕ) (added : List Bool) (rows : List Row) (before after : List ℕ) → ((x : ℕ) → Contains before x → Contains after x) → AreAddedDue t count added rows before → AreAddedDue t count added rows after
+added_same t count added rows before after others old ticks m k r e f is = others k (old ticks m k r e f is)
+
+-- where a list that was set has true, it was set there or had it before
+set_added : (added : List Bool) (at n : ℕ) → get_or (slice_set added at true) n false ≡ true → (n ≡ at) ⊎ (get_or added n false ≡ true)
+set_added [] at n h = inr h
+set_added (a ∷ added) zero zero h = inl refl
+set_added (a ∷ added) zero (suc n) h = inr h
+set_added (a ∷ added) (suc at) zero h = inr h
+set_added (a ∷ added) (suc at) (suc n) h = elim (set_added added at n h) [
+  | inl here ↦ inl (ap suc here)
+  | inr there ↦ inr there
+]
+
+pub none_added : (t : Network) (count n : ℕ) (rows : List Row) (places : List ℕ) → AreAddedDue t count (replicate n false) rows places
+none_added t count n rows places ticks m = absurd (none n ticks m)
+  where
+    none : (n ticks : ℕ) → get_or (replicate n false) ticks false ≡ true → ⊥
+    none zero ticks m = absurd cc
+    none (suc n) zero m = absurd cc
+    none (suc n) (suc ticks) m = none n ticks m
+
+pub added_more : (t : Network) (count at : ℕ) (added : List Bool) (rows : List Row) (before after : List ℕ) → ((x : ℕ) → Contains before x → Contains after x) → AreDue t count at rows after → AreAddedDue t count added rows before → AreAddedDue t count (slice_set added at true) rows after
+added_more t count at added rows before after others new old ticks m k r e f is = elim (set_added added at ticks m) [
+  | inl same ↦ new k r e f (subst (λ n. r.count + n ≡ suc count) same is)
+  | inr there ↦ others k (old ticks there k r e f is)
 ]
 
 -- the places in order

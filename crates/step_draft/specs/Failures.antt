@@ -1,5 +1,5 @@
 -- What makes requests fail, as an input; and one request after another.
-use Rattle.std.specs.Prelude.{◌≡◌, ◌+◌, ℕ, suc, nat_le, nat_lt, nat_eq, List, [], ◌∷◌, drop, length, slice_get, Bool, true, ◌&&◌, Option, Some, None, if◌then◌else◌}
+use Rattle.std.specs.Prelude.{◌≡◌, ◌+◌, ℕ, suc, nat_le, nat_lt, nat_eq, List, [], ◌∷◌, drop, length, slice_get, slice_index_or, Bool, true, false, ◌&&◌, Option, Some, None, if◌then◌else◌}
 use Rattle.std.specs.Option.{option_map_or}
 use Rattle.std.specs.List.{Contains}
 use Rattle.card_digits.specs.declared.key.Key.{Key}
@@ -44,3 +44,7 @@ delay t i = option_map_or (λ k. k.ticks) (slice_get t.links i) (if nat_eq i (le
 -- each request that fails at a tick, so many ticks after its opening, stands at one of these places
 abbrev pub AreDue : Network → ℕ → ℕ → List Row → List ℕ → Type 0
 AreDue t count ticks rows places = (k : ℕ) (r : Row) → slice_get rows k ≡ Some r → row_fails t count Tick r ≡ true → r.count + ticks ≡ suc count → Contains places k
+
+-- so it is for each number of ticks that was added
+abbrev pub AreAddedDue : Network → ℕ → List Bool → List Row → List ℕ → Type 0
+AreAddedDue t count added rows places = (ticks : ℕ) → slice_index_or added ticks false ≡ true → AreDue t count ticks rows places

@@ -5,12 +5,18 @@ ghost use Rattle.std.specs.List.Sorted.{IsNonDecreasing};
 ghost use Rattle.network_law.specs.Traces.{Tick};
 ghost use Rattle.node_machine.specs.Lists.{Row, row_fails};
 ghost use Rattle.request_book.specs.Values.{AreCovered};
-ghost use Rattle.step_draft.specs.Failures.{AreDue, cause_of, delay};
+ghost use Rattle.step_draft.specs.Failures.{AreDue, AreAddedDue, cause_of, delay};
 
 use crate::draft::Draft;
 use crate::timers::{Cause, row_fails};
 use net_rows::Tables;
 use std::alloc::AllocError;
+
+/// Numbers of ticks below this one have a place each. Links of accepted tables wait no longer.
+const MOST_TICKS: usize = 4_096;
+
+/// Up to so many links, comparing their numbers of ticks with each other takes less than clearing a place for each number.
+const FEW_LINKS: usize = 16;
 
 /// The numbers of ticks after which requests fail: each link's in the order of the tables, the host's, and none.
 fn delay(tables: &Tables, i: usize) -> u16
@@ -120,7 +126,8 @@ impl Draft {
         places: &mut Vec<usize>,
     ) -> Result<(), AllocError>
         requires { (j : ℕ) → j < i → AreDue tables.now self.now.base.count (delay tables.now j) self.now.base.rows places.old.items }
-        ensures { OnOk result ((j : ℕ) → j < suc i → AreDue tables.now self.now.base.count (delay tables.now j) self.now.base.rows places.new.items) }
+        ensures others { (x : ℕ) → Contains places.old.items x → Contains places.new.items x }
+        ensures due { OnOk result ((j : ℕ) → j < suc i → AreDue tables.now self.now.base.count (delay tables.now j) self.now.base.rows places.new.items) }
     {
         if is_first(tables, i) {
             self.add_after(tables, delay(tables, i), places)?;
@@ -128,8 +135,34 @@ impl Draft {
         Ok(())
     }
 
-    /// The places of the requests that fail at a tick, in no order.
-    fn due_places(&self, tables: &Tables) -> Result<Vec<usize>, AllocError>
+    /// The same, where `added` says of each number of ticks that has a place whether its requests were added.
+    #[tactic(auto, using(crate::proofs::FailingPlaces::due_more, crate::proofs::FailingPlaces::due_before, crate::proofs::FailingPlaces::added_more, crate::proofs::FailingPlaces::added_same))]
+    fn add_delay_once(
+        &self,
+        tables: &Tables,
+        i: usize,
+        added: &mut [bool; MOST_TICKS],
+        places: &mut Vec<usize>,
+    ) -> Result<(), AllocError>
+        requires before { (j : ℕ) → j < i → AreDue tables.now self.now.base.count (delay tables.now j) self.now.base.rows places.old.items }
+        requires added { AreAddedDue tables.now self.now.base.count added.old self.now.base.rows places.old.items }
+        ensures due { OnOk result ((j : ℕ) → j < suc i → AreDue tables.now self.now.base.count (delay tables.now j) self.now.base.rows places.new.items) }
+        ensures added { OnOk result (AreAddedDue tables.now self.now.base.count added.new self.now.base.rows places.new.items) }
+    {
+        let ticks = delay(tables, i) as usize;
+        if ticks >= MOST_TICKS {
+            return self.add_delay(tables, i, places);
+        }
+        if added[ticks] {
+            return Ok(());
+        }
+        self.add_after(tables, ticks as u16, places)?;
+        added[ticks] = true;
+        Ok(())
+    }
+
+    /// The places of the requests that fail at a tick, in no order, where there are few links.
+    fn due_of_few_links(&self, tables: &Tables) -> Result<Vec<usize>, AllocError>
         ensures { IfOk result (λ places. AreCovered (row_fails tables.now self.now.base.count Tick) self.now.base.rows places.items) }
     {
         let mut places = Vec::new(self.alloc);
@@ -137,6 +170,29 @@ impl Draft {
             self.add_delay(tables, i, &mut places)?;
         }
         Ok(places)
+    }
+
+    /// The same with a place for each number of ticks, so that each link is looked at once.
+    fn due_of_many_links(&self, tables: &Tables) -> Result<Vec<usize>, AllocError>
+        ensures { IfOk result (λ places. AreCovered (row_fails tables.now self.now.base.count Tick) self.now.base.rows places.items) }
+    {
+        let mut added = [false; MOST_TICKS];
+        let mut places = Vec::new(self.alloc);
+        for i in 0..tables.links().len() + 2 {
+            self.add_delay_once(tables, i, &mut added, &mut places)?;
+        }
+        Ok(places)
+    }
+
+    /// The places of the requests that fail at a tick, in no order.
+    fn due_places(&self, tables: &Tables) -> Result<Vec<usize>, AllocError>
+        ensures { IfOk result (λ places. AreCovered (row_fails tables.now self.now.base.count Tick) self.now.base.rows places.items) }
+    {
+        if tables.links().len() > FEW_LINKS {
+            self.due_of_many_links(tables)
+        } else {
+            self.due_of_few_links(tables)
+        }
     }
 
     /// The places of the requests that fail, in no order; some that stand there may not fail.

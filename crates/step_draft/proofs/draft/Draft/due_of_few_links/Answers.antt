@@ -1,6 +1,6 @@
 use Rattle.std.proofs.Common.{rules, ◌≤◌, ◌+◌, length}
 use Rattle.step_draft.proofs.FailingPlaces.{all_due}
-use Rattle.step_draft.proofs.draft.Draft.due_places.Goals as goal
+use Rattle.step_draft.proofs.draft.Draft.due_of_few_links.Goals as goal
 
 pub returns : goal.returns
 returns c =
