@@ -28,7 +28,7 @@ joined : (low : ℕ) (xs ys : List ℕ) → low ≤ 64 → Ascends low 64 xs →
 joined low [] ys h a b = weaker 64 low 128 ys h b
 joined low (x ∷ xs) ys h a b = (a.0, omega (arith, a.1), joined x xs ys a.1 a.2 b)
 
-announced_ascend : (first second : ℕ) → Ascends 1 128 (announced first second)
+pub announced_ascend : (first second : ℕ) → Ascends 1 128 (announced first second)
 announced_ascend first second =
     let lt : first % 2 ^ 63 < 2 ^ 63 = mod_below first (2 ^ 63) (omega arith) in
     let narrow : marks 64 64 (first % 2 ^ 63) ≡ marks 64 63 (first % 2 ^ 63) = marks_down 64 64 63 (first % 2 ^ 63) (omega arith) lt in

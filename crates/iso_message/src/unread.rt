@@ -1,10 +1,10 @@
 //! A message that is read element by element, and isn't kept.
-ghost use Rattle.std.specs.Prelude.{◌≡◌, ◌≤◌, ◌==◌, true, false, [], ◌∷◌, length, take, drop, MatchOption, MatchResult, IfOk, IfSome, OnErr, Ok, Err};
+ghost use Rattle.std.specs.Prelude.{◌≡◌, ◌≤◌, ◌==◌, true, false, [], ◌∷◌, length, take, drop, MatchOption, MatchResult, IfOk, IfSome, OnErr, None, Ok, Err};
 ghost use Rattle.message_elements.specs.Table.{form_of};
 ghost use Rattle.iso_message.specs.Elements.{content_at, field_at};
 ghost use Rattle.iso_message.specs.Known.{IsKnown};
 ghost use Rattle.iso_message.specs.Messages.{read};
-ghost use Rattle.iso_message.specs.Spelling.{is_binary};
+ghost use Rattle.iso_message.specs.Spelling.{Ascends, is_binary};
 ghost use Rattle.iso_message.specs.Unread.{read_on};
 
 use crate::reading::{binary_of, bit_map, length_of, read_kind, second_map, take_mark};
@@ -102,7 +102,8 @@ impl<'a> Unread<'a> {
     #[tactic(auto, unfolding(crate::specs::Messages::read))]
     #[inline(always)]
     pub fn of(bytes: &'a [u8]) -> Result<(Kind, Unread<'a>), DecodeFault>
-        ensures { MatchResult result (λ x. read bytes.now ≡ read_on x.0 [] x.1) (λ fault. read bytes.now ≡ Err fault) }
+        ensures read { MatchResult result (λ x. read bytes.now ≡ read_on x.0 [] x.1) (λ fault. read bytes.now ≡ Err fault) }
+        ensures order { IfOk result (λ x. Ascends 1 128 x.1.numbers) }
     {
         let (kind, rest) = read_kind(bytes)?;
         let (first, rest) = bit_map(rest)?;
@@ -121,6 +122,7 @@ impl<'a> Unread<'a> {
     pub fn next_number(&mut self) -> Option<u8>
         ensures numbers { MatchOption result (self.old.numbers ≡ []) (λ number. self.old.numbers ≡ number ∷ self.new.numbers) }
         ensures bytes { self.new.bytes ≡ self.old.bytes }
+        ensures none { result ≡ None → self.new ≡ self.old }
     {
         if self.low != 0 {
             return Some(take_mark(&mut self.low, 64));
@@ -137,6 +139,7 @@ impl<'a> Unread<'a> {
     pub fn take_plain(&mut self, number: u8) -> Result<Option<(&'a [u8], usize)>, DecodeFault>
         ensures value { MatchResult result (λ x. MatchOption x (self.new.bytes ≡ self.old.bytes) (λ y. field_at (form_of number) number self.old.bytes ≡ Ok (take y.1 y.0.now, self.new.bytes))) (λ fault. field_at (form_of number) number self.old.bytes ≡ Err fault) }
         ensures size { IfOk result (λ x. IfSome x (λ y. y.1 ≤ length y.0.now)) }
+        ensures behind { IfOk result (λ x. IfSome x (λ y. drop y.1 y.0.now ≡ self.new.bytes)) }
         ensures variant { IfOk result (λ x. MatchOption x (is_binary (form_of number) ≡ true) (λ _. is_binary (form_of number) ≡ false)) }
         ensures numbers { self.new.numbers ≡ self.old.numbers }
         ensures err { OnErr result (self.new.bytes ≡ self.old.bytes) }
