@@ -5,3 +5,4 @@ pub mod LabelLemmas
 pub mod RowLemmas
 pub mod DigitLemmas
 pub mod LabelTable
+pub mod RoomLemmas

@@ -24,7 +24,7 @@ pub some_text : (number : ℕ) (items : List (Option (List ℕ))) → (text : Li
 some_text number [] = ([], true, (refl, refl))
 some_text number (item ∷ items) =
     let later = some_text (suc number) items in
-    (block number (reading item) ++ later.0, is_ok (reading item) && later.1, (reading item, later.0, later.1, inl refl, refl, refl, later.2))
+    (block number (reading item) ++ later.0, is_ok (reading item) && later.1, (reading item, later.0, later.1, refl, refl, refl, later.2))
 
 -- the writer failed at an item: a front of a whole text went out
 pub front_written : (whole items : List (Option (List ℕ))) (item : Option (List ℕ)) (m n : ℕ) (start mid now : Option (List ℕ)) (sent old : List ℕ) (good : Bool) → n ≡ suc m

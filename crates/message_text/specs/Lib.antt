@@ -2,3 +2,4 @@ pub mod Printed
 pub mod Parts
 pub mod Lines
 pub mod Labels
+pub mod Room

@@ -1,5 +1,5 @@
 -- What is printed for a message, and for all messages of an input.
-use Rattle.std.specs.Prelude.{◌≡◌, ℕ, suc, ◌&&◌, ◌⊎◌, Bool, true, is_ok, if◌then◌else◌, List, [], ◌∷◌, ◌++◌, codes, decimal, Option, Some, None, Result, Ok, Err}
+use Rattle.std.specs.Prelude.{◌≡◌, ℕ, suc, ◌&&◌, Bool, true, is_ok, if◌then◌else◌, List, [], ◌∷◌, ◌++◌, codes, decimal, Option, Some, None, Result, Ok, Err}
 use Rattle.std.specs.List.{flat_map}
 use Rattle.std.specs.Io.KnownBytes.{Appends}
 use Rattle.hex.specs.Hex.{encode_upper}
@@ -55,9 +55,9 @@ abbrev pub reading : Option (List ℕ) → Result Fields DecodeFault
 reading (Some bytes) = read bytes
 reading None = Err faults.Short
 
--- what is read, or that memory was refused
+-- what is read
 abbrev pub IsAnswer : Option (List ℕ) → Result Fields DecodeFault → Type 0
-IsAnswer item answer = (answer ≡ reading item) ⊎ (answer ≡ Err faults.Memory)
+IsAnswer item answer = answer ≡ reading item
 
 -- a text grows by the block of a message
 abbrev pub PrintsBlock : ℕ → Option (List ℕ) → List ℕ → List ℕ → Bool → Type 0

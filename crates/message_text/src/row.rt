@@ -1,15 +1,16 @@
 //! The printed form of a message, written into a row of bytes that are there already.
-ghost use Rattle.std.specs.Prelude.{◌≡◌, ◌+◌, ◌≤◌, ◌++◌, [], true, false, length, take, codes, decimal, Some, None, Err, IfSome, IfOk, IfErr};
+ghost use Rattle.std.specs.Prelude.{◌≡◌, ◌+◌, ◌≤◌, ◌++◌, [], true, false, length, take, codes, decimal, None, Err, IfSome, IfOk, IfErr, is_ok};
 ghost use Rattle.std.specs.Option.{option_copied};
 ghost use Rattle.hex.specs.Hex.{encode_upper};
 ghost use Rattle.message_elements.specs.Table.{form_of};
 ghost use Rattle.message_elements.specs.declared.kind.Kind.{Kind};
 ghost use Rattle.iso_message.specs.Elements.{field_at};
 ghost use Rattle.iso_message.specs.Messages.{read};
-ghost use Rattle.iso_message.specs.Spelling.{is_binary};
+ghost use Rattle.iso_message.specs.Spelling.{Ascends, is_binary};
 ghost use Rattle.iso_message.specs.Unread.{read_on};
 ghost use Rattle.message_text.specs.Lines.{WritesElement, WritesLeft, WritesMessage};
-ghost use Rattle.message_text.specs.Printed.{element_line, fault_line, heading, PrintsBlock};
+ghost use Rattle.message_text.specs.Printed.{block, element_line, fault_line, heading, reading};
+ghost use Rattle.message_text.specs.Room.{line_room, lines_room};
 
 use crate::block::kind_line;
 use card_digits::put;
@@ -48,23 +49,16 @@ static LABEL_LENS: [u8; 129] = [
 /// Writes the number of an element and a space. Four bytes are written, of which the last may be meant for others.
 #[inline(always)]
 fn put_label(row: &mut [u8], at: usize, number: u8) -> usize
-    requires { at + 4 ≤ length row.old }
+    requires number { number ≤ 128 }
+    requires room { at + 4 ≤ length row.old }
     ensures text { take result row.new ≡ take at row.old ++ (decimal number ++ codes " ") }
     ensures end { result ≤ at + 4 }
     ensures size { length row.new ≡ length row.old }
 {
     let place = number as usize;
-    if place < LABELS.len() {
-        let label = LABELS[place];
-        let _behind = put(row, at, &label);
-        return at + LABEL_LENS[place] as usize;
-    }
-    let digits = [number / 100, number / 10 % 10, number % 10];
-    put(
-        row,
-        at,
-        &[b'0' + digits[0], b'0' + digits[1], b'0' + digits[2], b' '],
-    )
+    let label = LABELS[place];
+    let _behind = put(row, at, &label);
+    at + LABEL_LENS[place] as usize
 }
 
 /// Writes as many bytes as one word has, or up to twice as many: the first word and the last one.
@@ -174,18 +168,17 @@ fn put_longer(row: &mut [u8], at: usize, bytes: &[u8]) -> usize
     put_bytes(row, at, bytes)
 }
 
-/// The room in a line for a label, a line feed, and sixteen digits in place of a value.
-const OTHER_ROOM: usize = 4 + 1 + 16;
-
-/// Writes the line of an element that isn't one of eight bytes, of which the first of some bytes are the value.
+/// Writes the line of an element that isn't one of eight bytes, of which the first of some bytes are the value. Behind the line sixteen
+/// bytes may be written that are meant for others.
 #[inline(always)]
 #[tactic(auto, unfolding(crate::specs::Printed::element_line))]
 fn put_plain(row: &mut [u8], at: usize, number: u8, front: &[u8], size: usize) -> usize
+    requires number { number ≤ 128 }
     requires size { size ≤ length front.now }
-    requires room { at + size + OTHER_ROOM ≤ length row.old }
+    requires room { at + size + 21 ≤ length row.old }
     requires plain { is_binary (form_of number) ≡ false }
     ensures text { take result row.new ≡ take at row.old ++ element_line (number, take size front.now) }
-    ensures end { result ≤ at + size + OTHER_ROOM }
+    ensures end { result ≤ at + size + 5 }
     ensures size { length row.new ≡ length row.old }
 {
     let label = put_label(row, at, number);
@@ -197,19 +190,17 @@ fn put_plain(row: &mut [u8], at: usize, number: u8, front: &[u8], size: usize) -
 #[inline(never)]
 #[tactic(auto, unfolding(crate::specs::Printed::element_line))]
 fn put_binary(row: &mut [u8], at: usize, number: u8, value: &[u8; 8]) -> usize
-    requires room { at + OTHER_ROOM ≤ length row.old }
+    requires number { number ≤ 128 }
+    requires room { at + 21 ≤ length row.old }
     requires binary { is_binary (form_of number) ≡ true }
     ensures text { take result row.new ≡ take at row.old ++ element_line (number, value.now) }
-    ensures end { result ≤ at + OTHER_ROOM }
+    ensures end { result ≤ at + 21 }
     ensures size { length row.new ≡ length row.old }
 {
     let label = put_label(row, at, number);
     let end = put_digits(row, label, value);
     put(row, end, b"\n")
 }
-
-/// The room for a line: no value has more than 999 bytes.
-const LINE_ROOM: usize = 999 + OTHER_ROOM;
 
 /// Reads the element of a number, and writes its line.
 #[inline(always)]
@@ -219,9 +210,10 @@ fn put_next(
     number: u8,
     unread: &mut Unread,
 ) -> Result<usize, DecodeFault>
-    requires { at + LINE_ROOM ≤ length row.old }
+    requires number { number ≤ 128 }
+    requires room { at + line_room number + 16 ≤ length row.old }
     ensures line { IfOk result (λ end. WritesElement number unread.old.bytes unread.new.bytes (take at row.old) (take end row.new)) }
-    ensures end { IfOk result (λ end. end ≤ length row.old) }
+    ensures end { IfOk result (λ end. end ≤ at + line_room number) }
     ensures fault { IfErr result (λ fault. field_at (form_of number) number unread.old.bytes ≡ Err fault) }
     ensures numbers { unread.new.numbers ≡ unread.old.numbers }
     ensures size { length row.new ≡ length row.old }
@@ -235,27 +227,25 @@ fn put_next(
     }
 }
 
-/// Reads the elements that are left of a message, and writes their lines; none where the row has no room for any next one.
+/// Reads the elements that are left of a message, and writes their lines.
 #[inline(never)]
-fn put_left(row: &mut [u8], at: usize, unread: Unread) -> Result<Option<usize>, DecodeFault>
-    requires { at ≤ length row.old }
-    ensures lines { IfOk result (λ x. IfSome x (λ end. WritesLeft unread.entry (take at row.old) (take end row.new))) }
-    ensures end { IfOk result (λ x. IfSome x (λ end. end ≤ length row.old)) }
+fn put_left(row: &mut [u8], at: usize, unread: Unread) -> Result<usize, DecodeFault>
+    requires order { Ascends 1 128 unread.numbers }
+    requires room { at + lines_room unread.numbers + 16 ≤ length row.old }
+    ensures lines { IfOk result (λ end. WritesLeft unread.entry (take at row.old) (take end row.new)) }
+    ensures end { IfOk result (λ end. end ≤ length row.old) }
     ensures fault { IfErr result (λ fault. (kind : Kind) → read_on kind [] unread.entry ≡ Err fault) }
     ensures size { length row.new ≡ length row.old }
 {
     let mut left = unread;
     let mut end = at;
     while let Some(number) = left.next_number() {
-        if row.len() - end < LINE_ROOM {
-            return Ok(None);
-        }
         end = put_next(row, end, number, &mut left)?;
     }
     if !left.is_at_end() {
         return Err(DecodeFault::Trailing);
     }
-    Ok(Some(end))
+    Ok(end)
 }
 
 /// Writes the line with a message's number at the front.
@@ -274,14 +264,13 @@ fn put_heading(row: &mut [u8], number: u64) -> usize
     put(row, at, b"\n")
 }
 
-/// Writes the lines of the message that the bytes are behind the line of its number; none where there is no room for them. After a
-/// fault anything may stand in the row.
+/// Writes the lines of the message that the bytes are behind the line of its number. After a fault anything may stand in the row.
 #[tactic(auto, unfolding(crate::specs::Printed::message_lines))]
 #[inline(always)]
-fn put_message(row: &mut [u8], number: u64, bytes: &[u8]) -> Result<Option<usize>, DecodeFault>
-    requires { 59 ≤ length row.old }
-    ensures lines { IfOk result (λ x. IfSome x (λ end. WritesMessage number bytes.now (take end row.new))) }
-    ensures end { IfOk result (λ x. IfSome x (λ end. end ≤ length row.old)) }
+fn put_message(row: &mut [u8], number: u64, bytes: &[u8]) -> Result<usize, DecodeFault>
+    requires { 16_384 ≤ length row.old }
+    ensures lines { IfOk result (λ end. WritesMessage number bytes.now (take end row.new)) }
+    ensures end { IfOk result (λ end. end ≤ length row.old) }
     ensures fault { IfErr result (λ fault. read bytes.now ≡ Err fault) }
     ensures size { length row.new ≡ length row.old }
 {
@@ -325,37 +314,31 @@ fn put_fault(row: &mut [u8], at: usize, fault: DecodeFault) -> usize
     }
 }
 
-/// Writes the lines of the message that the bytes are, or of its fault, in the front of a row. Returns where they end, and whether there
-/// is no fault; none where the row has no room for them.
-fn put_block(row: &mut [u8], number: u64, bytes: &[u8]) -> Option<(usize, bool)>
-    ensures block { IfSome result (λ r. PrintsBlock number (Some bytes.now) [] (take r.0 row.new) r.1) }
-    ensures end { IfSome result (λ r. r.0 ≤ length row.new) }
+/// Writes the line of a message's number and that of its fault.
+fn put_faulty(row: &mut [u8], number: u64, fault: DecodeFault) -> usize
+    requires { 59 ≤ length row.old }
+    ensures text { take result row.new ≡ block number (Err fault) }
+    ensures end { result ≤ length row.old }
+    ensures size { length row.new ≡ length row.old }
 {
-    if row.len() < FRONT_ROOM {
-        return None;
-    }
-    match put_message(row, number, bytes) {
-        Ok(written) => {
-            let end = written?;
-            Some((end, true))
-        }
-        Err(fault) => {
-            let at = put_heading(row, number);
-            Some((put_fault(row, at, fault), false))
-        }
-    }
+    let at = put_heading(row, number);
+    put_fault(row, at, fault)
 }
 
-/// The same of an item; none too where it is a frame that is cut, which is the last.
-pub(crate) fn put_item(row: &mut [u8], number: u64, item: Option<&[u8]>) -> Option<(usize, bool)>
-    ensures block { IfSome result (λ r. PrintsBlock number (option_copied item.entry) [] (take r.0 row.new) r.1) }
-    ensures end { IfSome result (λ r. r.0 ≤ length row.new) }
+/// Writes the block of an item, which is a frame that is cut where it has no bytes, in the front of a row, which has room for any.
+/// Returns where it ends, and whether there is no fault.
+pub(crate) fn put_item(row: &mut [u8], number: u64, item: Option<&[u8]>) -> (usize, bool)
+    requires { 16_384 ≤ length row.old }
+    ensures text { take result.0 row.new ≡ block number (reading (option_copied item.entry)) }
+    ensures good { result.1 ≡ is_ok (reading (option_copied item.entry)) }
+    ensures end { result.0 ≤ length row.new }
 {
-    match item {
-        Some(bytes) => put_block(row, number, bytes),
-        None => None,
+    let read = match item {
+        Some(bytes) => put_message(row, number, bytes),
+        None => Err(DecodeFault::Short),
+    };
+    match read {
+        Ok(end) => (end, true),
+        Err(fault) => (put_faulty(row, number, fault), false),
     }
 }
-
-/// The room for the line of a number, and for that of a type or a fault.
-const FRONT_ROOM: usize = 29 + 30;

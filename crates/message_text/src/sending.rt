@@ -6,19 +6,15 @@ ghost use Rattle.card_digits.specs.Stream.{AppendsFront};
 ghost use Rattle.message_elements.specs.declared.fault.DecodeFault.TheVariants.{Memory};
 ghost use Rattle.message_text.specs.Printed.{block, Sends, SendsBlock, SendsFront};
 
-use crate::block::push_item;
 use crate::row::put_item;
 use card_digits::{Sink, WriteFault, write_all};
-use iso_message::Message;
-use itoa::Buffer;
-use message_elements::Kind;
 use std::alloc::{AllocError, Global};
 
 /// From so many bytes on, what waits is written.
 pub const MOST_WAITING: usize = 65_536;
 
-/// So many bytes has the row in which a block is printed: more than the block of any message that the table of elements allows,
-/// and one line more.
+/// So many bytes has the row in which a block is printed: more than that of any message has, as the table of elements allows no more
+/// than 13,218.
 const ROW: usize = 16_384;
 
 /// What waits to be written, and the memory in which a message is printed.
@@ -26,9 +22,6 @@ const ROW: usize = 16_384;
 pub(crate) struct Buffers {
     pub waiting: Vec<u8>,
     row: [u8; ROW],
-    /// For a block that the row has no room for, and its message.
-    text: Vec<u8>,
-    message: Message,
 }
 
 impl Buffers {
@@ -38,13 +31,11 @@ impl Buffers {
         Ok(Buffers {
             waiting: Vec::with_capacity(alloc, MOST_WAITING)?,
             row: [0; ROW],
-            text: Vec::new(alloc),
-            message: Message::new(alloc, Kind::K0100),
         })
     }
 
     /// Prints the block of a message, of a frame that is cut where it has no bytes, behind what waits, and says whether it has no
-    /// fault. Where memory is refused the block names that.
+    /// fault. It asks for no memory but for what waits.
     pub(crate) fn add<W: Sink>(
         &mut self,
         writer: &mut W,
@@ -55,35 +46,9 @@ impl Buffers {
         ensures err { OnErr result (SendsFront number (option_copied item.entry) (W.written writer.old) (W.written writer.new) self.old.waiting.items) }
         ensures failed { OnErr result (0 < W.failures writer.new) }
     {
-        let Some((end, good)) = put_item(&mut self.row, number, item) else {
-            return self.add_longer(writer, number, item);
-        };
+        let (end, good) = put_item(&mut self.row, number, item);
         add_text(writer, &mut self.waiting, &self.row[..end])?;
         Ok(good)
-    }
-
-    /// The same of a block for which the row has no room, and of a frame that is cut.
-    fn add_longer<W: Sink>(
-        &mut self,
-        writer: &mut W,
-        number: u64,
-        item: Option<&[u8]>,
-    ) -> Result<bool, WriteFault>
-        ensures ok { IfOk result (SendsBlock number (option_copied item.entry) (W.written writer.old) (W.written writer.new) self.old.waiting.items self.new.waiting.items) }
-        ensures err { OnErr result (SendsFront number (option_copied item.entry) (W.written writer.old) (W.written writer.new) self.old.waiting.items) }
-        ensures failed { OnErr result (0 < W.failures writer.new) }
-    {
-        self.text.clear();
-        match push_item(&mut self.text, &mut self.message, number, item) {
-            Ok(good) => {
-                add_text(writer, &mut self.waiting, &self.text)?;
-                Ok(good)
-            }
-            Err(_) => {
-                send_memory(writer, &mut self.waiting, number)?;
-                Ok(false)
-            }
-        }
     }
 }
 
@@ -127,20 +92,4 @@ pub fn add_text<W: Sink>(
         return Ok(());
     }
     send(writer, waiting)
-}
-
-/// Writes what waits, and behind it the block of a message for which memory was refused. It takes no memory.
-fn send_memory<W: Sink>(
-    writer: &mut W,
-    waiting: &mut Vec<u8>,
-    number: u64,
-) -> Result<(), WriteFault>
-    ensures ok { OnOk result (Sends (W.written writer.old) (W.written writer.new) waiting.old.items (block number (Err Memory)) waiting.new.items) }
-    ensures err { OnErr result (AppendsFront (W.written writer.old) (W.written writer.new) (waiting.old.items ++ block number (Err Memory))) }
-    ensures failed { OnErr result (0 < W.failures writer.new) }
-{
-    let mut digits = Buffer::new();
-    send_with(writer, waiting, b"message ")?;
-    write_all(writer, digits.format(number).as_bytes())?;
-    write_all(writer, b"\nfault message 8 memory\n")
 }
