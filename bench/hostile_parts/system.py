@@ -242,6 +242,20 @@ def try_refused_memory(program):
                 yield (f"{job}: {what}", problem)
 
 
+def try_refused_cut_frame(program):
+    """A whole frame and a cut one behind it, each request for memory refused in turn. A cut frame asks for no memory: its block stands
+    behind that of the whole one, or there was no memory for the bundle."""
+    data = changes.FRAME + changes.FRAME[:5]
+    whole = started(program, WORDS["frames"], input=data)
+    wanted = [(whole.returncode, whole.stdout), (2, b"fault bundle 4 memory\n")]
+    good = whole.stdout.endswith(b"\nmessage 2\nfault message 1 short\n")
+    yield ("frames: the second is cut", None if good else f"status {whole.returncode}: {whole.stdout[-80:]}")
+    for later in (False, True):
+        for what, run in refused_runs(program, WORDS["frames"], data, later):
+            good = (run.returncode, run.stdout) in wanted
+            yield (f"frames, the second cut: {what}", None if good else f"status {run.returncode}: {run.stdout[-80:]}")
+
+
 def try_refused_steps(_program):
     """A node's steps, each tried again where it was refused memory: they put out what they put out otherwise."""
     steps = TOP / "crates" / "step_retry" / "out" / "step_retry"
