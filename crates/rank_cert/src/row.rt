@@ -63,20 +63,6 @@ fn behind_name<'a>(text: &'a [u8], name: Name) -> Option<&'a [u8]>
     Some(&behind[1..])
 }
 
-/// The name in front of a space, and what stands behind that. Where it is the name of the row at a place, it is only compared.
-#[inline]
-fn name_in_front<'a>(text: &'a [u8], rows: &[Rank], place: usize) -> Option<(Name, &'a [u8])>
-    ensures { IfSome result (λ p. IsNamed text.now p.0 p.1.now) }
-{
-    if let Some(row) = rows.get(place) {
-        if let Some(behind) = behind_name(text, row.node) {
-            return Some((row.node, behind));
-        }
-    }
-    let (name, behind) = field(text)?;
-    Some((Name::read(name)?, behind))
-}
-
 /// The most digits of a rank.
 const MOST_DIGITS: usize = 5;
 
@@ -103,18 +89,37 @@ fn last_number(text: &[u8]) -> Option<(u16, &[u8])>
 }
 
 impl Spelled<'_> {
-    /// The row of the first line, where that spells this prefix in this way, and what stands behind the line. Its name may be that of the row
-    /// at a place.
+    /// The row of the first line, where that spells this prefix in this way, and what stands behind the line. Where its name is that of the
+    /// row at a place, it is only compared.
     #[inline]
     fn like<'t>(&self, text: &'t [u8], rows: &[Rank], place: usize) -> Option<(Rank, &'t [u8])>
         ensures row { IfSome result (λ p. IsLike text.now p.0 p.1.now) }
         ensures prefix { IfSome result (λ p. p.0.prefix ≡ self.now) }
         ensures good { IfSome result (λ p. IsRow p.0) }
     {
-        match name_in_front(text, rows, place) {
-            Some((node, behind)) => self.row_behind(node, behind),
-            None => None,
+        if let Some(row) = rows.get(place) {
+            if let Some(behind) = behind_name(text, row.node) {
+                return self.row_behind(row.node, behind);
+            }
         }
+        self.like_any(text)
+    }
+
+    /// The same for any name, which is read only where the digits behind it are those of the prefix.
+    #[inline]
+    fn like_any<'t>(&self, text: &'t [u8]) -> Option<(Rank, &'t [u8])>
+        ensures row { IfSome result (λ p. IsLike text.now p.0 p.1.now) }
+        ensures prefix { IfSome result (λ p. p.0.prefix ≡ self.now) }
+        ensures good { IfSome result (λ p. IsRow p.0) }
+    {
+        let (name, behind) = field(text)?;
+        let (rank, rest) = self.rank_behind(behind)?;
+        let row = Rank {
+            node: Name::read(name)?,
+            prefix: self.prefix,
+            rank,
+        };
+        Some((row, rest))
     }
 
     /// The same behind a name and a space.
