@@ -125,6 +125,14 @@ module _ {R : Type 0} (g : R → ℕ) (f : R → List ℕ) (rows : List R) where
       let few : slot ≤ length front - 1 = rw here at before.0 in
       known_own front slots fronts slot old new some room enough known here (at_place fronts slot old (omega arith) is) put
 
+  pub slot_few : (front : List ℕ) (slots : List ℕ) (fronts : List (List (Option ℕ))) (slot : ℕ) → 1 ≤ length front → length front < length slots
+      → AreKnown g f rows front (length front - 1) slots fronts → slot ≡ get_or slots (length front - 1) slot → slot < length front
+  slot_few front slots fronts slot some room known at =
+      let here = slot_is slots (length front - 1) slot (omega arith) at in
+      let before = known (length front - 1) (omega arith) in
+      let few : slot ≤ length front - 1 = rw here at before.0 in
+      omega arith
+
   pub added_none : (front : List ℕ) (slots : List ℕ) (fronts : List (List (Option ℕ))) (slot : ℕ) → 1 ≤ length front → length front < length slots → length front < length fronts
       → AreKnown g f rows front (length front - 1) slots fronts → slot ≡ get_or slots (length front - 1) slot
       → ((n : ℕ) → own_row g f rows n front ≡ None)

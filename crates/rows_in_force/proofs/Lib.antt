@@ -3,3 +3,4 @@ mod Chain
 mod Put
 mod Made
 mod KnownFronts
+mod Within

@@ -10,6 +10,8 @@ use Rattle.std.proofs.lemmas.Option.{same_Some}
 use Rattle.rows_in_force.specs.InForce.{row_at}
 use Rattle.rows_in_force.specs.Own.{last_below, is_at, own_row, IsChained, IsChainedTo}
 use Rattle.rows_in_force.proofs.KnownFronts.{at_place as got_at, set_here, set_there}
+use Rattle.rows_in_force.specs.Kept.{AreWithin}
+use Rattle.rows_in_force.proofs.Within.{place_set}
 use Rattle.rows_in_force.proofs.Chain.{drop_at, last_less, last_passes, none_between, none_before}
 
 same_text : (xs ys : List ℕ) → pointwise ◌==◌ xs ys ≡ true → xs ≡ ys
@@ -35,6 +37,7 @@ module _ {R : Type 0} (g : R → ℕ) (f : R → List ℕ) (rows : List R) (p : 
     pub next_is : next ≡ last_below (is_at f rows p) bound
     pub many : length places ≡ 64
     pub rows_are : (n : ℕ) → n < 64 → row_at rows places n ≡ option_or (find (own n) (drop bound rows)) (row_at rows initial n)
+    pub within_are : AreWithin (length rows) initial → AreWithin (length rows) places
 
   pub put_start : (next : Option ℕ) → length initial ≡ 64 → next ≡ last_below (is_at f rows p) (length rows) → IsPut next initial
   put_start next many e = record {
@@ -43,6 +46,7 @@ module _ {R : Type 0} (g : R → ℕ) (f : R → List ℕ) (rows : List R) (p : 
     next_is = e;
     many = many;
     rows_are = λ n lt. rw (drop_all rows) refl;
+    within_are = λ within. within;
   }
 
   at_place : (place : ℕ) (r : R) → slice_get rows place ≡ Some r → is_at f rows p place ≡ true → f r ≡ p
@@ -81,6 +85,7 @@ module _ {R : Type 0} (g : R → ℕ) (f : R → List ℕ) (rows : List R) (p : 
         next_is = rw (at_place place r is passes) at e;
         many = rw length-set h.many;
         rows_are = new_row places place r h is;
+        within_are = λ within. place_set (length rows) places (g r) (Some place) (h.within_are within) less;
       }
 
   pub put_end : (places : List (Option ℕ)) → IsPut None places → (n : ℕ) → n < 64 → row_at rows places n ≡ option_or (own_row g f rows n p) (row_at rows initial n)

@@ -2,7 +2,7 @@
 ghost use Rattle.std.specs.Prelude.{◌≡◌, ◌≤◌, ◌<◌, ◌-◌, length, slice_get, replicate, Some, IfOk};
 ghost use Rattle.rows_in_force.specs.InForce.{AreKnown, slot_at};
 ghost use Rattle.rows_in_force.specs.Own.{IsChained};
-ghost use Rattle.rows_in_force.specs.Kept.{AreFronts, nowhere};
+ghost use Rattle.rows_in_force.specs.Kept.{AreFronts, AreAllWithin, nowhere};
 
 use crate::own::{MOST_NODES, OwnRows, Places};
 use crate::placed::Placed;
@@ -47,8 +47,10 @@ impl Fronts {
         requires chained { IsChained R.prefix_of rows.now own.now.last.entries own.now.before.items }
         requires fronts { AreFronts self.old.slots.items self.old.places.items }
         requires known { AreKnown R.node_of R.prefix_of rows.now front.now (length front.now - 1) self.old.slots.items self.old.places.items }
+        requires within { AreAllWithin (length rows.now) self.old.places.items }
         ensures fronts { AreFronts self.new.slots.items self.new.places.items }
         ensures known { AreKnown R.node_of R.prefix_of rows.now front.now (length front.now) self.new.slots.items self.new.places.items }
+        ensures within { AreAllWithin (length rows.now) self.new.places.items }
     {
         let len = front.digits().len();
         let slot = self.slots[len - 1];

@@ -1,5 +1,5 @@
 //! The rows in force, class by class.
-ghost use Rattle.std.specs.Prelude.{◌≡◌, ◌≤◌, [], length, take, option_and_then, slice_get, unwrap_or, None, IfOk};
+ghost use Rattle.std.specs.Prelude.{◌≡◌, ◌<◌, ◌≤◌, [], length, take, option_and_then, slice_get, unwrap_or, None, IfOk, IfSome};
 ghost use Rattle.std.specs.Option.{option_copied};
 ghost use Rattle.rows_in_force.specs.InForce.{in_force, row_at};
 
@@ -60,7 +60,9 @@ impl<'t, R: Placed> InForce<'t, R> {
     /// The place of the node's row in force among the rows.
     #[inline]
     pub fn place(&self, node: NodeNo) -> Option<usize>
-        ensures { option_and_then (slice_get self.now.rows) result ≡ in_force R.node_of R.prefix_of self.now.rows node self.now.class }
+        ensures row { option_and_then (slice_get self.now.rows) result ≡ in_force R.node_of R.prefix_of self.now.rows node self.now.class }
+        // No place where there is no row.
+        ensures within { IfSome result (λ place. place < length self.now.rows) }
     {
         place_of(self.fronts.at(self.class.as_slice().len()), node)
     }

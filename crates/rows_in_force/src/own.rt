@@ -1,10 +1,11 @@
 //! The rows of a prefix, each with the one before it.
-ghost use Rattle.std.specs.Prelude.{◌≡◌, ◌==◌, ◌<◌, ℕ, is_some, IfOk};
+ghost use Rattle.std.specs.Prelude.{◌≡◌, ◌==◌, ◌<◌, ℕ, length, is_some, IfOk};
 ghost use Rattle.std.specs.Map.{lookup};
 ghost use Rattle.std.specs.Cmp.Lexicographic.{pointwise};
 ghost use Rattle.std.specs.Option.{option_or};
 ghost use Rattle.rows_in_force.specs.Own.{IsChained, own_row};
 ghost use Rattle.rows_in_force.specs.InForce.{row_at};
+ghost use Rattle.rows_in_force.specs.Kept.{AreWithin};
 
 use crate::placed::Placed;
 use card_digits::Prefix;
@@ -47,7 +48,8 @@ impl OwnRows {
     /// Puts the places of the prefix's own rows over others. The first of several rows of a node comes last, and so stays.
     pub fn put<R: Placed>(&self, rows: &[R], prefix: &Prefix, places: &mut Places)
         requires { IsChained R.prefix_of rows.now self.now.last.entries self.now.before.items }
-        ensures { (n : ℕ) → n < 64 → row_at rows.now places.new n ≡ option_or (own_row R.node_of R.prefix_of rows.now n prefix.now) (row_at rows.now places.old n) }
+        ensures rows { (n : ℕ) → n < 64 → row_at rows.now places.new n ≡ option_or (own_row R.node_of R.prefix_of rows.now n prefix.now) (row_at rows.now places.old n) }
+        ensures within { AreWithin (length rows.now) places.old → AreWithin (length rows.now) places.new }
     {
         let mut next = self.last.get(prefix).copied();
         while let Some(place) = next {

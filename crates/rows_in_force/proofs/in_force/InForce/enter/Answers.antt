@@ -9,6 +9,7 @@ loop-len-init g c = record {
   fronts = c.self.invariant.fronts;
   known = known_shared g.R.Placed.node_of g.R.Placed.prefix_of c.self.inside.rows.now c.self.inside.class c.args.class (length c.self.inside.class) c.shared-shared.result c.self.inside.fronts.slots.items c.self.inside.fronts.places.items c.self.invariant.known
       (rw c.as_slice.ensures at c.shared-shared.ensures.first) (rw (c.as_slice.ensures, c.digits.ensures.digits) at c.shared-shared.ensures.same);
+  within = c.self.invariant.within;
 }
 
 pub add-requires-clause-known : goal.add-requires-clause-known
@@ -24,4 +25,5 @@ loop-len-preserved g c =
       chained = c.loop-len.invariant.chained;
       fronts = c.add.ensures.fronts;
       known = known_back g.R.Placed.node_of g.R.Placed.prefix_of c.loop-len.self-inside.rows.now c.args.class c.front.result c.loop-len.len c.add.new.self.slots.items c.add.new.self.places.items c.add.ensures.known (omega arith) c.front.ensures;
+      within = c.add.ensures.within;
     }

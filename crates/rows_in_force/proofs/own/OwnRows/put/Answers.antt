@@ -1,7 +1,7 @@
 use Rattle.std.proofs.Common.{rules, ◌≡◌, ◌<◌, None, length, arith}
 use Rattle.rows_in_force.specs.Own.{is_at}
 use Rattle.rows_in_force.proofs.KnownFronts.{at_place}
-use Rattle.rows_in_force.proofs.Put.{put_next, put_step, put_end, before_is, smaller}
+use Rattle.rows_in_force.proofs.Put.{IsPut, put_next, put_step, put_end, before_is, smaller}
 use Rattle.rows_in_force.proofs.own.OwnRows.put.Goals as goal
 
 pub offset_bounds-rows-place : goal.offset_bounds-rows-place
@@ -39,7 +39,10 @@ loop-next-preserved g c =
     rw (c.place.ensures.place, c.node.ensures)
     (put_step g.R.Placed.node_of f rows c.args.prefix.now c.args.places.now c.loop-next.places c.in-Some.place c.index-rows-place.result c.index-next.result.now h is next)
 
-pub returns : goal.returns
-returns g c =
+pub returns-clause-rows : goal.returns-clause-rows
+returns-clause-rows g c =
     let none : c.loop-next.next ≡ None = search rules in
     put_end g.R.Placed.node_of g.R.Placed.prefix_of c.args.rows.now c.args.prefix.now c.args.places.now c.loop-next.places (rw none at c.loop-next.invariant)
+
+pub returns-clause-within : goal.returns-clause-within
+returns-clause-within g c = IsPut.within_are c.loop-next.invariant
