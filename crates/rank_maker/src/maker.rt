@@ -1,4 +1,7 @@
 //! Ranks for all classes.
+ghost use Rattle.std.specs.Prelude.{◌≡◌, true, false, length, Ok, OnOk};
+ghost use Rattle.rank_maker.specs.Adding.{AddsOf};
+
 use crate::walk::{MOST_NODES, Routes, Stop, Walk};
 use card_digits::{NodeNo, Prefix};
 use net_rows::{Route, Tables, classes};
@@ -80,23 +83,34 @@ fn count(tables: &Tables, classes: &[Prefix]) -> usize {
 }
 
 /// Adds the ranks of a class.
-fn add_ranks(
+fn add_ranks(walk: &mut Walk, routes: &Routes, class: &Prefix, cert: &mut Cert) -> Result<(), Stop>
+    ensures { OnOk result (AddsOf class.now (length routes.now.tables.now.nodes) cert.old cert.new) }
+{
+    walk.start_anew(routes);
+    if add_at_once(walk, routes, class, cert)? {
+        return Ok(());
+    }
+    add_each(walk, routes, class, cert)
+}
+
+/// Adds the ranks of a class at once, where a class before it has ranks: these have the names of all nodes, in their order. Otherwise
+/// it is `false`.
+fn add_at_once(
     walk: &mut Walk,
     routes: &Routes,
     class: &Prefix,
     cert: &mut Cert,
-) -> Result<(), Stop> {
-    walk.start_anew(routes);
+) -> Result<bool, Stop>
+    ensures yes { result ≡ Ok true → AddsOf class.now (length routes.now.tables.now.nodes) cert.old cert.new }
+    ensures no { result ≡ Ok false → cert.new ≡ cert.old }
+{
     let rows = cert.rows().len();
-    if rows > 0 {
-        // The ranks of the class before have the names of all nodes, in their order.
-        let nodes = routes.tables.nodes().len();
-        let ranks = all_ranks(walk, routes)?;
-        if cert.repeat_run(rows.saturating_sub(nodes), *class, &ranks[..nodes])? {
-            return Ok(());
-        }
+    let nodes = routes.tables.nodes().len();
+    if rows < nodes {
+        return Ok(false);
     }
-    add_each(walk, routes, class, cert)
+    let ranks = all_ranks(walk, routes)?;
+    Ok(cert.repeat_run(rows - nodes, *class, &ranks[..nodes])?)
 }
 
 /// The ranks of all nodes, in their order, and 0 behind them.
@@ -109,7 +123,9 @@ fn all_ranks(walk: &mut Walk, routes: &Routes) -> Result<[u16; MOST_NODES], Stop
 }
 
 /// Adds the ranks of a class one by one.
-fn add_each(walk: &mut Walk, routes: &Routes, class: &Prefix, cert: &mut Cert) -> Result<(), Stop> {
+fn add_each(walk: &mut Walk, routes: &Routes, class: &Prefix, cert: &mut Cert) -> Result<(), Stop>
+    ensures { OnOk result (AddsOf class.now (length routes.now.tables.now.nodes) cert.old cert.new) }
+{
     for (i, row) in routes.tables.nodes().iter().enumerate() {
         let rank = walk.rank(routes, NodeNo::new(i))?;
         if !cert.add_rank(row.name, *class, rank)? {
