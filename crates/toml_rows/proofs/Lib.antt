@@ -2,6 +2,7 @@ mod Blanks
 mod Strings
 mod Numbers
 mod Headers
+pub mod Ahead
 pub mod Keys
 pub mod Members
 pub mod Documents

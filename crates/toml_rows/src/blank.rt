@@ -24,7 +24,7 @@ pub(crate) fn skip_ws(s: &str) -> &str
 
 /// After white space, newlines and comments.
 #[inline]
-pub(crate) fn skip_blank(s: &str) -> &str
+pub fn skip_blank(s: &str) -> &str
     ensures rest { result.now ≡ lexical.skip_blank s.now }
     ensures within { length result.now ≤ length s.now }
 {

@@ -11,6 +11,7 @@ mod row;
 mod string;
 mod value;
 
+pub use blank::skip_blank;
 pub use line::bare_row_header;
 pub use plain::{close_texts, next_text, number_pair, open_texts, text_pair};
 pub use row::{first_table, is_over, next_row, start};
