@@ -37,12 +37,12 @@ impl Named for Link {
 /// How many marks there are.
 const MARKS: usize = 1_024;
 
-/// Rows in the order of the text, and their names, none twice. A mark says where a name of its hash may stand.
+/// Rows in the order of the text, and their names, none twice. Where there are marks, each says where a name of its hash may stand.
 #[derive(Drop)]
 pub struct NamedRows<R: Named> {
     rows: Vec<R>,
     names: IndexSet<Name>,
-    marks: [u8; MARKS],
+    marks: Option<[u8; MARKS]>,
 }
 
 /// The place of a name's mark, by its last three bytes: names mostly end in numbers.
@@ -86,7 +86,23 @@ impl<R: Named> NamedRows<R> {
         requires { AreNamed R.most R.name_of names.keys rows.items }
         ensures { result ≡ rows.items }
     {
-        let marks = marks_of(names.as_slice());
+        NamedRows {
+            rows,
+            names,
+            marks: None,
+        }
+    }
+
+    /// The same rows, with a mark for each name, for where many names are looked up.
+    pub fn marked(self) -> NamedRows<R>
+        ensures { result ≡ self }
+    {
+        let NamedRows {
+            rows,
+            names,
+            marks: _,
+        } = self;
+        let marks = Some(marks_of(names.as_slice()));
         NamedRows { rows, names, marks }
     }
 
@@ -109,13 +125,21 @@ impl<R: Named> NamedRows<R> {
         self.place_of(&name)
     }
 
+    /// Where the name stands if its mark says so. Without marks this is the first place.
+    fn place_marked(&self, name: &Name) -> usize {
+        match &self.marks {
+            Some(marks) => usize::from(marks[mark_of(name)]),
+            None => 0,
+        }
+    }
+
     /// The place of the row of that name. The name whose place is marked is compared first.
     fn place_of(&self, name: &Name) -> Option<usize>
         ensures value { result ≡ position (pointwise ◌==◌ name.now) (map R.name_of self.now) }
         ensures within { IfSome result (λ i. i < length self.now) }
         ensures few { IfSome result (λ i. i < R.most) }
     {
-        let place = usize::from(self.marks[mark_of(name)]);
+        let place = self.place_marked(name);
         match self.names.as_slice().get(place) {
             Some(marked) if marked == name => Some(place),
             _ => self.names.get_index_of(name),

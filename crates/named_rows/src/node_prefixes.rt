@@ -24,6 +24,8 @@ const MOST_ROWS: usize = 4_096;
 #[derive(Drop)]
 pub struct NodePrefixes {
     sets: Vec<IndexSet<Prefix>>,
+    /// For so many prefixes a set is given memory when it takes its first.
+    room: usize,
 }
 
 impl Model for NodePrefixes {
@@ -32,16 +34,6 @@ impl Model for NodePrefixes {
     ghost Value = { List (List (List ℕ)) };
 
     ghost view = { λ a. map (λ s. s.keys) a.sets.items };
-}
-
-/// An empty set, with memory for so many prefixes where it is given.
-fn set_with_room(alloc: Global, prefixes: usize) -> IndexSet<Prefix>
-    ensures { result.keys ≡ [] }
-{
-    match IndexSet::with_capacity(alloc, prefixes) {
-        Ok(set) => set,
-        Err(_) => IndexSet::new(alloc),
-    }
 }
 
 impl NodePrefixes {
@@ -53,17 +45,18 @@ impl NodePrefixes {
         NodePrefixes::with_room(alloc, nodes, 0)
     }
 
-    /// The same, and memory for so many rows that are spread evenly over the nodes, as far as it is given.
+    /// The same, for about so many rows that are spread evenly over the nodes: with the first prefix that a node takes it gets memory for
+    /// its part of them, as far as it is given.
     pub fn with_room(alloc: Global, nodes: usize, rows: usize) -> Result<NodePrefixes, AllocError>
         ensures empty { IfOk result AreEmpty }
         ensures len { IfOk result (λ v. length v ≡ nodes) }
     {
-        let each = rows.checked_div(nodes).unwrap_or(0).min(MOST_ROWS);
+        let room = rows.checked_div(nodes).unwrap_or(0).min(MOST_ROWS);
         let mut sets = Vec::new(alloc);
         for _ in 0..nodes {
-            sets.push(set_with_room(alloc, each))?;
+            sets.push(IndexSet::new(alloc))?;
         }
-        Ok(NodePrefixes { sets })
+        Ok(NodePrefixes { sets, room })
     }
 
     /// How many the node has.
@@ -84,6 +77,16 @@ impl NodePrefixes {
         Ok(self.sets[node.place()].insert(prefix)?)
     }
 
+    /// Asks for the memory of a node that has no prefixes. Where it isn't given, its set grows prefix by prefix.
+    fn make_room(&mut self, node: NodeNo)
+        requires { node < length self.old }
+        ensures { self.new ≡ self.old }
+    {
+        if self.count(node) == 0 {
+            let _given = self.sets[node.place()].reserve(self.room);
+        }
+    }
+
     /// Takes a prefix for one row more of a node. Nothing is taken, and the answer is false, where the node has 4,096 rows, where the
     /// prefix isn't new there, and where memory is refused.
     pub fn take(&mut self, node: NodeNo, prefix: Prefix) -> bool
@@ -94,6 +97,7 @@ impl NodePrefixes {
         if self.count(node) >= MOST_ROWS {
             return false;
         }
+        self.make_room(node);
         match self.insert(node, prefix) {
             Ok(is_new) => is_new,
             Err(_) => false,

@@ -9,7 +9,7 @@ pub returns-in-Some-clause-value : goal.returns-in-Some-clause-value
 returns-in-Some-clause-value g c =
     let names : List (List ℕ) = c.self.inside.names.keys in
     let name : List ℕ = c.args.name.now in
-    let i = c.from-place.result in
+    let i = c.place_marked-place.result in
     let distinct : IsDistinct (pointwise ◌==◌) names = c.as_slice.ensures.unique in
     let same : names ≡ map g.R.Named.name_of c.args.self.now = c.self.invariant.same ∙ ap (map g.R.Named.name_of) c.self.view_is in
     let inside : true ≡ ltb i (length names) = rw c.as_slice.ensures.keys at c.in-Some.ensures.lookup.0 in

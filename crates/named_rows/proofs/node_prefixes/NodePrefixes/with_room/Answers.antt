@@ -7,5 +7,5 @@ use Rattle.named_rows.proofs.node_prefixes.NodePrefixes.with_room.Goals as goal
 pub loop-preserved : goal.loop-preserved
 loop-preserved c =
     let more : map keys c.push.new.self.items ≡ map keys c.loop.sets.items ++ [] ∷ [] =
-    rw c.in_ok-push.ensures.items (map-append keys c.loop.sets.items (c.set_with_room.result ∷ []) ∙ ap (λ (ks : List (List ℕ)). map keys c.loop.sets.items ++ ks ∷ []) c.set_with_room.ensures) in
+    rw c.in_ok-push.ensures.items (map-append keys c.loop.sets.items (c.new.result ∷ []) ∙ ap (λ (ks : List (List ℕ)). map keys c.loop.sets.items ++ ks ∷ []) c.new.ensures.empty) in
     rw more (record { empty = empty_added (map keys c.loop.sets.items) c.loop.invariant.empty; len = omega (arith, length-append (map keys c.loop.sets.items) ([] ∷ []), c.loop.invariant.len) })
