@@ -15,7 +15,7 @@ use named_rows::{NamedRows, are_own};
 use net_rows::{Link, Links, Node};
 use std::alloc::Global;
 use table_fields::Key;
-use toml_rows::{close_texts, next_text, open_texts};
+use toml_rows::{close_texts, next_text, open_texts, skip_blank};
 
 const MOST_AMOUNT: i64 = 999_999_999_999;
 
@@ -70,10 +70,11 @@ fn plain_named<'a>(
     let mut found = Links::new(alloc);
     let mut rest = open_texts(text, Key::Links.word())?;
     'links: loop {
-        if let Some(after) = close_texts(rest) {
+        let ahead = skip_blank(rest);
+        if let Some(after) = close_texts(ahead) {
             return Some((found, after));
         }
-        let (name, after) = next_text(rest)?;
+        let (name, after) = next_text(ahead)?;
         let link = links.find(name)?;
         if found.as_slice().len() >= MOST_LINKS {
             return None;

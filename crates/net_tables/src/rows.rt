@@ -1,7 +1,8 @@
 //! The rows of a table, each read after those before it.
-ghost use Rattle.std.specs.Prelude.{[], IfOk, IfSome};
+ghost use Rattle.std.specs.Prelude.{◌≡◌, [], IfOk, IfSome};
 ghost use Rattle.std.specs.List.{AllByRecursion};
 ghost use Rattle.toml.specs.View.{table_view};
+ghost use Rattle.toml_parser.specs.Lexical.{skip_blank};
 ghost use Rattle.card_digits.specs.Attempts.{Gives};
 ghost use Rattle.table_fields.specs.Faults.{is_memory};
 ghost use Rattle.table_fields.specs.Shapes.{tables_view};
@@ -11,7 +12,7 @@ ghost use Rattle.net_tables.specs.InOrder.{AreNext};
 
 use std::alloc::Global;
 use table_fields::{Row, Table, TableFault, rows_at};
-use toml_rows::next_row;
+use toml_rows::{next_row, skip_blank};
 
 /// How a table's rows are read.
 pub(crate) trait RowReader {
@@ -112,17 +113,18 @@ pub(crate) fn read_rows<R: RowReader>(
     each_row(alloc, &rows, table, reader, taken)
 }
 
-/// The rows of a table that come next in a text as long as they are plain, what they have taken, and what follows them. None where
-/// memory was refused.
-fn plain_rows<'a, R: RowReader>(
+/// The rows of a table that come next in a text as long as they are plain, what they have taken, what follows them, and where in it white
+/// space and comments end. None where memory was refused.
+pub(crate) fn plain_rows<'a, R: RowReader>(
     alloc: Global,
     text: &'a str,
     table: Table,
     reader: &R,
     taken: R::Taken,
-) -> Option<((Vec<R::Read>, R::Taken), &'a str)>
+) -> Option<((Vec<R::Read>, R::Taken), &'a str, &'a str)>
     requires { R.knows reader.now taken [] }
     ensures value { IfSome result (λ p. AreNext table (R.reads reader.now) p.0.0.items text.now p.1.now) }
+    ensures ahead { IfSome result (λ p. p.2.now ≡ skip_blank p.1.now) }
     ensures taken { IfSome result (λ p. R.knows reader.now p.0.1 p.0.0.items) }
     ensures fits { IfSome result (λ p. AllByRecursion (R.fits reader.now) p.0.0.items) }
 {
@@ -130,8 +132,9 @@ fn plain_rows<'a, R: RowReader>(
     let mut done = Vec::new(alloc);
     let mut rest = text;
     'rows: loop {
-        let Some((read, after)) = reader.plain(&mut taken, &done, table, rest) else {
-            return Some(((done, taken), rest));
+        let ahead = skip_blank(rest);
+        let Some((read, after)) = reader.plain(&mut taken, &done, table, ahead) else {
+            return Some(((done, taken), rest, ahead));
         };
         let Ok(()) = done.push(read) else {
             return None;
@@ -142,7 +145,7 @@ fn plain_rows<'a, R: RowReader>(
 
 /// The rows of a table that come next in a text, what they have taken, and what follows them. None where a row has a fault or memory was
 /// refused. Plain rows are read where they stand. From the first row on that isn't plain the members of each row are made into a table, so
-/// that at most one row is looked at twice.
+/// that at most one row is looked at twice. What is blank in front of it is gone over once.
 pub(crate) fn next_rows<'a, R: RowReader>(
     alloc: Global,
     text: &'a str,
@@ -155,12 +158,13 @@ pub(crate) fn next_rows<'a, R: RowReader>(
     ensures taken { IfSome result (λ p. R.knows reader.now p.0.1 p.0.0.items) }
     ensures fits { IfSome result (λ p. AllByRecursion (R.fits reader.now) p.0.0.items) }
 {
-    let ((plain, taken), after_plain) = plain_rows(alloc, text, table, reader, taken)?;
+    let ((plain, taken), after_plain, after_blank) = plain_rows(alloc, text, table, reader, taken)?;
     let mut taken = taken;
     let mut done = plain;
     let mut rest = after_plain;
+    let mut ahead = after_blank;
     'rows: loop {
-        let Some((members, after)) = next_row(alloc, rest, table.word()) else {
+        let Some((members, after)) = next_row(alloc, ahead, table.word()) else {
             return Some(((done, taken), rest));
         };
         let row = Row {
@@ -175,5 +179,6 @@ pub(crate) fn next_rows<'a, R: RowReader>(
             return None;
         };
         rest = after;
+        ahead = skip_blank(after);
     }
 }
