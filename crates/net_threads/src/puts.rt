@@ -222,8 +222,12 @@ impl AnswerPlaces {
         }
     }
 
-    /// The place of the entry that has the answer of a hash.
-    fn place(&self, hash: u64) -> Option<usize> {
+    /// The place of the entry that has an answer, by its hash. Where there are no slots nothing is hashed.
+    fn place(&self, bytes: &[u8]) -> Option<usize> {
+        if self.slots.is_empty() {
+            return None;
+        }
+        let hash = hash_of(bytes);
         for behind in 0..PROBES {
             match self.slots.get(self.slot(hash, behind)?)? {
                 None => return None,
@@ -252,7 +256,7 @@ pub(crate) fn has_answer_from(
     ensures { result ≡ list_any (entry_answers bytes.now) trace.now }
 {
     if let Some(places) = places {
-        if let Some(k) = places.place(hash_of(bytes)) {
+        if let Some(k) = places.place(bytes) {
             if is_answered_at(trace, k, bytes) {
                 *from = k.max(*from);
                 return true;
