@@ -3,7 +3,9 @@
 
 mod fitting;
 mod news;
+mod pace;
 mod running;
+mod search;
 mod threads;
 mod waiting;
 

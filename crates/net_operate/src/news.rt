@@ -1,4 +1,8 @@
 //! What the threads tell each other beside the stations.
+ghost use Rattle.std.specs.Prelude.{◌≡◌, nat_lt};
+
+#[cfg(test)]
+mod tests;
 
 use crate::fitting::key_in;
 use card_digits::Key;
@@ -81,6 +85,13 @@ fn hash_of(key: &Key) -> u64 {
     let hash = mixed(0xcbf2_9ce4_8422_2325, key.time.as_slice());
     let hash = mixed(hash, key.trace.as_slice());
     mixed(hash, key.acquirer.as_slice())
+}
+
+/// Whether entries from a place on may have requests to the host, where all that may stand before another place.
+fn are_asks_from(asked: u64, from: usize) -> bool
+    ensures { result ≡ nat_lt from asked }
+{
+    asked > from as u64
 }
 
 fn count_at(sessions: &[Session<'_>], n: usize) -> usize {
@@ -192,7 +203,7 @@ impl Shared {
     /// Whether entries of a node's trace from this place on may have requests to its host.
     pub(crate) fn has_asks(&self, n: usize, from: usize) -> bool {
         match self.nodes.get(n) {
-            Some(news) => news.asked.load(Ordering::SeqCst) > from as u64,
+            Some(news) => are_asks_from(news.asked.load(Ordering::SeqCst), from),
             None => false,
         }
     }

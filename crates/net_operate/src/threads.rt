@@ -2,11 +2,13 @@
 
 use crate::fitting::is_answer_to;
 use crate::news::{Answers, Shared};
+use crate::pace::Pace;
 use crate::running::Host;
+use crate::search::Search;
 use crate::waiting::{Cursor, Wanted, next_answer, next_ask};
 use card_digits::Key;
 use iso_message::decode;
-use link_rings::{Held, ROOM};
+use link_rings::Held;
 use message_keys::key_of;
 use net_threads::{LineEnd, Station, StationFault};
 use run_plan::{Plan, Session};
@@ -15,53 +17,6 @@ use std::alloc::{AllocError, Global};
 use std::sync::{Mutex, Wait};
 use std::thread;
 use switch_node::{Case, Input};
-
-/// How many turns a pump makes at most between looks at its rings, where nothing was told: others than the plan's threads may put
-/// packets there too, and make steps.
-const TURNS_BETWEEN_LOOKS: u64 = 64;
-
-/// What a pump knows of the packets on its rings.
-#[derive(Clone, Copy)]
-struct Pace {
-    /// How many packets it was told of.
-    told: u64,
-    /// After how many looks all of those are taken, as each look takes one from each ring that has any.
-    looks: u64,
-    /// How many turns went by since it looked.
-    turns: u64,
-}
-
-impl Pace {
-    /// The rings may be full already.
-    fn new() -> Pace {
-        Pace {
-            told: 0,
-            looks: ROOM as u64,
-            turns: 0,
-        }
-    }
-
-    /// Whether the rings are to be looked at in this turn, where so many packets were put there by now. They are in any case where it is
-    /// urgent.
-    fn is_look(&mut self, arrivals: u64, urgent: bool) -> bool {
-        self.looks = self
-            .looks
-            .saturating_add(arrivals.saturating_sub(self.told));
-        self.told = arrivals;
-        self.turns = self.turns.saturating_add(1);
-        if self.looks == 0 && self.turns < TURNS_BETWEEN_LOOKS && !urgent {
-            return false;
-        }
-        self.looks = self.looks.saturating_sub(1);
-        self.turns = 0;
-        true
-    }
-
-    /// A look took something, so another may.
-    fn look_again(&mut self) {
-        self.looks = self.looks.max(1);
-    }
-}
 
 /// How many rings come into a station.
 fn count_in<R: Wait>(rt: &R, station: &Mutex<Station<'_>>) -> usize {
@@ -215,14 +170,6 @@ fn sought_by<'s>(alloc: Global, n: usize, line: &[u8], shared: &'s Shared) -> Op
     Some(Sought { wanted, answers })
 }
 
-/// Where a session has come that looks for an answer.
-#[derive(Clone, Copy)]
-struct Search {
-    cursor: Cursor,
-    /// How many of those that may be it were told of before.
-    seen: u64,
-}
-
 fn count_told(sought: Option<&Sought<'_>>) -> u64 {
     match sought {
         Some(
@@ -247,10 +194,7 @@ fn enter_at<R: Wait>(
 ) -> (Search, Result<(), StationFault>) {
     let mut station = station.lock(rt);
     let before = station.trace().len();
-    let search = Search {
-        cursor: Cursor::at(before),
-        seen: count_told(sought),
-    };
+    let search = Search::from(before, count_told(sought));
     let entered = station.apply(Input::new(Case::Enter(bytes)));
     shared.tell(alloc, n, &station, before);
     (search, entered)
@@ -265,18 +209,14 @@ fn answer_at<R: Wait>(
     sought: &Sought<'_>,
 ) -> Option<Vec<u8>> {
     let answers = sought.answers?;
-    if answers.count() == search.seen {
+    if !search.is_told(answers.count()) {
         return None;
     }
     let station = station.lock(rt);
     let count = answers.count();
-    if count == search.seen.saturating_add(1) {
-        search.cursor.skip_to(answers.newest() as usize);
-    }
+    search.skip(count, answers.newest() as usize);
     let found = next_answer(alloc, station.trace(), &mut search.cursor, &sought.wanted);
-    if search.cursor.entry >= station.trace().len() {
-        search.seen = count;
-    }
+    search.end_look(count, station.trace().len());
     found
 }
 

@@ -1,4 +1,6 @@
 //! What hosts and sessions wait for in a trace.
+ghost use Rattle.std.specs.Prelude.{◌≡◌, ◌+◌, nat_lt, if◌then◌else◌};
+ghost use Rattle.net_operate.specs.Cursors.{skipped};
 
 use request_book::Way;
 use shared_bytes::SharedBytes;
@@ -43,12 +45,16 @@ pub(crate) struct Cursor {
 
 impl Cursor {
     /// Before the first output of an entry.
-    pub(crate) fn at(entry: usize) -> Cursor {
+    pub(crate) fn at(entry: usize) -> Cursor
+        ensures { result ≡ record { entry = entry; output = 0 } }
+    {
         Cursor { entry, output: 0 }
     }
 
     /// Moves before the first output of a later entry.
-    pub(crate) fn skip_to(&mut self, entry: usize) {
+    pub(crate) fn skip_to(&mut self, entry: usize)
+        ensures { self.new ≡ skipped entry self.old }
+    {
         if entry > self.entry {
             *self = Cursor::at(entry);
         }
