@@ -37,21 +37,21 @@ fn faults_of_plans(rt: HostRuntime) -> Result<(), Fail> {
         Plan {
             name: "acquirer",
             network: &IN_A_LINE,
-            lines: "PLAN 1\nturns 4000000000\ntick_every 0\nhost H 1000\nsession 400002\nsend 01007220000100008000164111111111111111000000000000001000031409153000000106400001840\nEND\n",
+            lines: "PLAN 1\nturns 50000000\ntick_every 0\nhost H 1000\nsession 400002\nsend 01007220000100008000164111111111111111000000000000001000031409153000000106400001840\nEND\n",
             want: "fault plan 2 acquirer 5\n",
             status: 2,
         },
         Plan {
             name: "no_end",
             network: &IN_A_LINE,
-            lines: "PLAN 1\nturns 4000000000\ntick_every 0\nhost H 1000\nsession 400001\nsend 01007220000100008000164111111111111111000000000000001000031409153000000106400001840\n",
+            lines: "PLAN 1\nturns 50000000\ntick_every 0\nhost H 1000\nsession 400001\nsend 01007220000100008000164111111111111111000000000000001000031409153000000106400001840\n",
             want: "fault plan 3 no end\n",
             status: 2,
         },
         Plan {
             name: "plan_2",
             network: &IN_A_LINE,
-            lines: "PLAN 2\nturns 4000000000\ntick_every 0\nhost H 1000\nsession 400001\nsend 01007220000100008000164111111111111111000000000000001000031409153000000106400001840\nEND\n",
+            lines: "PLAN 2\nturns 50000000\ntick_every 0\nhost H 1000\nsession 400001\nsend 01007220000100008000164111111111111111000000000000001000031409153000000106400001840\nEND\n",
             want: "fault plan 1 line 1\n",
             status: 2,
         },
@@ -69,21 +69,21 @@ fn requests_that_nobody_answers(rt: HostRuntime) -> Result<(), Fail> {
         Plan {
             name: "send_x",
             network: &IN_A_LINE,
-            lines: "PLAN 1\nturns 4000000000\ntick_every 0\nhost H 1000\nsession 400001\nsend X\nEND\n",
+            lines: "PLAN 1\nturns 50000000\ntick_every 0\nhost H 1000\nsession 400001\nsend X\nEND\n",
             want: "{\"answers\":[[\"refused 1\"]],\"linked\":\"yes\",\"own\":0,\"posts\":0}\n",
             status: 0,
         },
         Plan {
             name: "lose",
             network: &TWO_NODES,
-            lines: "PLAN 1\nturns 4000000000\ntick_every 100\nhost H 1000\nlose AH 1\nsession 400001\nsend 01007220000100008000164111111111111111000000000000001000031409153000000106400001840\nEND\n",
+            lines: "PLAN 1\nturns 50000000\ntick_every 100\nhost H 1000\nlose AH 1\nsession 400001\nsend 01007220000100008000164111111111111111000000000000001000031409153000000106400001840\nEND\n",
             want: "{\"answers\":[[\"91\"]],\"linked\":\"yes\",\"own\":0,\"posts\":0}\n",
             status: 0,
         },
         Plan {
             name: "no_host",
             network: &TWO_NODES,
-            lines: "PLAN 1\nturns 4000000000\ntick_every 0\nsession 400001\nsend 01007220000100008000164111111111111111000000000000001000031409153000000106400001840\nEND\n",
+            lines: "PLAN 1\nturns 50000000\ntick_every 0\nsession 400001\nsend 01007220000100008000164111111111111111000000000000001000031409153000000106400001840\nEND\n",
             want: "{\"answers\":[[\"05\"]],\"linked\":\"yes\",\"own\":0,\"posts\":0}\n",
             status: 0,
         },
@@ -102,7 +102,7 @@ fn answers_of_one_entry(rt: HostRuntime) -> Result<(), Fail> {
     let plan = Plan {
         name: "one entry",
         network: &TWO_ACQUIRERS,
-        lines: "PLAN 1\nturns 4000000000\ntick_every 1000\nlose AH 1\nsession 400001\nsend 01007220000100008000164111111111111111000000000000001000031409153000000106400001840\nsession 400002\nsend 01007220000100008000164111111111111111000000000000001000031409153000000106400002840\nEND\n",
+        lines: "PLAN 1\nturns 50000000\ntick_every 1000\nlose AH 1\nsession 400001\nsend 01007220000100008000164111111111111111000000000000001000031409153000000106400001840\nsession 400002\nsend 01007220000100008000164111111111111111000000000000001000031409153000000106400002840\nEND\n",
         want: "{\"answers\":[[\"91\"],[\"91\"]],\"linked\":\"yes\",\"own\":0,\"posts\":0}\n",
         status: 0,
     };

@@ -21,7 +21,7 @@ use table_checker::{Accepted, check};
 /// A lends B 100 before anything else.
 const LOAN: &[u8] = b"\
 PLAN 1
-turns 4000000000
+turns 50000000
 tick_every 0
 lend A B 4111111111111111 0314 100
 repeat AB 1

@@ -44,7 +44,7 @@ fn good_links(rt: HostRuntime) -> Result<(), Fail> {
 #[test]
 fn links_that_delay(rt: HostRuntime) -> Result<(), Fail> {
     let run = Run {
-        head: "PLAN 1\nturns 4000000000\ntick_every 0\ndelay AB 1 3\ndelay BH 2 100\n",
+        head: "PLAN 1\nturns 50000000\ntick_every 0\ndelay AB 1 3\ndelay BH 2 100\n",
         ..THREE
     };
     assert_eq!(rt; count_answered(&rt, rt.alloc(), run, 3)?, TIMES);
@@ -54,7 +54,7 @@ fn links_that_delay(rt: HostRuntime) -> Result<(), Fail> {
 #[test]
 fn links_that_repeat(rt: HostRuntime) -> Result<(), Fail> {
     let run = Run {
-        head: "PLAN 1\nturns 4000000000\ntick_every 0\nrepeat AB 1\nrepeat BH 1\n",
+        head: "PLAN 1\nturns 50000000\ntick_every 0\nrepeat AB 1\nrepeat BH 1\n",
         ..THREE
     };
     assert_eq!(rt; count_answered(&rt, rt.alloc(), run, 3)?, TIMES);
@@ -65,7 +65,7 @@ fn links_that_repeat(rt: HostRuntime) -> Result<(), Fail> {
 #[test]
 fn a_link_that_loses_all(rt: HostRuntime) -> Result<(), Fail> {
     let run = Run {
-        head: "PLAN 1\nturns 4000000000\ntick_every 100\nlose AH 1\n",
+        head: "PLAN 1\nturns 50000000\ntick_every 100\nlose AH 1\n",
         code: *b"91",
         ..ONE
     };
@@ -77,7 +77,7 @@ fn a_link_that_loses_all(rt: HostRuntime) -> Result<(), Fail> {
 #[test]
 fn bad_links(rt: HostRuntime) -> Result<(), Fail> {
     let run = Run {
-        head: "PLAN 1\nturns 4000000000\ntick_every 20\nlose AB 4\ndelay AB 3 5\nrepeat BH 2\n",
+        head: "PLAN 1\nturns 50000000\ntick_every 20\nlose AB 4\ndelay AB 3 5\nrepeat BH 2\n",
         ..THREE
     };
     for _ in 0..TIMES {

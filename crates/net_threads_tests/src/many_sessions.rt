@@ -69,7 +69,7 @@ fn push_session(alloc: Global, text: &mut String, acquirer: u32) -> Result<(), A
 }
 
 fn plan_text(alloc: Global, sessions: u32) -> Result<String, AllocError> {
-    let mut text = String::from_str(alloc, "PLAN 1\nturns 4000000000\ntick_every 0\n")?;
+    let mut text = String::from_str(alloc, "PLAN 1\nturns 50000000\ntick_every 0\n")?;
     for session in 0..sessions {
         push_session(alloc, &mut text, acquirer(session))?;
     }
@@ -81,7 +81,7 @@ fn plan_text(alloc: Global, sessions: u32) -> Result<String, AllocError> {
 fn strange_text(alloc: Global) -> Result<String, AllocError> {
     let mut text = String::from_str(
         alloc,
-        "PLAN 1\nturns 4000000000\ntick_every 0\nsession 500000\n",
+        "PLAN 1\nturns 50000000\ntick_every 0\nsession 500000\n",
     )?;
     push_request(alloc, &mut text, AT_HOME, 1)?;
     text.push_str("END\n")?;
@@ -126,7 +126,7 @@ fn ran<R: Threads + Wait + Sync>(
             let _ = operate(rt, alloc, &network, plan, &hosts).ok()?;
         }
         Way::Swapped => {
-            let _ = swap(rt, &network);
+            let _ = swap(rt, &network, 0, 1);
         }
     }
     let ended = operate(rt, alloc, &network, plan, &hosts).ok()?;

@@ -66,7 +66,7 @@ impl<'f> Host for Meeting<'f> {
 /// A card of each home, entered by an acquirer each.
 const TWO_HOMES: &[u8] = b"\
 PLAN 1
-turns 4000000000
+turns 50000000
 tick_every 0
 session 400001
 send 01007220000100008000164111111111111111000000000000001000031409153000000106400001840

@@ -1,5 +1,7 @@
 //! Plans that threads run, and what their sessions ended with.
 use crate::network::{ranks, request, tables};
+use crate::verdicts::swap;
+use card_digits::NodeNo;
 use iso_message::{Message, decode};
 use message_elements::Code;
 use message_keys::code_of;
@@ -119,18 +121,20 @@ fn ran<R: Threads + Wait + Sync>(
     alloc: Global,
     accepted: &Accepted<'_>,
     plan: &Plan<'_>,
-    host: Always,
-    code: &[u8; 2],
+    run: &Run,
 ) -> Option<Outcome> {
-    let hosts = [host, host, host];
+    let hosts = [run.host; 3];
     let network = Network::new(alloc, accepted).ok()?;
+    if run.swapped && !swap(rt, &network, 1, 2) {
+        return None;
+    }
     let ended = operate(rt, alloc, &network, plan, &hosts).ok()?;
     let finished = network.finish(&ended).ok()?;
     let (asks, posts) = all_asks_and_posts(finished.stations.as_slice());
     let session = one_session(&ended)?;
     Some(Outcome {
         lines: session.lines.len(),
-        coded: count_said(alloc, session, Said::Code(*code)),
+        coded: count_said(alloc, session, Said::Code(run.code)),
         silent: count_said(alloc, session, Said::Nothing),
         asks,
         posts,
@@ -167,6 +171,8 @@ pub(crate) struct Run {
     pub host: Always,
     /// The code that is looked for in the answers.
     pub code: [u8; 2],
+    /// The second and the third station change places before the threads start.
+    pub swapped: bool,
 }
 
 fn outcome_of_text<R: Threads + Wait + Sync>(
@@ -178,7 +184,7 @@ fn outcome_of_text<R: Threads + Wait + Sync>(
     run: &Run,
 ) -> Option<Outcome> {
     match read_plan(alloc, tables, text) {
-        Ok(plan) => ran(rt, alloc, accepted, &plan, run.host, &run.code),
+        Ok(plan) => ran(rt, alloc, accepted, &plan, run),
         Err(_) => None,
     }
 }
@@ -237,19 +243,21 @@ pub(crate) fn outcome_of<R: Threads + Wait + Sync>(
 /// A hundred requests over two links, which the host approves.
 pub(crate) const HUNDRED: Run = Run {
     sample: Sample::LineOfTwoHomes,
-    head: "PLAN 1\nturns 4000000000\ntick_every 0\n",
+    head: "PLAN 1\nturns 50000000\ntick_every 0\n",
     requests: 100,
     host: Always::Approves,
     code: *b"00",
+    swapped: false,
 };
 
 /// One request over one link, which the host approves.
 pub(crate) const ONE: Run = Run {
     sample: Sample::TwoNodes,
-    head: "PLAN 1\nturns 4000000000\ntick_every 0\n",
+    head: "PLAN 1\nturns 50000000\ntick_every 0\n",
     requests: 1,
     host: Always::Approves,
     code: *b"00",
+    swapped: false,
 };
 
 /// Whether each request of the run gets its code, a host is asked so often, and what was done is a run.
@@ -280,7 +288,7 @@ fn a_hundred_requests(rt: HostRuntime) -> Result<(), Fail> {
 #[test]
 fn links_that_repeat(rt: HostRuntime) -> Result<(), Fail> {
     let run = Run {
-        head: "PLAN 1\nturns 4000000000\ntick_every 0\nrepeat AB 1\nrepeat BH 1\n",
+        head: "PLAN 1\nturns 50000000\ntick_every 0\nrepeat AB 1\nrepeat BH 1\n",
         ..HUNDRED
     };
     assert!(rt; are_all_answered(&rt, rt.alloc(), run, 100)?);
@@ -291,11 +299,28 @@ fn links_that_repeat(rt: HostRuntime) -> Result<(), Fail> {
 #[test]
 fn a_link_that_loses_all(rt: HostRuntime) -> Result<(), Fail> {
     let run = Run {
-        head: "PLAN 1\nturns 4000000000\ntick_every 100\nlose AH 1\n",
+        head: "PLAN 1\nturns 50000000\ntick_every 100\nlose AH 1\n",
         code: *b"91",
         ..ONE
     };
     assert!(rt; are_all_answered(&rt, rt.alloc(), run, 0)?);
+    Ok(())
+}
+
+/// Where two stations changed places, packets towards them are counted for the pump of the other. So nobody tells their own pumps, which
+/// take them at the look that comes in each 64th turn, and the session of the third node gets its answers.
+#[test]
+fn packets_that_nobody_counted(rt: HostRuntime) -> Result<(), Fail> {
+    let run = Run {
+        swapped: true,
+        ..HUNDRED
+    };
+    let outcome = outcome_of(&rt, rt.alloc(), run)?;
+    assert_eq!(rt;
+        (outcome.coded, outcome.silent, outcome.asks),
+        (100, 0, 100)
+    );
+    assert_eq!(rt; outcome.verdict, Verdict::StationStrange(NodeNo::new(1)));
     Ok(())
 }
 

@@ -32,9 +32,15 @@ fn take<R: Wait>(rt: &R, alloc: Global, network: &Network<'_, '_>) -> Result<boo
     Ok(step(rt, network, 1, Case::Take(LinkNo::new(0), 7, bytes)) == Some(Ok(())))
 }
 
-pub(crate) fn swap<R: Wait>(rt: &R, network: &Network<'_, '_>) -> bool {
+/// Two stations change places, where there are such.
+pub(crate) fn swap<R: Wait>(
+    rt: &R,
+    network: &Network<'_, '_>,
+    first: usize,
+    second: usize,
+) -> bool {
     let stations = network.stations();
-    match (stations.get(0), stations.get(1)) {
+    match (stations.get(first), stations.get(second)) {
         (Some(first), Some(second)) => {
             let mut first = first.lock(rt);
             let mut second = second.lock(rt);
@@ -53,7 +59,7 @@ fn play<R: Wait>(
 ) -> Result<bool, AllocError> {
     match trick {
         Trick::StrangePacket => take(rt, alloc, network),
-        Trick::Swapped => Ok(swap(rt, network)),
+        Trick::Swapped => Ok(swap(rt, network, 0, 1)),
         _ => Ok(true),
     }
 }
