@@ -25,6 +25,25 @@ fn answers_that_are_not_passed_on(rt: HostRuntime) -> Result<(), Fail> {
     )
 }
 
+/// What a link's answer makes of a request leaves out the local time in element 12, also where the request comes again.
+#[test]
+fn an_answer_to_a_timed_request(rt: HostRuntime) -> Result<(), Fail> {
+    run(
+        rt.alloc(),
+        Sample::TwoNodes,
+        "A",
+        "
+            purchase one trace 000001 amount 000000001000
+            enter one timed_request 0100
+                put AH 1 one timed_dated_request 0100
+            take AH 1 one answered 05
+                answer one answered 05
+            enter one timed_request 0100
+                answer one answered 05
+        ",
+    )
+}
+
 /// An approval that comes after the acquirer's reversal needs no further one.
 #[test]
 fn an_approval_of_what_is_reversed(rt: HostRuntime) -> Result<(), Fail> {

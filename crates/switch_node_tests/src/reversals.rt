@@ -24,6 +24,25 @@ fn a_pending_request_is_reversed(rt: HostRuntime) -> Result<(), Fail> {
     )
 }
 
+/// Its answer leaves out the local time in element 12, which no response carries.
+#[test]
+fn a_timed_request_is_reversed(rt: HostRuntime) -> Result<(), Fail> {
+    run(
+        rt.alloc(),
+        Sample::TwoNodes,
+        "A",
+        "
+            purchase one trace 000001 amount 000000001000
+            enter one timed_request 0100
+                put AH 1 one timed_dated_request 0100
+            enter one reversal 0400
+                answer one answered 68
+                answer one reversal_response 0410 00
+                put AH 2 one reversal 0420
+        ",
+    )
+}
+
 /// The home posts the reversal; the request that comes after it is answered 68, and the host isn't asked.
 #[test]
 fn a_reversal_comes_first(rt: HostRuntime) -> Result<(), Fail> {
