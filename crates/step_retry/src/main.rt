@@ -1,4 +1,4 @@
-//! Steps a node through a request whose link fails, and prints what it puts out. A step that is refused memory is tried again: it
+//! Steps a node through a request whose link fails and one that is answered, and prints what it puts out. A step that is refused memory is tried again: it
 //! must have changed nothing, and then does what it would have done. `bench/hostile` runs this with each request for memory refused.
 #![tactic(auto)]
 
@@ -9,7 +9,7 @@ use network_law::StepFault;
 use rank_cert::{Cert, read_cert};
 use sample_networks::Sample;
 use shared_bytes::SharedBytes;
-use std::alloc::{AllocError, Global};
+use std::alloc::Global;
 use std::io;
 use std::io::Write;
 use std::process::ExitCode;
@@ -19,20 +19,26 @@ use table_checker::{Accepted, check};
 const REQUEST: &[u8] =
     b"01007220000100008000164111111111111111000000000000001000031409153000000106400001840";
 
+const SECOND_REQUEST: &[u8] =
+    b"01007220000100008000164111111111111111000000000000001000031409153000000206400001840";
+
+/// The answer to the second request, as it comes by the second link.
+const ANSWER: &[u8] =
+    b"01107222000102008000164111111111111111000000000000001000031409153000000203140640000100840";
+
 /// How often a step is tried.
 const TRIES: u32 = 4;
 
 /// What happens at the node.
 #[derive(Clone, Copy)]
 enum Event {
-    Request,
+    /// An acquirer enters a message.
+    Enter(&'static [u8]),
     /// The first link fails.
     LinkDown,
+    /// A message comes by the second link. Its request's place becomes that of the response.
+    Take(&'static [u8]),
     Tick,
-}
-
-fn request(alloc: Global) -> Result<SharedBytes, AllocError> {
-    SharedBytes::from_slice(alloc, REQUEST)
 }
 
 /// One try of a step.
@@ -43,13 +49,20 @@ fn step(
     outputs: &mut Outputs,
 ) -> Result<(), StepFault> {
     let case = match event {
-        Event::Request => Case::Enter(request(alloc)?),
+        Event::Enter(bytes) => Case::Enter(SharedBytes::from_slice(alloc, bytes)?),
         Event::LinkDown => {
             let link = LinkNo::new(0);
             if !node.has_link(link) {
                 return Err(StepFault::NoPlace);
             }
             Case::LinkDown(link)
+        }
+        Event::Take(bytes) => {
+            let link = LinkNo::new(1);
+            if !node.has_link(link) {
+                return Err(StepFault::NoPlace);
+            }
+            Case::Take(link, 1, SharedBytes::from_slice(alloc, bytes)?)
         }
         Event::Tick => Case::Tick,
     };
@@ -101,7 +114,13 @@ fn are_done(
     node: &mut Node<'_>,
     outputs: &mut Outputs,
 ) -> bool {
-    for event in [Event::Request, Event::Tick, Event::LinkDown] {
+    for event in [
+        Event::Enter(REQUEST),
+        Event::Tick,
+        Event::LinkDown,
+        Event::Enter(SECOND_REQUEST),
+        Event::Take(ANSWER),
+    ] {
         if !is_done(alloc, writer, node, event, outputs) {
             return false;
         }
