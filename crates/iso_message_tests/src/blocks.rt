@@ -223,3 +223,67 @@ fn longest_values(rt: HostRuntime) -> Result<(), Fail> {
     assert!(rt; answers(&rt, &input, &text, true)?);
     Ok(())
 }
+
+/// Elements from a first to a last one: the digits of their length, and the most bytes that they take as they are printed.
+const WHOLE_TABLE: [(u8, u8, &str, usize); 37] = [
+    (2, 2, "19", 19),
+    (3, 3, "", 6),
+    (4, 6, "", 12),
+    (7, 7, "", 10),
+    (8, 10, "", 8),
+    (11, 12, "", 6),
+    (13, 18, "", 4),
+    (19, 24, "", 3),
+    (25, 26, "", 2),
+    (27, 27, "", 1),
+    (28, 31, "", 9),
+    (32, 33, "11", 11),
+    (34, 34, "28", 28),
+    (35, 35, "37", 37),
+    (36, 36, "104", 104),
+    (37, 37, "", 12),
+    (38, 38, "", 6),
+    (39, 39, "", 2),
+    (40, 40, "", 3),
+    (41, 41, "", 8),
+    (42, 42, "", 15),
+    (43, 43, "", 40),
+    (44, 44, "25", 25),
+    (45, 45, "76", 76),
+    (46, 48, "999", 999),
+    (49, 51, "", 3),
+    (52, 52, "", 16),
+    (53, 53, "", 16),
+    (54, 54, "120", 120),
+    (55, 63, "999", 999),
+    (64, 64, "", 16),
+    (70, 70, "", 3),
+    (90, 90, "", 42),
+    (95, 95, "", 42),
+    (100, 100, "11", 11),
+    (102, 103, "28", 28),
+    (128, 128, "", 16),
+];
+
+/// A message of all elements, each as long as it can be, has the longest block.
+#[test]
+fn longest_message(rt: HostRuntime) -> Result<(), Fail> {
+    let alloc = rt.alloc();
+    let mut input = String::from_str(alloc, "0100FFFFFFFFFFFFFFFF0400004216000001")?;
+    let mut text = String::from_str(alloc, "message 1\ntype 0100\n")?;
+    for (first, last, digits, size) in WHOLE_TABLE {
+        for number in first..=last {
+            let label = format!(in alloc; "{number} ")?;
+            input.push_str(digits)?;
+            text.push_str(&label)?;
+            for _ in 0..size {
+                input.push_str("7")?;
+                text.push_str("7")?;
+            }
+            text.push_str("\n")?;
+        }
+    }
+    assert!(rt; text.len() == 13_199);
+    assert!(rt; answers(&rt, &input, &text, true)?);
+    Ok(())
+}

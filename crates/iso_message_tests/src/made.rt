@@ -131,6 +131,29 @@ fn response(rt: HostRuntime) -> Result<(), Fail> {
     Ok(())
 }
 
+/// Elements 12 and 48 are left out of a response, of a short message, which is copied whole, and of a long one, of which only the rest is.
+#[test]
+fn response_without_other_elements(rt: HostRuntime) -> Result<(), Fail> {
+    for len in [1, 999] {
+        let mut request = dated_request(&rt)?;
+        let mut text = Vec::new(rt.alloc());
+        for _ in 0..len {
+            text.push(b'x')?;
+        }
+        set(&mut request, 12, b"153000")?;
+        set(&mut request, 48, &text)?;
+        let response = request.response(Code::new(*b"00"))?;
+        assert!(rt;
+            is_spelled(
+                &rt,
+                &response,
+                b"01107222000102008000164111111111111111000000000000001000031409153000000103140640000100840"
+            )?
+        );
+    }
+    Ok(())
+}
+
 /// The advice of the node 1001 that it approved the request.
 fn advised(request: &Message) -> Result<Message, Fail> {
     if value_fault(33, b"1001").is_some() {
