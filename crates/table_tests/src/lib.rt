@@ -14,11 +14,15 @@ mod networks;
 #[cfg(test)]
 mod numbers;
 #[cfg(test)]
+mod plain_forms;
+#[cfg(test)]
 mod plain_rows;
 #[cfg(test)]
 mod row_forms;
 #[cfg(test)]
 mod rows;
+#[cfg(test)]
+mod runs;
 #[cfg(test)]
 mod tries;
 #[cfg(test)]

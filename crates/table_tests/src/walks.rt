@@ -1,4 +1,5 @@
 //! Ranks and circles of made networks, beside those of a walk for each class by itself.
+mod ahead;
 mod made;
 mod old_walk;
 
@@ -102,6 +103,24 @@ fn compare_many(
     Ok(counts)
 }
 
+/// The same for networks in whose rows several links may lead to the node.
+fn compare_ahead(
+    alloc: Global,
+    numbers: &mut Numbers,
+    networks: u32,
+    form: Form,
+) -> Result<Counts, Fail> {
+    let mut counts = Counts {
+        ranked: 0,
+        circles: 0,
+    };
+    for _ in 0..networks {
+        let tables = ahead::network(alloc, numbers, form)?;
+        compare(alloc, &mut counts, &tables)?;
+    }
+    Ok(counts)
+}
+
 #[test]
 fn as_by_walks_of_each_class(rt: HostRuntime) -> Result<(), Fail> {
     let mut numbers = Numbers::new(7);
@@ -114,6 +133,39 @@ fn as_by_walks_of_each_class(rt: HostRuntime) -> Result<(), Fail> {
         let counts = compare_many(rt.alloc(), &mut numbers, 45, form)?;
         assert!(rt; counts.ranked >= 20, "{nodes}");
         assert!(rt; counts.circles >= 8, "{nodes}");
+    }
+    Ok(())
+}
+
+/// Rows with two links and more that lead to the node, and with eight links.
+#[test]
+fn as_by_walks_of_links_ahead(rt: HostRuntime) -> Result<(), Fail> {
+    let mut numbers = Numbers::new(13);
+    for (nodes, ways, one_in) in [(5, 2, 12), (9, 3, 20), (14, 8, 40), (30, 8, 90)] {
+        let form = Form {
+            nodes,
+            ways,
+            one_in,
+        };
+        let counts = compare_ahead(rt.alloc(), &mut numbers, 30, form)?;
+        assert!(rt; counts.ranked >= 5 && counts.circles >= 5, "{nodes}");
+    }
+    Ok(())
+}
+
+/// Networks of one to three nodes.
+#[test]
+fn as_by_walks_of_few_nodes(rt: HostRuntime) -> Result<(), Fail> {
+    let mut numbers = Numbers::new(17);
+    for nodes in 1..4 {
+        let form = Form {
+            nodes,
+            ways: 2,
+            one_in: 6,
+        };
+        let counts = compare_ahead(rt.alloc(), &mut numbers, 40, form)?;
+        assert!(rt; counts.ranked >= 5, "{nodes}");
+        assert!(rt; nodes < 3 || counts.circles >= 5, "{nodes}");
     }
     Ok(())
 }

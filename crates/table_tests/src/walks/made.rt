@@ -6,13 +6,13 @@ use std::alloc::Global;
 use std::fmt::Write;
 use std::test::Fail;
 
-fn push_node(toml: &mut String, node: u64) -> Result<(), Fail> {
+pub(crate) fn push_node(toml: &mut String, node: u64) -> Result<(), Fail> {
     let id = node.wrapping_add(1_001);
     write!(toml, "[[node]]\nname = \"N{node}\"\nid = \"{id}\"\n")?;
     Ok(())
 }
 
-fn push_link(toml: &mut String, link: u64, node: u64, end: u64) -> Result<(), Fail> {
+pub(crate) fn push_link(toml: &mut String, link: u64, node: u64, end: u64) -> Result<(), Fail> {
     write!(
         toml,
         "[[link]]\nname = \"L{link}\"\nends = [\"N{node}\", \"N{end}\"]\nticks = 3\n"
@@ -67,7 +67,7 @@ fn push_route(
     Ok(())
 }
 
-fn push_issuer(toml: &mut String, issuer: u64, home: u64) -> Result<(), Fail> {
+pub(crate) fn push_issuer(toml: &mut String, issuer: u64, home: u64) -> Result<(), Fail> {
     write!(
         toml,
         "[[issuer]]\nname = \"I{issuer}\"\nprefix = \"{issuer}\"\nhome = \"N{home}\"\n"
