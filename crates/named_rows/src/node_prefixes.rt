@@ -1,5 +1,5 @@
 //! Rows at a node, with a prefix that is new there.
-ghost use Rattle.std.specs.Prelude.{◌≡◌, ◌==◌, ◌<◌, [], true, false, not, length, slice_set, OnOk, OnErr, IfOk};
+ghost use Rattle.std.specs.Prelude.{◌≡◌, ◌==◌, ◌<◌, true, false, not, length, slice_set, OnOk, OnErr, IfOk};
 ghost use Rattle.indexmap.specs.IndexSet.{insert_key};
 ghost use Rattle.std.specs.Cmp.Lexicographic.{pointwise};
 ghost use Rattle.card_digits.specs.Attempts.{Gives};
@@ -24,8 +24,6 @@ const MOST_ROWS: usize = 4_096;
 #[derive(Drop)]
 pub struct NodePrefixes {
     sets: Vec<IndexSet<Prefix>>,
-    /// For so many prefixes a set is given memory when it takes its first.
-    room: usize,
 }
 
 impl Model for NodePrefixes {
@@ -42,21 +40,11 @@ impl NodePrefixes {
         ensures empty { IfOk result AreEmpty }
         ensures len { IfOk result (λ v. length v ≡ nodes) }
     {
-        NodePrefixes::with_room(alloc, nodes, 0)
-    }
-
-    /// The same, for about so many rows that are spread evenly over the nodes: with the first prefix that a node takes it gets memory for
-    /// its part of them, as far as it is given.
-    pub fn with_room(alloc: Global, nodes: usize, rows: usize) -> Result<NodePrefixes, AllocError>
-        ensures empty { IfOk result AreEmpty }
-        ensures len { IfOk result (λ v. length v ≡ nodes) }
-    {
-        let room = rows.checked_div(nodes).unwrap_or(0).min(MOST_ROWS);
         let mut sets = Vec::new(alloc);
         for _ in 0..nodes {
             sets.push(IndexSet::new(alloc))?;
         }
-        Ok(NodePrefixes { sets, room })
+        Ok(NodePrefixes { sets })
     }
 
     /// How many the node has.
@@ -77,16 +65,6 @@ impl NodePrefixes {
         Ok(self.sets[node.place()].insert(prefix)?)
     }
 
-    /// Asks for the memory of a node that has no prefixes. Where it isn't given, its set grows prefix by prefix.
-    fn make_room(&mut self, node: NodeNo)
-        requires { node < length self.old }
-        ensures { self.new ≡ self.old }
-    {
-        if self.count(node) == 0 {
-            let _given = self.sets[node.place()].reserve(self.room);
-        }
-    }
-
     /// Takes a prefix for one row more of a node. Nothing is taken, and the answer is false, where the node has 4,096 rows, where the
     /// prefix isn't new there, and where memory is refused.
     pub fn take(&mut self, node: NodeNo, prefix: Prefix) -> bool
@@ -97,7 +75,6 @@ impl NodePrefixes {
         if self.count(node) >= MOST_ROWS {
             return false;
         }
-        self.make_room(node);
         match self.insert(node, prefix) {
             Ok(is_new) => is_new,
             Err(_) => false,

@@ -21,14 +21,6 @@ const MOST_AMOUNT: i64 = 999_999_999_999;
 
 const MOST_LINKS: usize = 8;
 
-/// How many bytes a short row has.
-const SHORT_ROW: usize = 64;
-
-/// How many rows a text may have. It says how much memory to ask for, and nothing else hangs on it.
-pub(crate) fn rows_about(text: &str) -> usize {
-    text.len() / SHORT_ROW
-}
-
 /// The node of that name.
 pub(crate) fn node_named(nodes: &NamedRows<Node>, name: &str) -> Option<NodeNo>
     ensures named { IfSome result (λ n. IsNamed (node_names nodes.now) name.now n) }

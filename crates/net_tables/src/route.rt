@@ -13,7 +13,7 @@ ghost use Rattle.table_fields.specs.declared.place.Table.TheVariants as table;
 #[cfg(test)]
 mod tests;
 
-use crate::plain::{node_named, plain_links, prefix_of, rows_about};
+use crate::plain::{node_named, plain_links, prefix_of};
 use crate::rows::{RowReader, next_rows, read_rows};
 use named_rows::{NamedRows, NodePrefixes, links_at, new_prefix_at};
 use net_rows::{Link, Node, Route};
@@ -141,7 +141,7 @@ pub(crate) fn next_routes<'a>(
     ensures value { IfSome result (λ p. AreNext table.Route (route_of (node_names nodes.now) links.now) p.0.items text.now p.1.now) }
     ensures own { IfSome result (λ p. AreOwnLinks links.now p.0.items) }
 {
-    let Ok(taken) = NodePrefixes::with_room(alloc, nodes.as_slice().len(), rows_about(text)) else {
+    let Ok(taken) = NodePrefixes::new(alloc, nodes.as_slice().len()) else {
         return None;
     };
     let reader = RouteReader {

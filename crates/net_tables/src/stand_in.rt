@@ -12,7 +12,7 @@ ghost use Rattle.table_fields.specs.declared.place.Table.TheVariants as table;
 #[cfg(test)]
 mod tests;
 
-use crate::plain::{amount_of, node_named, prefix_of, rows_about};
+use crate::plain::{amount_of, node_named, prefix_of};
 use crate::rows::{RowReader, next_rows, read_rows};
 use named_rows::{NamedRows, NodePrefixes, new_prefix_at};
 use net_rows::{Node, StandIn};
@@ -132,7 +132,7 @@ pub(crate) fn next_stand_ins<'a>(
 ) -> Option<(Vec<StandIn>, &'a str)>
     ensures { IfSome result (λ p. AreNext table.StandIn (stand_in_of (node_names nodes.now)) p.0.items text.now p.1.now) }
 {
-    let Ok(taken) = NodePrefixes::with_room(alloc, nodes.as_slice().len(), rows_about(text)) else {
+    let Ok(taken) = NodePrefixes::new(alloc, nodes.as_slice().len()) else {
         return None;
     };
     let reader = StandInReader { alloc, nodes };

@@ -2,7 +2,6 @@
 use super::RouteReader;
 use crate::link::next_links;
 use crate::node::next_nodes;
-use crate::plain::rows_about;
 use crate::rows::plain_rows;
 use named_rows::{NamedRows, NodePrefixes};
 use net_rows::{Link, Node};
@@ -47,7 +46,7 @@ fn count_plain<'a>(
     nodes: &NamedRows<Node>,
     links: &NamedRows<Link>,
 ) -> Option<(usize, &'a str)> {
-    let Ok(taken) = NodePrefixes::with_room(alloc, nodes.as_slice().len(), rows_about(text)) else {
+    let Ok(taken) = NodePrefixes::new(alloc, nodes.as_slice().len()) else {
         return None;
     };
     let reader = RouteReader {

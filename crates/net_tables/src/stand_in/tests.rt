@@ -1,7 +1,6 @@
 //! Plain stand-in rows are read where they stand. That is only faster, so no clause says when they are.
 use super::StandInReader;
 use crate::node::next_nodes;
-use crate::plain::rows_about;
 use crate::rows::plain_rows;
 use named_rows::{NamedRows, NodePrefixes};
 use net_rows::Node;
@@ -35,7 +34,7 @@ fn count_plain<'a>(
     text: &'a str,
     nodes: &NamedRows<Node>,
 ) -> Option<(usize, &'a str)> {
-    let Ok(taken) = NodePrefixes::with_room(alloc, nodes.as_slice().len(), rows_about(text)) else {
+    let Ok(taken) = NodePrefixes::new(alloc, nodes.as_slice().len()) else {
         return None;
     };
     let reader = StandInReader { alloc, nodes };

@@ -4,4 +4,4 @@ use Rattle.named_rows.proofs.Again.{insert_again}
 use Rattle.named_rows.proofs.node_prefixes.NodePrefixes.take.Goals as goal
 
 pub returns-in-Ok-clause-stays : goal.returns-in-Ok-clause-stays
-returns-in-Ok-clause-stays c other = c.in-Ok.ensures.set ∙ insert_again c.make_room.new.self c.args.node c.args.prefix (rw c.make_room.ensures c.requires) (not-false _ (sym c.in-Ok.ensures.new ∙ other)) ∙ c.make_room.ensures
+returns-in-Ok-clause-stays c other = c.in-Ok.ensures.set ∙ insert_again c.args.self.now c.args.node c.args.prefix c.requires (not-false _ (sym c.in-Ok.ensures.new ∙ other))

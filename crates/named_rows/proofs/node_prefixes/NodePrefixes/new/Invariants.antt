@@ -1,6 +1,6 @@
 use Rattle.std.proofs.Common.{◌≡◌, ℕ, List, length, map}
 use Rattle.named_rows.specs.Rows.{AreEmpty}
-use Rattle.named_rows.proofs.node_prefixes.NodePrefixes.with_room.Given as goal
+use Rattle.named_rows.proofs.node_prefixes.NodePrefixes.new.Given as goal
 
 pub record AreMade (lists : List (List (List ℕ))) (count : ℕ) : Type 0 where
   pub empty : AreEmpty lists

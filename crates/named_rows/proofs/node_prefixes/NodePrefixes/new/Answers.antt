@@ -2,7 +2,7 @@ use Rattle.std.proofs.Common.{◌≡◌, List, [], ◌∷◌, ◌++◌, ℕ, map
 use Rattle.std.proofs.lemmas.List.{map-append, length-append}
 use Rattle.indexmap.specs.IndexSet.{keys}
 use Rattle.named_rows.proofs.Pushed.{empty_added}
-use Rattle.named_rows.proofs.node_prefixes.NodePrefixes.with_room.Goals as goal
+use Rattle.named_rows.proofs.node_prefixes.NodePrefixes.new.Goals as goal
 
 pub loop-preserved : goal.loop-preserved
 loop-preserved c =
