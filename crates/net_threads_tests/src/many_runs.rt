@@ -1,5 +1,5 @@
-//! Short plans that run again and again: a packet, an ask or an answer that a thread didn't hear of would keep a session waiting for
-//! more turns than a test has time for.
+//! Short plans that run again and again: for want of a packet, an ask or an answer that a thread didn't hear of a session would wait for all
+//! turns of its plan, and have no answer then.
 use crate::lent::lent_on;
 use crate::network::{ranks, tables};
 use crate::plans::{HUNDRED, ONE, Run, are_all_answered, outcome_of};
@@ -18,7 +18,7 @@ const THREE: Run = Run {
     ..HUNDRED
 };
 
-/// How many of so many runs go as they should: each request gets its code, and a host is asked so often.
+/// How many of so many runs go as they should, up to the first that doesn't: each request gets its code, and a host is asked so often.
 fn count_answered<R: Threads + Wait + Sync>(
     rt: &R,
     alloc: Global,
@@ -27,9 +27,10 @@ fn count_answered<R: Threads + Wait + Sync>(
 ) -> Result<usize, Fail> {
     let mut count: usize = 0;
     for _ in 0..TIMES {
-        if are_all_answered(rt, alloc, run, asks)? {
-            count = count.saturating_add(1);
+        if !are_all_answered(rt, alloc, run, asks)? {
+            break;
         }
+        count = count.saturating_add(1);
     }
     Ok(count)
 }

@@ -307,8 +307,8 @@ fn a_link_that_loses_all(rt: HostRuntime) -> Result<(), Fail> {
     Ok(())
 }
 
-/// Where two stations changed places, packets towards them are counted for the pump of the other. So nobody tells their own pumps, which
-/// take them at the look that comes in each 64th turn, and the session of the third node gets its answers.
+/// Where two stations changed places, packets towards them are counted for the pump of the other. So nobody tells their own pumps, which take
+/// them at the look that comes in each 64th turn, and the session at the first node gets its answers.
 #[test]
 fn packets_that_nobody_counted(rt: HostRuntime) -> Result<(), Fail> {
     let run = Run {

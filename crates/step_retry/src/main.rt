@@ -1,5 +1,6 @@
-//! Steps a node through a request whose link fails and one that is answered, and prints what it puts out. A step that is refused memory is tried again: it
-//! must have changed nothing, and then does what it would have done. `bench/hostile` runs this with each request for memory refused.
+//! Steps a node through a request whose link fails and one that is answered, and prints what it puts out. A step that is refused memory
+//! is tried again: it must have changed nothing, and then does what it would have done. `bench/hostile` runs this with each request for
+//! memory refused.
 #![tactic(auto)]
 
 use card_digits::{LinkNo, NodeNo};

@@ -23,7 +23,7 @@ pub(crate) fn push_link(toml: &mut String, link: u64, node: u64, end: u64) -> Re
 /// What a network is like.
 #[derive(Clone, Copy)]
 pub(crate) struct Form {
-    /// How many nodes it has: at least four.
+    /// How many nodes it has: at least four in the networks of this file.
     pub(crate) nodes: u64,
     /// How many links lead from each node but the first to nodes before it. Those of node n have the numbers from `ways` times n on.
     pub(crate) ways: u64,
