@@ -13,7 +13,7 @@ PLACE = rb"(?:(?:network|root|" + TABLE + rb") " + NUMBER + rb" [a-z_]+)"
 # The numbers of what is wrong with a message, with the element where there is one.
 MESSAGE_FAULT_NUMBER = rb"(?:1|2|3|[456] [1-9][0-9]{0,2}|7)"
 MESSAGE_FAULT = (
-    rb"(?:1 short|2 type|3 bit map|4 element [1-9][0-9]{0,2}|5 length [1-9][0-9]{0,2}|6 character [1-9][0-9]{0,2}|7 trailing|8 memory)"
+    rb"(?:1 short|2 type|3 bit map|4 element [1-9][0-9]{0,2}|5 length [1-9][0-9]{0,2}|6 character [1-9][0-9]{0,2}|7 trailing)"
 )
 
 FAULTS = {
@@ -203,4 +203,4 @@ def problem_of_fault(job, status, data, out):
 def names_memory(out):
     """Whether the output ends in a line that names memory, which only blocks of messages may precede."""
     last = out[out.rfind(b"\n", 0, len(out) - 1) + 1 :]
-    return re.fullmatch(rb"fault (?:bundle 4|tables 8|ranks 6|check 9|script 4|plan 4|run 2|message 8) memory\n", last) is not None
+    return re.fullmatch(rb"fault (?:bundle 4|tables 8|ranks 6|check 9|script 4|plan 4|run 2) memory\n", last) is not None
