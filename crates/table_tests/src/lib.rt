@@ -1,4 +1,4 @@
-//! Tests of digits, plain rows, tables, tries, certificates, and the making and checking of ranks, by the calls that a program makes.
+//! Tests of digits, plain rows, tables, certificates, and the making and checking of ranks, by the calls that a program makes.
 #![tactic(auto)]
 
 #[cfg(test)]
@@ -12,8 +12,6 @@ mod maker;
 #[cfg(test)]
 mod networks;
 #[cfg(test)]
-mod numbers;
-#[cfg(test)]
 mod plain_forms;
 #[cfg(test)]
 mod plain_rows;
@@ -23,9 +21,5 @@ mod row_forms;
 mod rows;
 #[cfg(test)]
 mod runs;
-#[cfg(test)]
-mod tries;
-#[cfg(test)]
-mod walks;
 #[cfg(test)]
 mod words;

@@ -1,5 +1,5 @@
 //! Certificates in which the lines of a prefix begin with the names of the prefix before, and then depart from them.
-use rank_cert::{CertFault, read_cert, write_cert};
+use rank_cert::{Cert, CertFault, read_cert, write_cert};
 use std::alloc::Global;
 use std::fmt::Write;
 use std::test::Fail;
@@ -98,21 +98,31 @@ fn push_lines(text: &mut String, prefix: u64, from: u64, to: u64) -> Result<(), 
     Ok(())
 }
 
+/// Fails where the rows aren't written as they were read.
+fn is_written(alloc: Global, cert: &Cert, text: &str) -> Result<(), Fail> {
+    let again = write_cert(alloc, cert)?;
+    if again.as_slice() != text.as_bytes() {
+        return Err("other rows".into());
+    }
+    Ok(())
+}
+
 /// Fails where the text has another fault than it should, or isn't written as it was read.
 fn is_read(alloc: Global, lines: Lines) -> Result<(), Fail> {
     let text = lines.text(alloc)?;
-    let read = read_cert(alloc, text.as_bytes());
-    match (read, lines.fault()) {
-        (Ok(cert), None) => {
-            let again = write_cert(alloc, &cert)?;
-            if again.as_slice() != text.as_bytes() {
-                return Err("other rows".into());
+    match read_cert(alloc, text.as_bytes()) {
+        Ok(cert) => match lines.fault() {
+            None => is_written(alloc, &cert, text.as_str()),
+            Some(_) => Err("no fault".into()),
+        },
+        Err(fault) => {
+            if lines.fault() == Some(fault) {
+                Ok(())
+            } else {
+                Err("another fault, or one".into())
             }
         }
-        (Err(fault), Some(wanted)) if fault == wanted => {}
-        _ => return Err("another fault, or none".into()),
     }
-    Ok(())
 }
 
 #[test]

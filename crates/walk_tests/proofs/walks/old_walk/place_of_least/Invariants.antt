@@ -1,5 +1,5 @@
 use Rattle.std.proofs.Common.{◌≤◌}
-use Rattle.table_tests.proofs.walks.old_walk.place_of_least.Given as goal
+use Rattle.walk_tests.proofs.walks.old_walk.place_of_least.Given as goal
 
 abbrev pub invariant-loop-i : goal.invariant-loop-i
 invariant-loop-i l = l.least ≤ l.i
