@@ -2,6 +2,7 @@ mod Again
 mod Behind
 mod Cuts
 mod Fresh
+mod GreatestName
 mod Growing
 mod Lines
 pub mod LineFields

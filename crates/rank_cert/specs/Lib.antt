@@ -1,4 +1,5 @@
 pub mod Adding
+pub mod Greatest
 pub mod Kept
 pub mod Like
 pub mod Marks

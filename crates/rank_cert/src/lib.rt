@@ -3,6 +3,7 @@
 
 mod cert;
 mod fault;
+mod greatest;
 mod kept;
 mod marks;
 mod page;

@@ -5,8 +5,10 @@ ghost use Rattle.std.specs.Vec.{vec_len, vec_capacity};
 ghost use Rattle.rank_cert.specs.Ranks.{rank_of, like_rows, IsCert, EndsWith};
 ghost use Rattle.rank_cert.specs.Runs.{rank_in_run, begins_with, has_name, begin_of, IsRun, HasNone, CanRepeat};
 ghost use Rattle.rank_cert.specs.Marks.{AreMarked};
+ghost use Rattle.rank_cert.specs.Greatest.{IsOf};
 
 use crate::cert::{NEAR, Rank};
+use crate::greatest::Greatest;
 use crate::marks::{Marks, place_of};
 use card_digits::{Name, Prefix};
 use indexmap::IndexSet;
@@ -25,6 +27,8 @@ pub(crate) struct Runs {
     last: usize,
     /// The marks of the names in that run: of a name without one no row has to be looked at.
     marks: Marks,
+    /// The greatest name in that run: a name behind it is new, whether it has a mark or not.
+    greatest: Greatest,
 }
 
 impl Model for Runs {
@@ -33,12 +37,13 @@ impl Model for Runs {
     ghost use Rattle.std.specs.Prelude.{drop};
     ghost use Rattle.rank_cert.specs.Runs.{AreRuns};
     ghost use Rattle.rank_cert.specs.Marks.{AreMarked};
+    ghost use Rattle.rank_cert.specs.Greatest.{IsOf};
 
     ghost Value = { List Rank };
 
     ghost view = { λ a. a.rows.items };
 
-    ghost invariant = { λ a. AreRuns a.rows.items a.begins.entries a.last × AreMarked a.marks (drop a.last a.rows.items) };
+    ghost invariant = { λ a. AreRuns a.rows.items a.begins.entries a.last × AreMarked a.marks (drop a.last a.rows.items) × IsOf a.greatest (drop a.last a.rows.items) };
 }
 
 /// What became of a row that was to be added.
@@ -60,6 +65,7 @@ impl Runs {
             begins: HashMap::new(alloc),
             last: 0,
             marks: Marks::none(),
+            greatest: Greatest::none(),
         }
     }
 
@@ -72,6 +78,7 @@ impl Runs {
             begins: HashMap::new(alloc),
             last: 0,
             marks: Marks::none(),
+            greatest: Greatest::none(),
         })
     }
 
@@ -102,13 +109,20 @@ impl Runs {
         ensures err { OnErr result (self.new ≡ self.old) }
     {
         if begins_with(rows_from(&self.rows, self.last), &row.prefix) {
-            return add_to_run(&mut self.rows, self.last, &mut self.marks, row);
+            return add_to_run(
+                &mut self.rows,
+                self.last,
+                &mut self.marks,
+                &mut self.greatest,
+                row,
+            );
         }
         let place = self.rows.len();
         if begin_run(&mut self.rows, &mut self.begins, row)? {
             self.last = place;
             self.marks = Marks::none();
             self.marks.mark(place_of(row.node.as_slice()));
+            self.greatest = Greatest::none();
             Ok(Added::Yes)
         } else {
             Ok(Added::Apart)
@@ -123,7 +137,13 @@ impl Runs {
         ensures err { OnErr result (self.new ≡ self.old) }
     {
         if self.last < self.rows.len() {
-            add_to_run(&mut self.rows, self.last, &mut self.marks, row)
+            add_to_run(
+                &mut self.rows,
+                self.last,
+                &mut self.marks,
+                &mut self.greatest,
+                row,
+            )
         } else {
             Ok(Added::Apart)
         }
@@ -154,6 +174,7 @@ impl Runs {
             return Ok(false);
         }
         self.last = begin;
+        self.greatest = Greatest::none();
         if ranks.len() < begin - place {
             self.marks = marks_of(rows_from(&self.rows, begin));
         }
@@ -210,32 +231,37 @@ fn has_name(rows: &[Rank], node: &Name) -> bool
 
 ghost use Rattle.rank_cert.specs.Adding.{Adds};
 
-/// Whether a row has the name, which none has where it has no mark.
-fn is_known(run: &[Rank], is_marked: bool, node: &Name) -> bool
-    requires { is_marked ≡ false → has_name run.now node.now ≡ false }
-    ensures { result ≡ has_name run.now node.now }
+/// Whether a row has the name, which none has where it has no mark, or comes behind the greatest.
+fn is_known(run: &[Rank], is_marked: bool, greatest: &mut Greatest, node: &Name) -> bool
+    requires marked { is_marked ≡ false → has_name run.now node.now ≡ false }
+    requires greatest { IsOf greatest.old run.now }
+    ensures known { result ≡ has_name run.now node.now }
+    ensures greatest { IsOf greatest.new run.now }
 {
-    is_marked && has_name(run, node)
+    is_marked && !greatest.is_before(run, node) && has_name(run, node)
 }
 
 /// Adds a row to the run that begins at a place and has its prefix. A name is compared with those of the run, no more than a run may have,
-/// only where it has a mark.
+/// only where it has a mark and doesn't come behind the greatest.
 fn add_to_run(
     rows: &mut Vec<Rank>,
     begin: usize,
     marks: &mut Marks,
+    greatest: &mut Greatest,
     row: Rank,
 ) -> Result<Added, AllocError>
     requires within { begin ≤ length rows.old.items }
     requires marked { AreMarked marks.old (drop begin rows.old.items) }
+    requires greatest { IsOf greatest.old (drop begin rows.old.items) }
     ensures ok { IfOk result (λ added. Adds (has_name (drop begin rows.old.items) row.node) rows.old.items row added rows.new.items) }
     ensures err { OnErr result (rows.new.items ≡ rows.old.items) }
     ensures marked { AreMarked marks.new (drop begin rows.new.items) }
+    ensures greatest { IsOf greatest.new (drop begin rows.new.items) }
 {
     let place = place_of(row.node.as_slice());
     let is_marked = marks.has(place);
     let run = rows_from(rows, begin);
-    if is_known(run, is_marked, &row.node) {
+    if is_known(run, is_marked, greatest, &row.node) {
         return Ok(Added::Twice);
     }
     if run.len() >= NEAR {
