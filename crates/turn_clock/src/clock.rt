@@ -1,0 +1,194 @@
+//! Threads that sleep, and turns that pass while all do.
+ghost use Rattle.std.specs.Prelude.{◌≤◌};
+
+use crate::first::sooner;
+use std::alloc::{AllocError, Global};
+use std::sync::Wait;
+use std::sync::atomic::{AtomicU64, Ordering};
+use std::thread::Parker;
+
+/// A thread that works, or looks whether there is something to do.
+const AWAKE: u64 = 0;
+/// One that was told of something since it began to look.
+const TOLD: u64 = 1;
+
+const ASLEEP: u64 = 2;
+
+/// A thread of the plan.
+#[derive(Drop)]
+struct Sleeper {
+    state: AtomicU64,
+    /// After how many turns of the clock it wakes up by itself, while it sleeps.
+    due: AtomicU64,
+    parker: Parker,
+}
+
+impl Sleeper {
+    fn awake() -> Sleeper {
+        Sleeper {
+            state: AtomicU64::new(AWAKE),
+            due: AtomicU64::new(0),
+            parker: Parker::new(),
+        }
+    }
+
+    fn is_asleep(&self) -> bool {
+        self.state.load(Ordering::SeqCst) == ASLEEP
+    }
+
+    /// When it wakes up by itself, if it sleeps.
+    fn due(&self) -> Option<u64> {
+        if self.is_asleep() {
+            Some(self.due.load(Ordering::SeqCst))
+        } else {
+            None
+        }
+    }
+
+    /// Goes from one state to another, unless it is in a third.
+    fn exchange(&self, from: u64, to: u64) -> bool {
+        self.state
+            .compare_exchange(from, to, Ordering::SeqCst, Ordering::SeqCst)
+            .is_ok()
+    }
+}
+
+/// How many turns have passed, and which threads of a plan sleep. A thread that has nothing to do sleeps until it is told of something,
+/// or until the turns that it waits for have passed. Turns pass only while all threads sleep, and then at once as many as the first of
+/// them waits for: so nobody who works makes others wait for nothing.
+#[derive(Drop)]
+pub struct TurnClock {
+    turns: AtomicU64,
+    /// How many threads don't sleep. Who wakes another up counts it before that runs.
+    awake: AtomicU64,
+    sleepers: Vec<Sleeper>,
+}
+
+impl TurnClock {
+    /// A clock for so many threads, none of which sleeps. They are told apart by numbers from 0 on.
+    pub fn new(alloc: Global, threads: usize) -> Result<TurnClock, AllocError> {
+        let mut sleepers = Vec::with_capacity(alloc, threads)?;
+        for _ in 0..threads {
+            sleepers.push(Sleeper::awake())?;
+        }
+        Ok(TurnClock {
+            turns: AtomicU64::new(0),
+            awake: AtomicU64::new(threads as u64),
+            sleepers,
+        })
+    }
+
+    /// A thread looks from here on whether there is something to do: only what it is told of from now on keeps it from going to sleep.
+    pub fn listen(&self, thread: usize) {
+        if let Some(sleeper) = self.sleepers.get(thread) {
+            sleeper.state.store(AWAKE, Ordering::SeqCst);
+        }
+    }
+
+    /// Tells a thread that there is something to do. It wakes up, or doesn't go to sleep before it has listened again.
+    pub fn tell(&self, thread: usize) {
+        let Some(sleeper) = self.sleepers.get(thread) else {
+            return;
+        };
+        // One that was told already, and has not listened since, will look.
+        if sleeper.state.load(Ordering::SeqCst) == TOLD {
+            return;
+        }
+        if sleeper.state.swap(TOLD, Ordering::SeqCst) == ASLEEP {
+            self.awake.fetch_add(1, Ordering::SeqCst);
+            sleeper.parker.unpark();
+        }
+    }
+
+    /// Tells all threads.
+    pub fn tell_all(&self) {
+        for thread in 0..self.sleepers.len() {
+            self.tell(thread);
+        }
+    }
+
+    /// Sleeps until the thread is told of something or so many turns have passed, and says how many have: none where it was told between
+    /// listening and this.
+    pub fn rest<R: Wait>(&self, rt: &R, thread: usize, turns: u64) -> u64
+        ensures { result ≤ turns }
+    {
+        let Some(sleeper) = self.sleepers.get(thread) else {
+            return 0;
+        };
+        if turns == 0 {
+            return 0;
+        }
+        let before = self.turns.load(Ordering::SeqCst);
+        sleeper
+            .due
+            .store(before.saturating_add(turns), Ordering::SeqCst);
+        if !sleeper.exchange(AWAKE, ASLEEP) {
+            return 0;
+        }
+        self.settle(rt);
+        // Who wakes it up leaves one token here, so it runs only once it is counted.
+        sleeper.parker.park(rt);
+        let passed = self.turns.load(Ordering::SeqCst).saturating_sub(before);
+        passed.min(turns)
+    }
+
+    /// A thread ends, and nobody waits for it any more.
+    pub fn leave<R: Wait>(&self, rt: &R) {
+        self.settle(rt);
+    }
+
+    /// One thread less is awake. Where none is, turns pass until one is; where none sleeps either, all have left.
+    fn settle<R: Wait>(&self, rt: &R) {
+        if self.awake.fetch_sub(1, Ordering::SeqCst) != 1 {
+            return;
+        }
+        for _ in rt.forever() {
+            // Whoever lets turns pass is counted, so nobody else does at the same time.
+            if self
+                .awake
+                .compare_exchange(0, 1, Ordering::SeqCst, Ordering::SeqCst)
+                .is_err()
+            {
+                return;
+            }
+            let woken = self.pass();
+            if self.awake.fetch_sub(1, Ordering::SeqCst) != 1 {
+                return;
+            }
+            // Somebody may have been told meanwhile, and sleep again.
+            if !woken && !self.has_sleeper() {
+                return;
+            }
+        }
+    }
+
+    /// Lets as many turns pass as the first of those waits for who sleep, and wakes all up who wait for no more. Says whether anybody
+    /// sleeps.
+    fn pass(&self) -> bool {
+        let mut first = None;
+        for sleeper in self.sleepers.iter() {
+            first = sooner(first, sleeper.due());
+        }
+        let Some(turns) = first else {
+            return false;
+        };
+        self.turns.fetch_max(turns, Ordering::SeqCst);
+        for sleeper in self.sleepers.iter() {
+            if sleeper.due.load(Ordering::SeqCst) <= turns {
+                self.wake(sleeper);
+            }
+        }
+        true
+    }
+
+    fn has_sleeper(&self) -> bool {
+        self.sleepers.iter().any(|sleeper| sleeper.is_asleep())
+    }
+
+    fn wake(&self, sleeper: &Sleeper) {
+        if sleeper.exchange(ASLEEP, AWAKE) {
+            self.awake.fetch_add(1, Ordering::SeqCst);
+            sleeper.parker.unpark();
+        }
+    }
+}

@@ -1,0 +1,8 @@
+//! Turns that pass while all threads of a plan wait.
+#![tactic(auto)]
+
+mod clock;
+mod first;
+
+pub use clock::TurnClock;
+pub use first::sooner;
