@@ -1,12 +1,14 @@
 -- What is taken from rings.
-use Rattle.std.proofs.Common.{◌≡◌, ℕ, ◌<◌, List, [], ◌∷◌, ◌++◌, length, map, get_or, refl, sym, ap, ◌∙◌, slice_get, Some, arith}
+use Rattle.std.specs.Prelude.{IsTrue, ◌↔◌}
+use Rattle.std.proofs.Common.{◌≡◌, ℕ, zero, suc, Bool, true, false, not, nat_lt, ◌<◌, List, [], ◌∷◌, ◌++◌, length, map, get_or, refl, sym, ap, ◌∙◌, slice_get, Some, arith}
 use Rattle.std.proofs.Math.ListN.{set}
+use Rattle.std.proofs.lemmas.Bool.{lt-ltb}
 use Rattle.std.proofs.lemmas.List.{map-set}
 use Rattle.std.proofs.lemmas.Option.{slice_get_read, slice_get-map}
 use Rattle.std.proofs.Math.Seq.{map-set_same}
 use mathlib.Core.List.{IsPrefix}
 use Rattle.rtrb.specs.Ring.{received, known_items}
-use Rattle.link_rings.specs.Rings.{PacketView, in_of, links_in, IsEmptyAt, Takes}
+use Rattle.link_rings.specs.Rings.{PacketView, in_of, links_in, IsEmptyAt, Takes, Looks}
 use Rattle.link_rings.specs.declared.incoming.InEnd.{InEnd}
 use Rattle.link_rings.specs.Ends.{in_view}
 
@@ -46,6 +48,28 @@ takes_at xs k o n p within read link taken prefix = record {
   where
     same : in_view n ≡ in_of o.link (received o.ring ++ p ∷ []) (known_items n.ring)
     same = rw link (same_in o.link (received n.ring) (received o.ring ++ p ∷ []) (known_items n.ring) (known_items n.ring) taken refl)
+
+some_items : (empty : Bool) (n : ℕ) → (IsTrue empty ↔ (n ≡ 0)) → not empty ≡ nat_lt 0 n
+some_items true n is = rw (is.0 refl) refl
+some_items false zero is =
+    let no : false ≡ true = is.1 refl in
+    absurd cc
+some_items false (suc n) is = sym (lt-ltb 0 (suc n) (omega arith))
+
+-- a ring that was looked at
+pub looks_at : (xs : List InEnd) (k : ℕ) (o n : InEnd) (empty : Bool) → k < length xs → o ≡ get_or xs k o → n.link ≡ o.link → received n.ring ≡ received o.ring → IsPrefix (known_items o.ring) (known_items n.ring)
+    → (IsTrue empty ↔ (length (known_items n.ring) ≡ 0)) → Looks k (map in_view xs) (not empty) (map in_view (set xs k n))
+looks_at xs k o n empty within read link none more value = record {
+  ring = in_view o;
+  known = known_items n.ring;
+  there = found_at xs k o within read;
+  more = more;
+  seen = rw map-set (ap (set (map in_view xs) k) same);
+  some = some_items empty (length (known_items n.ring)) value;
+}
+  where
+    same : in_view n ≡ in_of o.link (received o.ring) (known_items n.ring)
+    same = rw link (same_in o.link (received n.ring) (received o.ring) (known_items n.ring) (known_items n.ring) none refl)
 
 -- the link of a ring
 pub link_at : (xs : List InEnd) (k : ℕ) (o : InEnd) → k < length xs → o ≡ get_or xs k o → slice_get (links_in (map in_view xs)) k ≡ Some o.link

@@ -1,6 +1,6 @@
 -- Packets that are held back, by incoming rings, in the order in which they were taken.
-use Rattle.std.specs.Prelude.{ℕ, Bool, false, ◌+◌, min, ◌^◌, ◌-◌, List, [], ◌∷◌, ◌++◌, Option, Some, None, option_and_then, if◌then◌else◌, nat_le, slice_get, slice_set, slice_index_or}
-use Rattle.std.specs.List.{list_any}
+use Rattle.std.specs.Prelude.{ℕ, ◌+◌, min, max, ◌^◌, ◌-◌, List, [], ◌∷◌, ◌++◌, Option, Some, None, option_and_then, if◌then◌else◌, nat_le, slice_get, slice_set, slice_index_or}
+use Rattle.turn_clock.specs.Sooner.{sooner}
 use Rattle.link_rings.specs.Rings.{PacketView}
 
 pub record WaitingView : Type 0 where
@@ -26,18 +26,23 @@ due_packet k h = option_and_then (first_due h.turn) (slice_get h.rings k)
 abbrev pub without_due : ℕ → HeldView → HeldView
 without_due k h = record { turn = h.turn; rings = slice_set h.rings k (behind_due h.turn (slice_index_or h.rings k [])) }
 
--- the turn of a ring's first packet has come
-abbrev pub is_due : ℕ → List WaitingView → Bool
-is_due turn [] = false
-is_due turn (w ∷ ws) = nat_le w.due turn
-
 -- as later as a number of eight bytes can say
-abbrev later : ℕ → ℕ → ℕ
+abbrev pub later : ℕ → ℕ → ℕ
 later turn turns = min (turn + turns) (2 ^ 64 - 1)
 
--- the turn of some ring's first packet comes with the next one
-abbrev pub is_due_next : HeldView → Bool
-is_due_next h = list_any (is_due (later h.turn 1)) h.rings
+-- how many turns it takes until the first packet of a ring is taken, one at least
+abbrev pub turns_to_first : ℕ → List WaitingView → Option ℕ
+turns_to_first turn [] = None
+turns_to_first turn (w ∷ ws) = Some (max 1 (w.due - turn))
+
+-- the least of a number of turns and of those that it takes until the first packet of one of these rings is taken
+abbrev pub turns_from : Option ℕ → ℕ → List (List WaitingView) → Option ℕ
+turns_from first turn [] = first
+turns_from first turn (r ∷ rs) = turns_from (sooner first (turns_to_first turn r)) turn rs
+
+-- how many turns it takes until a packet is taken
+abbrev pub turns_to_due : HeldView → Option ℕ
+turns_to_due h = turns_from None h.turn h.rings
 
 abbrev pub with_held : ℕ → ℕ → PacketView → HeldView → HeldView
 with_held k turns p h = record { turn = h.turn; rings = slice_set h.rings k (slice_index_or h.rings k [] ++ record { due = later h.turn turns; packet = p } ∷ []) }

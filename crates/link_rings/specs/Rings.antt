@@ -1,5 +1,5 @@
 -- What goes over rings.
-use Rattle.std.specs.Prelude.{◌≡◌, ◌⊎◌, ◌==◌, ℕ, List, [], ◌∷◌, ◌++◌, map, Option, Some, None, if◌then◌else◌, slice_get, slice_set}
+use Rattle.std.specs.Prelude.{◌≡◌, ◌⊎◌, ◌==◌, ℕ, Bool, nat_lt, length, List, [], ◌∷◌, ◌++◌, map, Option, Some, None, if◌then◌else◌, slice_get, slice_set}
 use Rattle.std.specs.List.{filter_map, AllZip}
 use mathlib.Core.List.{IsPrefix}
 
@@ -79,6 +79,15 @@ pub record Takes (k : ℕ) (old : List InView) (p : PacketView) (new : List InVi
   pub there : slice_get old k ≡ Some ring
   pub first : IsPrefix ring.known (p ∷ rest)
   pub taken : new ≡ slice_set old k (in_of ring.link (ring.received ++ p ∷ []) rest)
+
+-- a ring was looked at, which may have shown packets that were not known of
+pub record Looks (k : ℕ) (old : List InView) (found : Bool) (new : List InView) : Type 0 where
+  pub ring : InView
+  pub known : List PacketView
+  pub there : slice_get old k ≡ Some ring
+  pub more : IsPrefix ring.known known
+  pub seen : new ≡ slice_set old k (in_of ring.link ring.received known)
+  pub some : found ≡ nat_lt 0 (length known)
 
 abbrev pub Pops : ℕ → List InView → Option PacketView → List InView → Type 0
 Pops k old None new = IsEmptyAt k old new

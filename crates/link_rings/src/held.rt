@@ -1,11 +1,12 @@
 //! Packets that bad links hold back.
 ghost use Rattle.std.specs.Prelude.{◌≡◌, ◌⊎◌, [], replicate, IfOk};
-ghost use Rattle.link_rings.specs.Held.{HeldView, first_due, behind_due, is_due, is_due_next, due_packet, without_due, with_held};
+ghost use Rattle.link_rings.specs.Held.{HeldView, first_due, behind_due, turns_to_first, turns_to_due, later, due_packet, without_due, with_held};
 
 use crate::ROOM;
 use crate::packet::Packet;
 use std::alloc::{AllocError, Global};
 use std::marker::Model;
+use turn_clock::sooner;
 
 /// A packet that waits for a turn of the pump that took it.
 #[derive(Drop)]
@@ -67,13 +68,13 @@ impl HeldRing {
         }
     }
 
-    // Whether the turn of the first packet has come.
-    fn is_due(&self, turn: u64) -> bool
-        ensures { result ≡ is_due turn self.now }
+    // How many turns it takes until the first packet is taken, one at least.
+    fn turns_to_first(&self, turn: u64) -> Option<u64>
+        ensures { result ≡ turns_to_first turn self.now }
     {
         match self.packets.first() {
-            Some(first) => first.due <= turn,
-            None => false,
+            Some(first) => Some(first.due.saturating_sub(turn).max(1)),
+            None => None,
         }
     }
 }
@@ -105,16 +106,28 @@ impl Held {
     /// The next turn of the pump.
     pub fn next_turn(&mut self)
         ensures rings { self.new.rings ≡ self.old.rings }
+        ensures turn { self.new.turn ≡ later self.old.turn 1 }
     {
-        self.turn = self.turn.saturating_add(1);
+        self.pass(1);
     }
 
-    /// Whether the turn of a packet comes with the pump's next one.
-    pub fn is_due_next(&self) -> bool
-        ensures { result ≡ is_due_next self.now }
+    /// So many turns of the pump in which it takes nothing.
+    pub fn pass(&mut self, turns: u64)
+        ensures rings { self.new.rings ≡ self.old.rings }
+        ensures turn { self.new.turn ≡ later self.old.turn turns }
     {
-        let next = self.turn.saturating_add(1);
-        self.rings.iter().any(|ring| ring.is_due(next))
+        self.turn = self.turn.saturating_add(turns);
+    }
+
+    /// How many turns of the pump it takes until one takes a packet that is held back: 1 where the next one does.
+    pub fn turns_to_due(&self) -> Option<u64>
+        ensures { result ≡ turns_to_due self.now }
+    {
+        let mut first = None;
+        for ring in self.rings.iter() {
+            first = sooner(first, ring.turns_to_first(self.turn));
+        }
+        first
     }
 
     /// The packet of a ring whose turn has come.

@@ -1,7 +1,7 @@
 //! The ends of rings that come into a node.
 ghost use Rattle.std.specs.Prelude.{◌≡◌, ◌<◌, [], ◌∷◌, ◌++◌, map, length, OnOk, OnErr, slice_get, Some};
 ghost use Rattle.rtrb.specs.Ring.{received, known_items};
-ghost use Rattle.link_rings.specs.Rings.{in_of, links_in, Pops};
+ghost use Rattle.link_rings.specs.Rings.{in_of, links_in, Pops, Looks};
 ghost use Rattle.link_rings.specs.Ends.{in_view};
 
 use crate::packet::Packet;
@@ -46,6 +46,15 @@ fn pop_at(ends: &mut Vec<InEnd>, k: usize) -> Option<Packet>
     }
 }
 
+fn has_at(ends: &mut Vec<InEnd>, k: usize) -> bool
+    requires { k < length ends.old.items }
+    ensures looked { Looks k (map in_view ends.old.items) result (map in_view ends.new.items) }
+    ensures count { length ends.new.items ≡ length ends.old.items }
+{
+    let end = &mut ends[k];
+    !end.ring.is_empty()
+}
+
 impl InRings {
     /// No rings. Takes no memory.
     pub fn new(alloc: Global) -> InRings
@@ -87,5 +96,14 @@ impl InRings {
         ensures count { length self.new ≡ length self.old }
     {
         pop_at(&mut self.ends, k)
+    }
+
+    /// Whether a packet lies on a ring. Another may be put there at any time.
+    pub fn has_packet(&mut self, k: usize) -> bool
+        requires { k < length self.old }
+        ensures looked { Looks k self.old result self.new }
+        ensures count { length self.new ≡ length self.old }
+    {
+        has_at(&mut self.ends, k)
     }
 }

@@ -1,12 +1,14 @@
 //! Nodes, hosts and sessions as threads.
 #![tactic(auto)]
 
+mod calls;
 mod fitting;
+mod hearing;
 mod news;
-mod pace;
 mod running;
 mod search;
 mod threads;
+mod turns;
 mod waiting;
 
 pub use running::{Host, OperateFault, operate};

@@ -4,32 +4,40 @@ ghost use Rattle.std.specs.Prelude.{◌≡◌, nat_lt};
 #[cfg(test)]
 mod tests;
 
+use crate::calls::Calls;
 use crate::fitting::key_in;
-use card_digits::Key;
+use crate::hearing::{Hearer, ThreadNumbers, who_hears};
+use card_digits::{Key, NodeNo};
 use net_threads::Station;
-use request_book::Way;
-use run_plan::{Plan, Session};
+use run_plan::Plan;
 use std::alloc::{AllocError, Global};
+use std::sync::Arc;
 use std::sync::atomic::{AtomicBool, AtomicU64, Ordering};
 use switch_node::Entry;
+use turn_clock::TurnClock;
 
-/// No step of the plan was told of.
-const NOTHING_TOLD: u64 = u64::MAX;
-
-/// The answers of a node whose keys have one hash. Both numbers change under the lock of the node's station alone.
+/// What a session waits for, and what it was told of. Count and newest change under the lock of the station of its node alone.
 #[derive(Drop)]
-pub(crate) struct Answers {
+pub(crate) struct Awaited {
+    /// The hash of the key of its line, which only saves looks: whoever looks compares the answer itself.
+    hash: AtomicU64,
+    /// How many answers it was told of.
     count: AtomicU64,
-    /// The place of the entry with the newest.
+    /// The place of the entry with the newest of them.
     newest: AtomicU64,
 }
 
-impl Answers {
-    fn none() -> Answers {
-        Answers {
+impl Awaited {
+    fn nothing() -> Awaited {
+        Awaited {
+            hash: AtomicU64::new(0),
             count: AtomicU64::new(0),
             newest: AtomicU64::new(0),
         }
+    }
+
+    pub(crate) fn begin(&self, key: &Key) {
+        self.hash.store(hash_of(key), Ordering::SeqCst);
     }
 
     fn add(&self, place: u64) {
@@ -51,25 +59,27 @@ impl Answers {
 struct News {
     /// How many of its pump and its host have not ended.
     working: AtomicU64,
-    /// How many entries of its trace need not be gone along any more; `NOTHING_TOLD` before the first step. Changes under the lock of
-    /// its station alone.
+    /// How many entries of its trace need not be gone along any more. Changes under the lock of its station alone.
     told: AtomicU64,
-    /// How many packets were put on the rings that come into it since then.
-    arrivals: AtomicU64,
     /// Behind all entries that may have requests to its host.
     asked: AtomicU64,
-    /// By the hashes of their keys, which only save looks: whoever looks compares the answer itself.
-    answers: Vec<Answers>,
+    /// The places of its sessions in the plan.
+    sessions: Vec<usize>,
 }
 
 /// What the threads tell each other beside the stations.
 #[derive(Drop)]
 pub(crate) struct Shared {
+    clock: Arc<TurnClock, Global>,
+    threads: ThreadNumbers,
+    /// For each node's place the pump that has its station.
+    pumps: Vec<usize>,
     /// How many sessions have not ended.
     live: AtomicU64,
     /// Everything is to end.
     stopped: AtomicBool,
     nodes: Vec<News>,
+    awaited: Vec<Awaited>,
 }
 
 /// The hash of bytes behind others.
@@ -94,69 +104,69 @@ fn are_asks_from(asked: u64, from: usize) -> bool
     asked > from as u64
 }
 
-fn count_at(sessions: &[Session<'_>], n: usize) -> usize {
-    sessions
-        .iter()
-        .filter(|session| session.node.place() == n)
-        .count()
+fn nodes_of(alloc: Global, count: usize, plan: &Plan<'_>) -> Result<Vec<News>, AllocError> {
+    let mut nodes: Vec<News> = Vec::with_capacity(alloc, count)?;
+    for _ in 0..count {
+        nodes.push(News {
+            working: AtomicU64::new(0),
+            told: AtomicU64::new(0),
+            asked: AtomicU64::new(0),
+            sessions: Vec::new(alloc),
+        })?;
+    }
+    for (place, session) in plan.sessions.iter().enumerate() {
+        if let Some(news) = nodes.get_mut(session.node.place()) {
+            news.sessions.push(place)?;
+        }
+    }
+    Ok(nodes)
 }
 
-impl News {
-    /// Of a node with so many sessions. There are some more hashes than sessions, so that few of them share one.
-    fn new(alloc: Global, sessions: usize) -> Result<News, AllocError> {
-        let mut answers = Vec::new(alloc);
-        for _ in 0..sessions.saturating_mul(4) {
-            answers.push(Answers::none())?;
-        }
-        Ok(News {
-            working: AtomicU64::new(0),
-            told: AtomicU64::new(NOTHING_TOLD),
-            arrivals: AtomicU64::new(0),
-            asked: AtomicU64::new(0),
-            answers,
-        })
+fn nothing_awaited(alloc: Global, sessions: usize) -> Result<Vec<Awaited>, AllocError> {
+    let mut awaited = Vec::with_capacity(alloc, sessions)?;
+    for _ in 0..sessions {
+        awaited.push(Awaited::nothing())?;
     }
-
-    fn answers_to(&self, key: &Key) -> Option<&Answers> {
-        let count = self.answers.len() as u64;
-        if count == 0 {
-            return None;
-        }
-        self.answers.get((hash_of(key) % count) as usize)
-    }
-
-    /// Tells of an answer in the entry at a place. One whose key can't be read may be anybody's.
-    fn tell_answer(&self, alloc: Global, place: u64, bytes: &[u8]) {
-        match key_in(alloc, bytes) {
-            Some(key) => {
-                if let Some(answers) = self.answers_to(&key) {
-                    answers.add(place);
-                }
-            }
-            None => {
-                for answers in self.answers.iter() {
-                    answers.add(place);
-                }
-            }
-        }
-    }
+    Ok(awaited)
 }
 
 impl Shared {
-    pub(crate) fn new(alloc: Global, nodes: usize, plan: &Plan<'_>) -> Result<Shared, AllocError> {
-        let mut all = Vec::new(alloc);
-        for n in 0..nodes {
-            all.push(News::new(alloc, count_at(plan.sessions.as_slice(), n))?)?;
-        }
+    /// For a plan with so many hosts. `pumps` has for each node's place that of its station, and so the number of the thread that pumps it.
+    pub(crate) fn new(
+        alloc: Global,
+        pumps: Vec<usize>,
+        hosts: usize,
+        plan: &Plan<'_>,
+    ) -> Result<Shared, AllocError> {
+        let nodes = pumps.len();
+        let sessions = plan.sessions.len();
+        let threads = ThreadNumbers {
+            pumps: nodes,
+            hosts: hosts.min(nodes),
+        };
+        let clock = TurnClock::new(alloc, threads.session(sessions))?;
         Ok(Shared {
-            live: AtomicU64::new(plan.sessions.len() as u64),
+            clock: Arc::new(alloc, clock)?,
+            threads,
+            pumps,
+            live: AtomicU64::new(sessions as u64),
             stopped: AtomicBool::new(false),
-            nodes: all,
+            nodes: nodes_of(alloc, nodes, plan)?,
+            awaited: nothing_awaited(alloc, sessions)?,
         })
+    }
+
+    pub(crate) fn clock(&self) -> &Arc<TurnClock, Global> {
+        &self.clock
+    }
+
+    pub(crate) fn threads(&self) -> ThreadNumbers {
+        self.threads
     }
 
     pub(crate) fn stop(&self) {
         self.stopped.store(true, Ordering::SeqCst);
+        self.clock.tell_all();
     }
 
     pub(crate) fn is_stopped(&self) -> bool {
@@ -168,8 +178,13 @@ impl Shared {
         self.is_stopped() || self.live.load(Ordering::SeqCst) == 0
     }
 
+    /// A session has ended. Behind the last one pumps and hosts end.
     pub(crate) fn session_ends(&self) {
-        self.live.fetch_sub(1, Ordering::SeqCst);
+        if self.live.fetch_sub(1, Ordering::SeqCst) == 1 {
+            for thread in 0..self.threads.first_session() {
+                self.clock.tell(thread);
+            }
+        }
     }
 
     pub(crate) fn starts(&self, n: usize) {
@@ -178,9 +193,15 @@ impl Shared {
         }
     }
 
+    /// The pump or the host of a node has ended. Where neither works any more its sessions hear it.
     pub(crate) fn ends(&self, n: usize) {
-        if let Some(news) = self.nodes.get(n) {
-            news.working.fetch_sub(1, Ordering::SeqCst);
+        let Some(news) = self.nodes.get(n) else {
+            return;
+        };
+        if news.working.fetch_sub(1, Ordering::SeqCst) == 1 {
+            for place in news.sessions.iter() {
+                self.clock.tell(self.threads.session(*place));
+            }
         }
     }
 
@@ -192,14 +213,6 @@ impl Shared {
         }
     }
 
-    /// How many packets were put on the rings that come into a node.
-    pub(crate) fn arrivals(&self, n: usize) -> u64 {
-        match self.nodes.get(n) {
-            Some(news) => news.arrivals.load(Ordering::SeqCst),
-            None => 0,
-        }
-    }
-
     /// Whether entries of a node's trace from this place on may have requests to its host.
     pub(crate) fn has_asks(&self, n: usize, from: usize) -> bool {
         match self.nodes.get(n) {
@@ -208,29 +221,30 @@ impl Shared {
         }
     }
 
-    /// Those answers of a node among which that to a key is.
-    pub(crate) fn answers_to(&self, n: usize, key: &Key) -> Option<&Answers> {
-        match self.nodes.get(n) {
-            Some(news) => news.answers_to(key),
-            None => None,
+    /// What the session at a place of the plan waits for.
+    pub(crate) fn awaited(&self, place: usize) -> Option<&Awaited> {
+        self.awaited.get(place)
+    }
+
+    /// The station at a place has so many entries before the plan's threads start: of these only the host has to hear, as pumps look at
+    /// their rings once in any case, and no session waits yet. Called with the station's lock held.
+    pub(crate) fn begin_at(&self, n: usize, entries: usize) {
+        if let Some(news) = self.nodes.get(n) {
+            news.told.store(entries as u64, Ordering::SeqCst);
+            news.asked.store(entries as u64, Ordering::SeqCst);
         }
     }
 
-    /// Tells of the entries of the station at a node's place that have not been told, after a step of which the first entry would stand
-    /// at a place. Called with the station's lock held. Before the first step no session has entered anything, and pumps look at their
-    /// rings in any case, so of older entries only the host has to hear.
-    pub(crate) fn tell(&self, alloc: Global, n: usize, station: &Station<'_>, from: usize) {
+    /// Tells of the entries of the station at a place that have not been told, and adds those who have to hear. Called with the station's
+    /// lock held.
+    pub(crate) fn tell(&self, alloc: Global, n: usize, station: &Station<'_>, calls: &mut Calls) {
         let Some(news) = self.nodes.get(n) else {
             return;
         };
-        let mut told = news.told.load(Ordering::SeqCst);
-        if told == NOTHING_TOLD {
-            told = from as u64;
-            news.asked.store(told, Ordering::SeqCst);
-        }
+        let told = news.told.load(Ordering::SeqCst);
         let trace = station.trace();
         for place in told as usize..trace.len() {
-            self.tell_entry(alloc, station, news, place as u64, &trace[place]);
+            self.tell_entry(alloc, n, station, place, &trace[place], calls);
         }
         news.told.store(trace.len() as u64, Ordering::SeqCst);
     }
@@ -238,24 +252,57 @@ impl Shared {
     fn tell_entry(
         &self,
         alloc: Global,
+        n: usize,
         station: &Station<'_>,
-        news: &News,
-        place: u64,
+        place: usize,
         entry: &Entry,
+        calls: &mut Calls,
     ) {
         for output in entry.outputs().as_slice() {
-            match output.way() {
-                Way::Put(link, _) => {
-                    let other = station.tables().other_end(station.place(), link);
-                    if let Some(there) = self.nodes.get(other.place()) {
-                        there.arrivals.fetch_add(1, Ordering::SeqCst);
-                    }
+            match who_hears(station.tables(), station.place(), output.way()) {
+                Hearer::Pump(node) => self.call_pump(node, calls),
+                Hearer::Host => self.tell_host(n, place, calls),
+                Hearer::Sessions => self.tell_answer(alloc, n, place as u64, output.bytes(), calls),
+                Hearer::Nobody => {}
+            }
+        }
+    }
+
+    fn call_pump(&self, node: NodeNo, calls: &mut Calls) {
+        if let Some(pump) = self.pumps.get(node.place()) {
+            calls.add(*pump);
+        }
+    }
+
+    /// Tells a node's host that the entry at a place has a request to it.
+    fn tell_host(&self, n: usize, place: usize, calls: &mut Calls) {
+        if let Some(news) = self.nodes.get(n) {
+            news.asked
+                .store((place as u64).saturating_add(1), Ordering::SeqCst);
+        }
+        if let Some(host) = self.threads.host(n) {
+            calls.add(host);
+        }
+    }
+
+    /// Tells the sessions of a node of an answer in the entry at a place. One whose key can't be read may be anybody's.
+    fn tell_answer(&self, alloc: Global, n: usize, place: u64, bytes: &[u8], calls: &mut Calls) {
+        let Some(news) = self.nodes.get(n) else {
+            return;
+        };
+        if news.sessions.is_empty() {
+            return;
+        }
+        let hash = match key_in(alloc, bytes) {
+            Some(key) => Some(hash_of(&key)),
+            None => None,
+        };
+        for session in news.sessions.iter() {
+            if let Some(awaited) = self.awaited.get(*session) {
+                if hash.is_none() || hash == Some(awaited.hash.load(Ordering::SeqCst)) {
+                    awaited.add(place);
+                    calls.add(self.threads.session(*session));
                 }
-                Way::Ask(_) => {
-                    news.asked.store(place.saturating_add(1), Ordering::SeqCst);
-                }
-                Way::Answer => news.tell_answer(alloc, place, output.bytes()),
-                Way::Post => {}
             }
         }
     }

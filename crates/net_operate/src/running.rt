@@ -5,11 +5,11 @@ ghost use Rattle.net_operate.specs.Sessions.{SessionFits};
 
 use crate::fitting::fitted;
 use crate::news::Shared;
-use crate::threads::{run_host, run_pump, run_session};
+use crate::threads::{Acquirer, Worker, run_host, run_pump, run_session};
 use iso_message::Message;
 use message_elements::Code;
 use net_threads::{Ended, LineEnd, Network, Station};
-use run_plan::{Loan, Plan};
+use run_plan::{Loan, Plan, Session};
 use std::alloc::{AllocError, Global};
 use std::sync::{Mutex, Wait};
 use std::thread;
@@ -59,6 +59,86 @@ fn lend_all<R: Wait>(
     Ok(())
 }
 
+/// For each node the place of the station that is the node's: its own, unless stations have changed places.
+fn places_of<R: Wait>(
+    rt: &R,
+    alloc: Global,
+    stations: &Vec<Mutex<Station<'_>>>,
+) -> Result<Vec<usize>, AllocError> {
+    let mut places = Vec::with_capacity(alloc, stations.len())?;
+    for n in 0..stations.len() {
+        places.push(n)?;
+    }
+    for n in 0..stations.len() {
+        let node = stations[n].lock(rt).place();
+        if let Some(place) = places.get_mut(node.place()) {
+            *place = n;
+        }
+    }
+    Ok(places)
+}
+
+/// The thread that pumps the station at a place.
+fn pump_at<'s, 't, 'p>(
+    alloc: Global,
+    n: usize,
+    station: &'s Mutex<Station<'t>>,
+    plan: &'s Plan<'p>,
+    shared: &'s Shared,
+) -> Worker<'s, 't, 'p> {
+    Worker {
+        alloc,
+        n,
+        thread: n,
+        station,
+        plan,
+        shared,
+    }
+}
+
+/// The session at a place of the plan as a thread, where there is a station at its node's place.
+fn acquirer_of<'s, 't, 'p>(
+    alloc: Global,
+    stations: &'s Vec<Mutex<Station<'t>>>,
+    plan: &'s Plan<'p>,
+    shared: &'s Shared,
+    place: usize,
+    session: &Session<'_>,
+) -> Option<Acquirer<'s, 't, 'p>> {
+    let n = session.node.place();
+    let station = stations.get(n)?;
+    let pump = pump_at(alloc, n, station, plan, shared);
+    let thread = shared.threads().session(place);
+    Some(Acquirer {
+        worker: Worker { thread, ..pump },
+        place,
+    })
+}
+
+/// Notes how many entries each station has before the threads start.
+fn begin_all<R: Wait>(rt: &R, stations: &Vec<Mutex<Station<'_>>>, shared: &Shared) {
+    for n in 0..stations.len() {
+        let station = stations[n].lock(rt);
+        shared.begin_at(n, station.trace().len());
+    }
+}
+
+/// Makes the loans, and runs the threads.
+fn lend_and_run<H: Host + Sync, R: Threads + Wait + Sync>(
+    rt: &R,
+    alloc: Global,
+    stations: &Vec<Mutex<Station<'_>>>,
+    plan: &Plan<'_>,
+    hosts: &[H],
+    shared: &Shared,
+) -> Result<Vec<Vec<LineEnd>>, OperateFault> {
+    if lend_all(rt, alloc, stations, plan.loans.as_slice()).is_err() {
+        return Err(OperateFault::Memory);
+    }
+    begin_all(rt, stations, shared);
+    run_all(rt, alloc, stations, plan, hosts, shared)
+}
+
 /// Runs the threads, which have all ended at the return.
 fn run_all<H: Host + Sync, R: Threads + Wait + Sync>(
     rt: &R,
@@ -72,34 +152,30 @@ fn run_all<H: Host + Sync, R: Threads + Wait + Sync>(
         thread::scope_env(),
         rt,
         |scope| -> Result<Vec<Vec<LineEnd>>, OperateFault> {
+            let threads = shared.threads();
             for n in 0..stations.len() {
                 let station = &stations[n];
+                let pump = pump_at(alloc, n, station, plan, shared);
                 shared.starts(n);
-                if scope
-                    .spawn(move || run_pump(rt, alloc, n, station, plan, shared))
-                    .is_err()
-                {
+                if scope.spawn(move || run_pump(rt, pump)).is_err() {
                     shared.stop();
                     return Err(OperateFault::Thread);
                 }
-                if let Some(host) = hosts.get(n) {
+                if let (Some(host), Some(thread)) = (hosts.get(n), threads.host(n)) {
+                    let server = Worker { thread, ..pump };
                     shared.starts(n);
-                    if scope
-                        .spawn(move || run_host(rt, alloc, n, station, host, plan, shared))
-                        .is_err()
-                    {
+                    if scope.spawn(move || run_host(rt, server, host)).is_err() {
                         shared.stop();
                         return Err(OperateFault::Thread);
                     }
                 }
             }
             let mut children = Vec::new(alloc);
-            for session in plan.sessions.iter() {
-                let place = session.node.place();
-                let station = stations.get(place);
-                let Ok(child) = scope.spawn(move || run_session(
-                    rt, alloc, station, session, plan, shared,
-                )) else {
+            for (place, session) in plan.sessions.iter().enumerate() {
+                let acquirer = acquirer_of(alloc, stations, plan, shared, place, session);
+                let Ok(child) = scope.spawn(move || {
+                    run_session(rt, alloc, acquirer, session, shared)
+                }) else {
                     shared.stop();
                     return Err(OperateFault::Thread);
                 };
@@ -128,6 +204,12 @@ fn run_all<H: Host + Sync, R: Threads + Wait + Sync>(
 /// loans are made before. All threads have ended at the return, also where one could not be started; steps that were made stay. Each
 /// thread ends after the plan's turns at the latest, pumps and hosts as soon as all sessions have ended. A host is called with no
 /// lock held.
+///
+/// A thread that has nothing to do sleeps, and whoever makes a step tells those whom its outputs concern. While anybody works, no turn
+/// passes for those who sleep; one in which a pump works counts for it alone. Where all sleep, as many turns pass at once as the first of
+/// them waits for: those until a tick, until a packet that was held back is taken, or until a wait or the plan is over. Steps that others
+/// make by `step_at`, `pump_once` and `pump_with` of the network wake its node's pump. Another plan on the same network is not told of what
+/// this one does, nor this one of that, beyond what their own threads find.
 pub fn operate<H: Host + Sync, R: Threads + Wait + Sync>(
     rt: &R,
     alloc: Global,
@@ -139,13 +221,18 @@ pub fn operate<H: Host + Sync, R: Threads + Wait + Sync>(
     ensures { IfOk result (λ e. AllZip SessionFits plan.now.sessions.items e.sessions.items) }
 {
     let stations = network.stations();
-    let Ok(shared) = Shared::new(alloc, stations.len(), plan) else {
+    let Ok(places) = places_of(rt, alloc, stations) else {
         return Err(OperateFault::Memory);
     };
-    if lend_all(rt, alloc, stations, plan.loans.as_slice()).is_err() {
+    let Ok(shared) = Shared::new(alloc, places, hosts.len(), plan) else {
         return Err(OperateFault::Memory);
-    }
-    let ends = run_all(rt, alloc, stations, plan, hosts, &shared)?;
+    };
+    let Ok(number) = network.add_plan(rt, shared.clock()) else {
+        return Err(OperateFault::Memory);
+    };
+    let ends = lend_and_run(rt, alloc, stations, plan, hosts, &shared);
+    network.remove_plan(rt, number);
+    let ends = ends?;
     match fitted(alloc, plan.sessions.as_slice(), ends) {
         Ok(sessions) => Ok(Ended { sessions }),
         Err(_) => Err(OperateFault::Memory),

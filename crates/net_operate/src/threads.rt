@@ -1,12 +1,13 @@
 //! What each thread does.
+ghost use Rattle.std.specs.Prelude.{◌≤◌};
 
+use crate::calls::Calls;
 use crate::fitting::is_answer_to;
-use crate::news::{Answers, Shared};
-use crate::pace::Pace;
+use crate::news::{Awaited, Shared};
 use crate::running::Host;
 use crate::search::Search;
+use crate::turns::{PumpTurns, Turns, idle};
 use crate::waiting::{Cursor, Wanted, next_answer, next_ask};
-use card_digits::Key;
 use iso_message::decode;
 use link_rings::Held;
 use message_keys::key_of;
@@ -15,159 +16,311 @@ use run_plan::{Plan, Session};
 use shared_bytes::SharedBytes;
 use std::alloc::{AllocError, Global};
 use std::sync::{Mutex, Wait};
-use std::thread;
 use switch_node::{Case, Input};
 
-/// How many rings come into a station.
-fn count_in<R: Wait>(rt: &R, station: &Mutex<Station<'_>>) -> usize {
-    station.lock(rt).count_in()
+/// A thread of a plan at a node.
+#[derive(Clone, Copy)]
+pub(crate) struct Worker<'s, 't, 'p> {
+    pub alloc: Global,
+    /// The place of the node.
+    pub n: usize,
+    /// Its number on the clock.
+    pub thread: usize,
+    pub station: &'s Mutex<Station<'t>>,
+    pub plan: &'s Plan<'p>,
+    pub shared: &'s Shared,
 }
 
-/// Pumps a turn, and says whether an entry came of it.
-fn pump_turn<R: Wait>(
-    rt: &R,
-    alloc: Global,
-    n: usize,
-    station: &Mutex<Station<'_>>,
-    plan: &Plan<'_>,
-    held: &mut Held,
-    shared: &Shared,
-) -> bool {
-    let mut station = station.lock(rt);
-    let before = station.trace().len();
-    station.pump_by(&plan.faults, held);
-    shared.tell(alloc, n, &station, before);
-    station.trace().len() != before
-}
+impl<'s, 't, 'p> Worker<'s, 't, 'p> {
+    /// From here on the thread doesn't go to sleep where it is told of something.
+    fn listen(&self) {
+        self.shared.clock().listen(self.thread);
+    }
 
-/// Applies what happens at a node, and tells who waits.
-fn apply_at<R: Wait>(
-    rt: &R,
-    alloc: Global,
-    n: usize,
-    station: &Mutex<Station<'_>>,
-    case: Case,
-    shared: &Shared,
-) -> Result<(), StationFault> {
-    let mut station = station.lock(rt);
-    let before = station.trace().len();
-    let done = station.apply(Input::new(case));
-    shared.tell(alloc, n, &station, before);
-    done
-}
+    /// Sleeps until it is told of something, or so many turns have passed; says how many have.
+    fn rest<R: Wait>(&self, rt: &R, turns: u64) -> u64
+        ensures { result ≤ turns }
+    {
+        self.shared.clock().rest(rt, self.thread, turns)
+    }
 
-/// Pumps a station, with a tick after so many turns. Takes its lock only in turns in which something may lie on its rings, in which
-/// a packet that was held back is due, or behind which a tick comes, and goes on at once after a turn that took something.
-pub(crate) fn run_pump<R: Wait>(
-    rt: &R,
-    alloc: Global,
-    n: usize,
-    station: &Mutex<Station<'_>>,
-    plan: &Plan<'_>,
-    shared: &Shared,
-) {
-    if let Ok(mut held) = Held::new(alloc, count_in(rt, station)) {
-        let mut pace = Pace::new();
-        let mut since_tick: u64 = 0;
-        for _ in 0..plan.turns {
-            if shared.is_over() {
+    /// Applies what happens at the node, and tells whom it concerns.
+    fn apply<R: Wait>(&self, rt: &R, case: Case, calls: &mut Calls) -> Result<(), StationFault> {
+        let done = self.apply_locked(rt, case, calls);
+        calls.make(self.shared.clock());
+        done
+    }
+
+    fn apply_locked<R: Wait>(
+        &self,
+        rt: &R,
+        case: Case,
+        calls: &mut Calls,
+    ) -> Result<(), StationFault> {
+        let mut station = self.station.lock(rt);
+        let done = station.apply(Input::new(case));
+        self.shared.tell(self.alloc, self.n, &station, calls);
+        done
+    }
+
+    /// Pumps a turn, and says whether packets are left on the rings.
+    fn pump_locked<R: Wait>(&self, rt: &R, held: &mut Held, calls: &mut Calls) -> bool {
+        let mut station = self.station.lock(rt);
+        station.pump_by(&self.plan.faults, held);
+        self.shared.tell(self.alloc, self.n, &station, calls);
+        station.has_packets()
+    }
+
+    /// A turn of the pump, with the tick that comes behind it; says whether packets are left on the rings.
+    fn pump<R: Wait>(
+        &self,
+        rt: &R,
+        turns: &mut PumpTurns,
+        held: &mut Held,
+        calls: &mut Calls,
+    ) -> bool {
+        let more = self.pump_locked(rt, held, calls);
+        calls.make(self.shared.clock());
+        if turns.next() {
+            let _ = self.apply(rt, Case::Tick, calls);
+        }
+        more
+    }
+
+    /// Sleeps until there may be something to pump, or to the turn in which the next tick comes, a packet that was held back is taken,
+    /// or the turns are over.
+    fn await_packets<R: Wait>(&self, rt: &R, turns: &mut PumpTurns, held: &mut Held) {
+        let event = turns.to_event(held.turns_to_due());
+        let passed = self.rest(rt, event);
+        let idle = idle(passed, event);
+        turns.pass(idle);
+        held.pass(idle);
+    }
+
+    fn pump_all<R: Wait>(&self, rt: &R, held: &mut Held) {
+        let mut turns = PumpTurns::new(self.plan.turns, self.plan.tick_every);
+        let mut calls = Calls::none(self.alloc);
+        // Packets may lie there already.
+        let mut more = true;
+        for _ in 0..self.plan.turns {
+            if !more {
+                self.await_packets(rt, &mut turns, held);
+            }
+            self.listen();
+            if turns.are_over() || self.shared.is_over() {
                 break;
             }
-            since_tick = since_tick.saturating_add(1);
-            let ticks = since_tick == plan.tick_every;
-            let took = if pace.is_look(shared.arrivals(n), ticks || held.is_due_next()) {
-                pump_turn(rt, alloc, n, station, plan, &mut held, shared)
-            } else {
-                held.next_turn();
-                false
-            };
-            if ticks {
-                since_tick = 0;
-                let _ = apply_at(rt, alloc, n, station, Case::Tick, shared);
+            more = self.pump(rt, &mut turns, held, &mut calls);
+        }
+    }
+
+    /// The next request to the host of the node.
+    fn next_ask<R: Wait>(&self, rt: &R, cursor: &mut Cursor) -> Option<(u64, SharedBytes)> {
+        if !self.shared.has_asks(self.n, cursor.entry) {
+            return None;
+        }
+        let station = self.station.lock(rt);
+        next_ask(station.trace(), cursor)
+    }
+
+    /// Asks the host, with no lock held, and hands its answer to the station.
+    fn serve<H: Host, R: Wait>(&self, rt: &R, host: &H, ask: u64, bytes: &[u8], calls: &mut Calls) {
+        if let Ok(request) = decode(self.alloc, bytes) {
+            let code = host.authorize(&request);
+            let _ = self.apply(rt, Case::HostAnswer(ask, code), calls);
+        }
+    }
+
+    fn serve_all<H: Host, R: Wait>(&self, rt: &R, host: &H) {
+        let mut turns = Turns::new(self.plan.turns);
+        let mut calls = Calls::none(self.alloc);
+        let mut cursor = Cursor::at(0);
+        for _ in 0..self.plan.turns {
+            self.listen();
+            if turns.are_over() || self.shared.is_over() {
+                break;
             }
-            if took {
-                pace.look_again();
-            } else {
-                thread::yield_now();
+            turns.pass(1);
+            match self.next_ask(rt, &mut cursor) {
+                Some((ask, bytes)) => self.serve(rt, host, ask, bytes.as_slice(), &mut calls),
+                None => {
+                    let passed = self.rest(rt, self.host_rest(&cursor, turns.left()));
+                    turns.pass(passed);
+                }
             }
         }
     }
-    shared.ends(n);
-}
 
-/// The next request to the host of a station.
-fn ask_at<R: Wait>(
-    rt: &R,
-    n: usize,
-    station: &Mutex<Station<'_>>,
-    cursor: &mut Cursor,
-    shared: &Shared,
-) -> Option<(u64, SharedBytes)> {
-    if !shared.has_asks(n, cursor.entry) {
-        return None;
-    }
-    let station = station.lock(rt);
-    next_ask(station.trace(), cursor)
-}
-
-/// Asks the host, with no lock held, and hands its answer to the station.
-fn serve<H: Host, R: Wait>(
-    rt: &R,
-    alloc: Global,
-    n: usize,
-    station: &Mutex<Station<'_>>,
-    host: &H,
-    ask: u64,
-    bytes: &[u8],
-    shared: &Shared,
-) {
-    if let Ok(request) = decode(alloc, bytes) {
-        let code = host.authorize(&request);
-        let _ = apply_at(rt, alloc, n, station, Case::HostAnswer(ask, code), shared);
-    }
-}
-
-/// Serves the requests of a station to its host.
-pub(crate) fn run_host<H: Host, R: Wait>(
-    rt: &R,
-    alloc: Global,
-    n: usize,
-    station: &Mutex<Station<'_>>,
-    host: &H,
-    plan: &Plan<'_>,
-    shared: &Shared,
-) {
-    let mut cursor = Cursor::at(0);
-    for _ in 0..plan.turns {
-        if shared.is_over() {
-            break;
-        }
-        match ask_at(rt, n, station, &mut cursor, shared) {
-            Some((ask, bytes)) => {
-                serve(rt, alloc, n, station, host, ask, bytes.as_slice(), shared)
-            }
-            None => thread::yield_now(),
+    /// For how many turns a host may sleep, where it has so many left: for one where a request couldn't be shared.
+    fn host_rest(&self, cursor: &Cursor, left: u64) -> u64 {
+        if self.shared.has_asks(self.n, cursor.entry) {
+            left.min(1)
+        } else {
+            left
         }
     }
-    shared.ends(n);
 }
 
-/// What a session looks for: what the answer to its line has, and those that may be it, where the line has a key.
+/// Pumps a station, with a tick after so many turns. It sleeps while nothing lies on its rings, no packet that was held back is due, and
+/// no tick.
+pub(crate) fn run_pump<R: Wait>(rt: &R, worker: Worker<'_, '_, '_>) {
+    let count = worker.station.lock(rt).count_in();
+    if let Ok(mut held) = Held::new(worker.alloc, count) {
+        worker.pump_all(rt, &mut held);
+    }
+    worker.shared.ends(worker.n);
+    worker.shared.clock().leave(rt);
+}
+
+/// Serves the requests of a station to its host. It sleeps while there is none.
+pub(crate) fn run_host<H: Host, R: Wait>(rt: &R, worker: Worker<'_, '_, '_>, host: &H) {
+    worker.serve_all(rt, host);
+    worker.shared.ends(worker.n);
+    worker.shared.clock().leave(rt);
+}
+
+/// What a session looks for at its node, and what it is told of, where its line has a key.
 #[derive(Clone, Copy)]
 struct Sought<'s> {
     wanted: Wanted,
-    answers: Option<&'s Answers>,
+    awaited: Option<&'s Awaited>,
 }
 
-/// What is looked for at a node after a line was entered there.
-fn sought_by<'s>(alloc: Global, n: usize, line: &[u8], shared: &'s Shared) -> Option<Sought<'s>> {
-    let message = decode(alloc, line).ok()?;
-    let wanted = Wanted::new(line, message.get(7)?, message.get(11)?)?;
-    let answers = match key_of(&message) {
-        Some(key) => shared.answers_to(n, &key),
-        None => None,
-    };
-    Some(Sought { wanted, answers })
+/// The session at a place of the plan, as a thread.
+#[derive(Clone, Copy)]
+pub(crate) struct Acquirer<'s, 't, 'p> {
+    pub worker: Worker<'s, 't, 'p>,
+    pub place: usize,
+}
+
+impl<'s, 't, 'p> Acquirer<'s, 't, 'p> {
+    /// What is looked for once a line was entered. Called before it is.
+    fn sought(&self, line: &[u8]) -> Option<Sought<'s>> {
+        let message = decode(self.worker.alloc, line).ok()?;
+        let wanted = Wanted::new(line, message.get(7)?, message.get(11)?)?;
+        let awaited = match key_of(&message) {
+            Some(key) => {
+                let awaited = self.worker.shared.awaited(self.place)?;
+                awaited.begin(&key);
+                Some(awaited)
+            }
+            None => None,
+        };
+        Some(Sought { wanted, awaited })
+    }
+
+    /// Enters a line, and says where the search for its answer begins.
+    fn enter<R: Wait>(
+        &self,
+        rt: &R,
+        bytes: SharedBytes,
+        sought: Option<&Sought<'_>>,
+        calls: &mut Calls,
+    ) -> (Search, Result<(), StationFault>) {
+        let worker = &self.worker;
+        let mut station = worker.station.lock(rt);
+        let before = station.trace().len();
+        let search = Search::from(before, count_told(sought));
+        let entered = station.apply(Input::new(Case::Enter(bytes)));
+        worker.shared.tell(worker.alloc, worker.n, &station, calls);
+        (search, entered)
+    }
+
+    /// The next answer that may be the wanted one. Where a single one was told of, the entries before it have none.
+    fn next_answer<R: Wait>(
+        &self,
+        rt: &R,
+        search: &mut Search,
+        sought: &Sought<'_>,
+    ) -> Option<Vec<u8>> {
+        let awaited = sought.awaited?;
+        if !search.is_told(awaited.count()) {
+            return None;
+        }
+        let worker = &self.worker;
+        let station = worker.station.lock(rt);
+        let count = awaited.count();
+        search.skip(count, awaited.newest() as usize);
+        let found = next_answer(
+            worker.alloc,
+            station.trace(),
+            &mut search.cursor,
+            &sought.wanted,
+        );
+        search.end_look(count, station.trace().len());
+        found
+    }
+
+    /// Waits for the answer to a line, for the plan's turns, and no longer than something can come.
+    fn await_answer<R: Wait>(
+        &self,
+        rt: &R,
+        line: &[u8],
+        sought: &Sought<'_>,
+        search: &mut Search,
+    ) -> LineEnd {
+        let worker = &self.worker;
+        let shared = worker.shared;
+        let mut turns = Turns::new(worker.plan.turns);
+        for _ in 0..worker.plan.turns {
+            worker.listen();
+            if turns.are_over() {
+                break;
+            }
+            turns.pass(1);
+            let last = shared.is_stopped() || shared.is_idle(worker.n);
+            match self.next_answer(rt, search, sought) {
+                Some(bytes) => {
+                    if is_answer_to(worker.alloc, line, bytes.as_slice()) {
+                        return LineEnd::Answer(bytes);
+                    }
+                }
+                None => {
+                    if last {
+                        return LineEnd::Nothing;
+                    }
+                    let told = count_told(Some(sought));
+                    let passed = worker.rest(rt, search.rest(told, turns.left()));
+                    turns.pass(passed);
+                }
+            }
+        }
+        LineEnd::Nothing
+    }
+
+    /// Enters a line, and waits for its answer.
+    fn run_line<R: Wait>(
+        &self,
+        rt: &R,
+        line: &[u8],
+        calls: &mut Calls,
+    ) -> Result<LineEnd, AllocError> {
+        let bytes = SharedBytes::from_slice(self.worker.alloc, line)?;
+        let sought = self.sought(line);
+        let (mut search, entered) = self.enter(rt, bytes, sought.as_ref(), calls);
+        calls.make(self.worker.shared.clock());
+        if let Err(fault) = entered {
+            return Ok(LineEnd::Refused(fault));
+        }
+        let Some(sought) = sought else {
+            return Ok(LineEnd::Nothing);
+        };
+        Ok(self.await_answer(rt, line, &sought, &mut search))
+    }
+
+    /// Enters the lines of the session, one after the other.
+    fn run_lines<R: Wait>(
+        &self,
+        rt: &R,
+        session: &Session<'_>,
+    ) -> Result<Vec<LineEnd>, AllocError> {
+        let mut ends = Vec::new(self.worker.alloc);
+        let mut calls = Calls::none(self.worker.alloc);
+        for line in session.lines.iter() {
+            ends.push(self.run_line(rt, *line, &mut calls)?)?;
+        }
+        Ok(ends)
+    }
 }
 
 fn count_told(sought: Option<&Sought<'_>>) -> u64 {
@@ -175,145 +328,26 @@ fn count_told(sought: Option<&Sought<'_>>) -> u64 {
         Some(
             Sought {
                 wanted: _,
-                answers: Some(answers),
+                awaited: Some(awaited),
             },
-        ) => answers.count(),
+        ) => awaited.count(),
         _ => 0,
     }
 }
 
-/// Enters a line, and says where the search for its answer begins.
-fn enter_at<R: Wait>(
-    rt: &R,
-    alloc: Global,
-    n: usize,
-    station: &Mutex<Station<'_>>,
-    bytes: SharedBytes,
-    sought: Option<&Sought<'_>>,
-    shared: &Shared,
-) -> (Search, Result<(), StationFault>) {
-    let mut station = station.lock(rt);
-    let before = station.trace().len();
-    let search = Search::from(before, count_told(sought));
-    let entered = station.apply(Input::new(Case::Enter(bytes)));
-    shared.tell(alloc, n, &station, before);
-    (search, entered)
-}
-
-/// The next answer that may be the wanted one. Where a single one was told of, the entries before it have none.
-fn answer_at<R: Wait>(
-    rt: &R,
-    alloc: Global,
-    station: &Mutex<Station<'_>>,
-    search: &mut Search,
-    sought: &Sought<'_>,
-) -> Option<Vec<u8>> {
-    let answers = sought.answers?;
-    if !search.is_told(answers.count()) {
-        return None;
-    }
-    let station = station.lock(rt);
-    let count = answers.count();
-    search.skip(count, answers.newest() as usize);
-    let found = next_answer(alloc, station.trace(), &mut search.cursor, &sought.wanted);
-    search.end_look(count, station.trace().len());
-    found
-}
-
-/// Waits for the answer to a line, for the plan's turns, and no longer than something can come.
-fn await_line<R: Wait>(
-    rt: &R,
-    alloc: Global,
-    station: &Mutex<Station<'_>>,
-    line: &[u8],
-    sought: &Sought<'_>,
-    search: &mut Search,
-    session: &Session<'_>,
-    plan: &Plan<'_>,
-    shared: &Shared,
-) -> LineEnd {
-    let n = session.node.place();
-    for _ in 0..plan.turns {
-        let last = shared.is_stopped() || shared.is_idle(n);
-        match answer_at(rt, alloc, station, search, sought) {
-            Some(bytes) => {
-                if is_answer_to(alloc, line, bytes.as_slice()) {
-                    return LineEnd::Answer(bytes);
-                }
-            }
-            None => {
-                if last {
-                    return LineEnd::Nothing;
-                }
-                thread::yield_now();
-            }
-        }
-    }
-    LineEnd::Nothing
-}
-
-/// Enters a line, and waits for its answer.
-fn run_line<R: Wait>(
-    rt: &R,
-    alloc: Global,
-    station: &Mutex<Station<'_>>,
-    line: &[u8],
-    session: &Session<'_>,
-    plan: &Plan<'_>,
-    shared: &Shared,
-) -> Result<LineEnd, AllocError> {
-    let n = session.node.place();
-    let bytes = SharedBytes::from_slice(alloc, line)?;
-    let sought = sought_by(alloc, n, line, shared);
-    let (mut search, entered) = enter_at(rt, alloc, n, station, bytes, sought.as_ref(), shared);
-    if let Err(fault) = entered {
-        return Ok(LineEnd::Refused(fault));
-    }
-    let Some(sought) = sought else {
-        return Ok(LineEnd::Nothing);
-    };
-    Ok(await_line(
-        rt,
-        alloc,
-        station,
-        line,
-        &sought,
-        &mut search,
-        session,
-        plan,
-        shared,
-    ))
-}
-
-/// Enters the lines of a session, one after the other.
-fn run_lines<R: Wait>(
-    rt: &R,
-    alloc: Global,
-    station: Option<&Mutex<Station<'_>>>,
-    session: &Session<'_>,
-    plan: &Plan<'_>,
-    shared: &Shared,
-) -> Result<Vec<LineEnd>, AllocError> {
-    let mut ends = Vec::new(alloc);
-    let Some(station) = station else {
-        return Ok(ends);
-    };
-    for line in session.lines.iter() {
-        ends.push(run_line(rt, alloc, station, *line, session, plan, shared)?)?;
-    }
-    Ok(ends)
-}
-
-/// Runs a session, and says that it has ended.
+/// Runs a session, at the node that it has, and says that it has ended.
 pub(crate) fn run_session<R: Wait>(
     rt: &R,
     alloc: Global,
-    station: Option<&Mutex<Station<'_>>>,
+    acquirer: Option<Acquirer<'_, '_, '_>>,
     session: &Session<'_>,
-    plan: &Plan<'_>,
     shared: &Shared,
 ) -> Result<Vec<LineEnd>, AllocError> {
-    let ends = run_lines(rt, alloc, station, session, plan, shared);
+    let ends = match acquirer {
+        Some(acquirer) => acquirer.run_lines(rt, session),
+        None => Ok(Vec::new(alloc)),
+    };
     shared.session_ends();
+    shared.clock().leave(rt);
     ends
 }

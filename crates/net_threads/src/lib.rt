@@ -6,6 +6,7 @@ mod fault;
 mod judge;
 mod network;
 mod own_links;
+mod plans;
 mod pumping;
 mod puts;
 mod sending;

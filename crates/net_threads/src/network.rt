@@ -9,6 +9,7 @@ ghost use Rattle.net_threads.specs.declared.ended.Verdict.TheVariants.{Linked};
 use crate::ended::{Ended, Finished};
 use crate::fault::StationFault;
 use crate::judge::judge;
+use crate::plans::Plans;
 use crate::station::Station;
 use card_digits::{LinkNo, NodeNo};
 use link_rings::{Held, ROOM};
@@ -17,9 +18,10 @@ use rtrb::RingBuffer;
 use run_plan::Faults;
 use std::alloc::{AllocError, Global};
 use std::marker::Model;
-use std::sync::{Mutex, Wait};
+use std::sync::{Arc, Mutex, Wait};
 use switch_node::Input;
 use table_checker::Accepted;
+use turn_clock::TurnClock;
 
 /// A station for each node of accepted tables, each under a lock of its own, and for each link a ring of 64 packets in either
 /// direction.
@@ -28,6 +30,7 @@ pub struct Network<'n, 't> {
     alloc: Global,
     accepted: &'n Accepted<'t>,
     stations: Vec<Mutex<Station<'t>>>,
+    plans: Plans,
 }
 
 impl<'n, 't> Model for Network<'n, 't> {
@@ -139,6 +142,7 @@ impl<'n, 't> Network<'n, 't> {
             alloc,
             accepted,
             stations,
+            plans: Plans::none(alloc),
         })
     }
 
@@ -156,18 +160,23 @@ impl<'n, 't> Network<'n, 't> {
         &self.stations[n.place()]
     }
 
-    /// Takes the lock of one station alone, and applies an input there.
+    /// Takes the lock of one station alone, and applies an input there. Then the pumps of plans that run are told of it; where all threads of
+    /// a plan fall asleep between the step and that, turns of theirs may pass first. Whoever steps a station by its lock alone tells
+    /// nobody, and is heard when the station's pump wakes up the next time.
     pub fn step_at(&self, rt: &impl Wait, n: NodeNo, input: Input) -> Result<(), StationFault>
         requires { n < length self.now.t.nodes }
     {
-        self.station(n).lock(rt).apply(input)
+        let done = self.station(n).lock(rt).apply(input);
+        self.plans.tell(rt, n.place());
+        done
     }
 
-    /// Takes the lock of one station alone, and pumps there.
+    /// Takes the lock of one station alone, and pumps there. The pumps of plans that run are told of it.
     pub fn pump_once(&self, rt: &impl Wait, n: NodeNo)
         requires { n < length self.now.t.nodes }
     {
         self.station(n).lock(rt).pump();
+        self.plans.tell(rt, n.place());
     }
 
     /// The same over bad links.
@@ -175,6 +184,22 @@ impl<'n, 't> Network<'n, 't> {
         requires { n < length self.now.t.nodes }
     {
         self.station(n).lock(rt).pump_by(faults, held);
+        self.plans.tell(rt, n.place());
+    }
+
+    /// From here on a plan's pumps are told of steps that others make by this network: on its clock the thread that pumps at a node has the
+    /// node's place. Returns the number by which the plan is taken out again.
+    pub fn add_plan(
+        &self,
+        rt: &impl Wait,
+        clock: &Arc<TurnClock, Global>,
+    ) -> Result<u64, AllocError> {
+        self.plans.add(rt, clock)
+    }
+
+    /// The plan of this number is told of nothing any more.
+    pub fn remove_plan(&self, rt: &impl Wait, number: u64) {
+        self.plans.remove(rt, number);
     }
 
     /// The stations, and whether their traces are a run in which each answer of a session was given. The network is spent, also where
@@ -194,6 +219,7 @@ impl<'n, 't> Network<'n, 't> {
             alloc,
             accepted,
             stations,
+            plans: _,
         } = self;
         let tables = accepted.tables();
         let stations = opened(alloc, stations)?;

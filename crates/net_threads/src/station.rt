@@ -4,7 +4,7 @@ ghost use Rattle.network_law.specs.Claims.{IsWithinLimits};
 ghost use Rattle.network_law.specs.Entries.{history};
 ghost use Rattle.network_law.specs.Runs.{IsLegal};
 ghost use Rattle.rtrb.specs.Ring.{sent, received, known_items};
-ghost use Rattle.link_rings.specs.Rings.{Pops, links_in};
+ghost use Rattle.link_rings.specs.Rings.{Pops, Looks, links_in};
 ghost use Rattle.net_threads.specs.Pumping.{with_ins};
 ghost use Rattle.net_threads.specs.Station.{Does};
 
@@ -125,6 +125,29 @@ impl<'a> Station<'a> {
         ensures count { length self.new.ins ≡ length self.old.ins }
     {
         self.ins.pop(k)
+    }
+
+    /// Whether a packet lies on a ring.
+    fn has_packet(&mut self, k: usize) -> bool
+        requires { k < length self.old.ins }
+        ensures looked { Looks k self.old.ins result self.new.ins }
+        ensures rest { self.new ≡ with_ins self.old self.new.ins }
+        ensures count { length self.new.ins ≡ length self.old.ins }
+    {
+        self.ins.has_packet(k)
+    }
+
+    /// Whether a packet lies on any ring that comes in. Others may be put there at any time.
+    pub fn has_packets(&mut self) -> bool
+        ensures rest { self.new ≡ with_ins self.old self.new.ins }
+        ensures count { length self.new.ins ≡ length self.old.ins }
+    {
+        for k in 0..self.count_in() {
+            if self.has_packet(k) {
+                return true;
+            }
+        }
+        false
     }
 
     /// One more ring that leads out.

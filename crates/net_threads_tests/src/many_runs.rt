@@ -62,6 +62,46 @@ fn links_that_repeat(rt: HostRuntime) -> Result<(), Fail> {
     Ok(())
 }
 
+/// Packets are held back for longer than a tick takes.
+#[test]
+fn delays_longer_than_ticks(rt: HostRuntime) -> Result<(), Fail> {
+    let run = Run {
+        head: "PLAN 1\nturns 50000000\ntick_every 7\ndelay AB 1 10\ndelay BH 2 20\n",
+        ..THREE
+    };
+    for _ in 0..TIMES {
+        let outcome = outcome_of(&rt, rt.alloc(), run)?;
+        assert_eq!(rt; (outcome.lines, outcome.silent), (3, 0));
+        assert_eq!(rt; outcome.verdict, Verdict::Linked);
+    }
+    Ok(())
+}
+
+/// Where no clock ticks nothing comes for a request that is lost, and the run ends.
+#[test]
+fn lost_without_ticks(rt: HostRuntime) -> Result<(), Fail> {
+    let run = Run {
+        head: "PLAN 1\nturns 4000000000\ntick_every 0\nlose AH 1\n",
+        requests: 3,
+        ..ONE
+    };
+    let outcome = outcome_of(&rt, rt.alloc(), run)?;
+    assert_eq!(rt; (outcome.lines, outcome.silent), (3, 3));
+    assert_eq!(rt; outcome.verdict, Verdict::Linked);
+    Ok(())
+}
+
+/// Each request wakes the pumps of three nodes, a host and its session, so that each is woken two thousand times.
+#[test]
+fn two_thousand_requests(rt: HostRuntime) -> Result<(), Fail> {
+    let run = Run {
+        requests: 2_000,
+        ..HUNDRED
+    };
+    assert!(rt; are_all_answered(&rt, rt.alloc(), run, 2_000)?);
+    Ok(())
+}
+
 /// A request that is lost fails at a tick, which comes though nothing else does.
 #[test]
 fn a_link_that_loses_all(rt: HostRuntime) -> Result<(), Fail> {

@@ -218,6 +218,21 @@ fn twenty_sessions(rt: HostRuntime) -> Result<(), Fail> {
     Ok(())
 }
 
+/// Where two hundred requests are entered at once, a ring with room for 64 may lose some. No clock ticks, so nothing comes for these,
+/// and the plan ends.
+#[test]
+fn sessions_that_overflow_a_ring(rt: HostRuntime) -> Result<(), Fail> {
+    let alloc = rt.alloc();
+    let plan = plan_text(alloc, 200)?;
+    let Some((answers, verdict)) = ran_on_text(&rt, alloc, 200, plan.as_str(), Way::Once)? else {
+        return Err("not run".into());
+    };
+    assert!(rt; answers > 0);
+    assert!(rt; answers <= 800);
+    assert_eq!(rt; verdict, Verdict::Linked);
+    Ok(())
+}
+
 /// Where the same lines were entered before, the answers are those of then.
 #[test]
 fn sessions_on_a_network_that_ran(rt: HostRuntime) -> Result<(), Fail> {

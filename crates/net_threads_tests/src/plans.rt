@@ -307,10 +307,10 @@ fn a_link_that_loses_all(rt: HostRuntime) -> Result<(), Fail> {
     Ok(())
 }
 
-/// Where two stations changed places, packets towards them are counted for the pump of the other. So nobody tells their own pumps, which take
-/// them at the look that comes in each 64th turn, and the session at the first node gets its answers.
+/// Where two stations changed places before the plan, packets towards a node wake the pump that has its station, and the session at the
+/// first node gets its answers.
 #[test]
-fn packets_that_nobody_counted(rt: HostRuntime) -> Result<(), Fail> {
+fn stations_that_changed_places(rt: HostRuntime) -> Result<(), Fail> {
     let run = Run {
         swapped: true,
         ..HUNDRED

@@ -1,30 +1,79 @@
 //! Who hears of an answer.
-use crate::news::News;
+use crate::calls::Calls;
+use crate::news::Shared;
+use card_digits::{Key, NodeNo};
+use iso_message::decode;
+use message_keys::key_of;
+use run_plan::{Faults, Plan, Session};
+use std::alloc::{AllocError, Global};
 use std::test::Fail;
 
 const ANSWER: &[u8] =
     b"01107222000102008000164111111111111111000000000000001000031409153000000103140640000100840";
 
-/// How many of those among which a session's answer may be were told of so many, the newest in the entry at this place.
-fn count_told(news: &News, count: u64, newest: u64) -> usize {
-    let mut told: usize = 0;
-    for answers in news.answers.iter() {
-        if answers.count() == count && answers.newest() == newest {
-            told = told.saturating_add(1);
-        }
+const ANSWER_TO_ANOTHER: &[u8] =
+    b"01107222000102008000164111111111111111000000000000001000031409153000000203140640000100840";
+
+/// A plan of so many sessions at the first node and one at the second.
+fn plan_of<'a>(alloc: Global, sessions: usize) -> Result<Plan<'a>, AllocError> {
+    let mut all = Vec::new(alloc);
+    for n in 0..sessions {
+        all.push(Session {
+            node: NodeNo::new(0),
+            lines: Vec::new(alloc),
+        })?;
     }
-    told
+    all.push(Session {
+        node: NodeNo::new(1),
+        lines: Vec::new(alloc),
+    })?;
+    Ok(Plan {
+        turns: 1,
+        tick_every: 0,
+        limits: Vec::new(alloc),
+        faults: Faults::none(alloc),
+        loans: Vec::new(alloc),
+        sessions: all,
+    })
 }
 
-/// Of an answer whose key can't be read all sessions of its node hear, and of any other those alone that may have its key.
+fn key_of_answer(alloc: Global, bytes: &[u8]) -> Option<Key> {
+    match decode(alloc, bytes) {
+        Ok(message) => key_of(&message),
+        Err(_) => None,
+    }
+}
+
+/// How many answers each of the three sessions was told of.
+fn counts(shared: &Shared) -> [u64; 3] {
+    let mut counts = [0; 3];
+    for place in 0..3 {
+        if let Some(awaited) = shared.awaited(place) {
+            counts[place] = awaited.count();
+        }
+    }
+    counts
+}
+
+/// Of an answer whose key can't be read all sessions of its node hear, and of any other those alone that wait for one of its key.
 #[test]
-fn an_answer_without_a_key(rt: HostRuntime) -> Result<(), Fail> {
+fn who_hears_of_an_answer(rt: HostRuntime) -> Result<(), Fail> {
     let alloc = rt.alloc();
-    let news = News::new(alloc, 2)?;
-    assert_eq!(rt; news.answers.len(), 8);
-    news.tell_answer(alloc, 5, b"0110");
-    assert_eq!(rt; count_told(&news, 1, 5), 8);
-    news.tell_answer(alloc, 9, ANSWER);
-    assert_eq!(rt; (count_told(&news, 2, 9), count_told(&news, 1, 5)), (1, 7));
+    let plan = plan_of(alloc, 2)?;
+    let mut places: Vec<usize> = Vec::new(alloc);
+    places.push(0)?;
+    places.push(1)?;
+    let shared = Shared::new(alloc, places, 2, &plan)?;
+    let mut calls = Calls::none(alloc);
+    let key = key_of_answer(alloc, ANSWER);
+    if let (Some(first), Some(key)) = (shared.awaited(0), key) {
+        first.begin(&key);
+    }
+    shared.tell_answer(alloc, 0, 5, ANSWER, &mut calls);
+    assert_eq!(rt; counts(&shared), [1, 0, 0]);
+    shared.tell_answer(alloc, 0, 6, ANSWER_TO_ANOTHER, &mut calls);
+    assert_eq!(rt; counts(&shared), [1, 0, 0]);
+    shared.tell_answer(alloc, 0, 7, b"0110", &mut calls);
+    assert_eq!(rt; counts(&shared), [2, 1, 0]);
     Ok(())
 }

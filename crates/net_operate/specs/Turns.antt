@@ -1,0 +1,16 @@
+-- Turns that pass, and what happens in them.
+use Rattle.std.specs.Prelude.{ℕ, ◌-◌, ◌==◌, min, Option, Some, None, if◌then◌else◌}
+use Rattle.turn_clock.specs.Sooner.{sooner}
+use Rattle.net_operate.specs.declared.turns.PumpTurns.{PumpTurns}
+
+-- how many turns it takes until a tick, where there are ticks
+abbrev pub turns_to_tick : PumpTurns → Option ℕ
+turns_to_tick t = if t.tick_every == 0 then None else Some (t.tick_every - t.since_tick)
+
+-- the least number of turns after which something happens: a tick, a packet that was held back is taken, or they are over
+abbrev pub turns_to_event : PumpTurns → Option ℕ → ℕ
+turns_to_event t held = least (sooner (turns_to_tick t) held)
+  where
+    least : Option ℕ → ℕ
+    least None = t.left
+    least (Some turns) = min turns t.left
