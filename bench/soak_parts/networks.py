@@ -102,12 +102,13 @@ def request(card, amount, trace, acquirer):
     return f"01007220000100008000{len(card)}{card}000000{amount:012d}{DATE}091530{trace:06d}06{acquirer}840"
 
 
-def plan(network, rng, turns, tick_every, faults, messages):
-    """Sessions of all acquirers, with so many requests each, for cards of all issuers."""
+def plan(network, rng, turns, tick_every, faults, messages, sessions=None):
+    """Sessions of all acquirers, or of the last ones, with so many requests each, for cards of all issuers."""
     lines = ["PLAN 1", f"turns {turns}", f"tick_every {tick_every}"]
     lines += [f"host N{network.hub_of(star)} {LIMIT}" for star in range(network.stars)]
     lines += faults
-    for acquirer, _ in network.acquirers():
+    acquirers = network.acquirers()
+    for acquirer, _ in acquirers if sessions is None else acquirers[-sessions:]:
         lines.append(f"session {acquirer}")
         for trace in range(1, messages + 1):
             card = network.card(rng.randrange(network.stars), rng.randrange(1000))

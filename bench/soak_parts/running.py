@@ -1,6 +1,7 @@
 """Runs of a program on a plan, and what their reports say."""
 
 import json
+import os
 import subprocess
 import sys
 import time
@@ -20,11 +21,18 @@ sys.stderr.write('%f %d %d' % (usage.ru_utime + usage.ru_stime, usage.ru_maxrss,
 
 
 class Report:
-    def __init__(self, program, data, sessions, messages, limit):
+    def __init__(self, program, data, sessions, messages, limit, processors=None):
+        """A run on all processors of the machine, or on these alone."""
+        bound = None if processors is None else lambda: os.sched_setaffinity(0, processors)
         began = time.monotonic()
         try:
             ran = subprocess.run(
-                [sys.executable, "-c", RUN, program], input=data.encode("ascii"), capture_output=True, timeout=limit, check=True
+                [sys.executable, "-c", RUN, program],
+                input=data.encode("ascii"),
+                capture_output=True,
+                timeout=limit,
+                check=True,
+                preexec_fn=bound,
             )
         except subprocess.TimeoutExpired:
             raise Wrong(f"no end within {limit} seconds") from None
