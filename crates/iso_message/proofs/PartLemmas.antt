@@ -135,10 +135,6 @@ plain_part (Some (forms.Llvar class most)) n bytes v rest f plain e = two_part c
 plain_part (Some (forms.Lllvar class most)) n bytes v rest f plain e = three_part class most n bytes v rest f e
 plain_part (Some forms.Binary) n bytes v rest f plain e = cc plain
 
--- such a value is short
-pub plain_few : (n : ℕ) (bytes v rest : List ℕ) → is_binary (form_of n) ≡ false → field_at (form_of n) n bytes ≡ Ok (v, rest) → length v < 1_000
-plain_few n bytes v rest plain e = (plain_part (form_of n) n bytes v rest refl plain e).few
-
 -- the view with one element more
 pub added : (values body : List ℕ) (spans more : List Span) (old : Body) (n : ℕ) (v : List ℕ) → body ≡ old.body → seen values spans ≡ old.elements → seen values more ≡ seen values spans ++ (n, v) ∷ []
     → the_body body (seen values more) ≡ the_body old.body (old.elements ++ (n, v) ∷ [])

@@ -125,11 +125,11 @@ impl<R: Named> NamedRows<R> {
         self.place_of(&name)
     }
 
-    /// Where the name stands if its mark says so. Without marks this is the first place.
+    /// Where the name stands if its mark says so. Without marks there is no row at this place.
     fn place_marked(&self, name: &Name) -> usize {
         match &self.marks {
             Some(marks) => usize::from(marks[mark_of(name)]),
-            None => 0,
+            None => self.names.len(),
         }
     }
 
