@@ -1,7 +1,7 @@
 -- What pumps do.
 use Rattle.std.specs.Prelude.{◌≡◌, ◌⊎◌, ℕ, zero, suc, Bool, true, false, List, [], length, Option, Some, None, Result, slice_get}
 use Rattle.network_law.specs.Entries.{Take}
-use Rattle.link_rings.specs.Rings.{PacketView, InView, Pops, links_in}
+use Rattle.link_rings.specs.Rings.{PacketView, InView, Pops, Looks, links_in}
 use Rattle.link_rings.specs.Held.{HeldView, due_packet, without_due, with_held}
 use Rattle.run_plan.specs.declared.faults.LinkFaults.{LinkFaults}
 use Rattle.run_plan.specs.declared.faults.Fate.{Fate}
@@ -77,3 +77,13 @@ pub record PumpsBy (faults : List LinkFaults) (old : StationView) (held : HeldVi
 pub record PumpsSound (old new : StationView) : Type 0 where
   pub held : HeldView
   pub pumps : PumpsBy [] old (record { turn = 0; rings = [] }) new held
+
+-- the first n rings were looked at, in their order, and nothing lay there
+abbrev pub SeesNone : ℕ → List InView → List InView → Type 0
+SeesNone zero old new = new ≡ old
+SeesNone (suc n) old new = (between : List InView) × SeesNone n old between × Looks n between false new
+
+-- the rings were looked at in their order: all of them, or up to the first on which a packet lay
+abbrev pub SeesPackets : Bool → List InView → List InView → Type 0
+SeesPackets false old new = SeesNone (length old) old new
+SeesPackets true old new = (n : ℕ) × (between : List InView) × SeesNone n old between × Looks n between true new

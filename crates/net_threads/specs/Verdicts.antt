@@ -70,9 +70,10 @@ pub record HasUngiven (stations : List StationView) (ended : Ended) (session lin
   pub is_line : slice_get end.lines.items line ≡ Some line_end
   pub not_given : ¬ IsGiven stations end.node line_end
 
--- sessions and lines count from 1
+-- What a verdict says. Stations are looked at first, then links, then answers: what was looked at before is as it should be. Sessions and
+-- lines count from 1.
 abbrev pub Holds : Network → List StationView → Ended → Verdict → Type 0
-Holds t stations ended Linked = IsRun t (trace_of stations) × AreGiven stations ended
-Holds t stations ended (LinkStrange l s) = HasStrange t stations l s
-Holds t stations ended (AnswerStrange session line) = (i : ℕ) × (j : ℕ) × (session ≡ suc i) × (line ≡ suc j) × HasUngiven stations ended i j
+Holds t stations ended Linked = IsRun t (trace_of stations) × AreGiven stations ended × AreOf t stations
+Holds t stations ended (LinkStrange l s) = HasStrange t stations l s × AreOf t stations
+Holds t stations ended (AnswerStrange session line) = ((i : ℕ) × (j : ℕ) × (session ≡ suc i) × (line ≡ suc j) × HasUngiven stations ended i j) × AreOf t stations × AreLinked t stations
 Holds t stations ended (StationStrange n) = (s : StationView) × (slice_get stations n ≡ Some s) × ¬ IsOf t n s

@@ -5,7 +5,7 @@ ghost use Rattle.network_law.specs.Entries.{history};
 ghost use Rattle.network_law.specs.Runs.{IsLegal};
 ghost use Rattle.rtrb.specs.Ring.{sent, received, known_items};
 ghost use Rattle.link_rings.specs.Rings.{Pops, Looks, links_in};
-ghost use Rattle.net_threads.specs.Pumping.{with_ins};
+ghost use Rattle.net_threads.specs.Pumping.{with_ins, SeesPackets};
 ghost use Rattle.net_threads.specs.Station.{Does};
 
 use crate::fault::StationFault;
@@ -139,6 +139,7 @@ impl<'a> Station<'a> {
 
     /// Whether a packet lies on any ring that comes in. Others may be put there at any time.
     pub fn has_packets(&mut self) -> bool
+        ensures sees { SeesPackets result self.old.ins self.new.ins }
         ensures rest { self.new ≡ with_ins self.old self.new.ins }
         ensures count { length self.new.ins ≡ length self.old.ins }
     {

@@ -16,4 +16,6 @@ mod plans;
 #[cfg(test)]
 mod rings;
 #[cfg(test)]
+mod strangers;
+#[cfg(test)]
 mod verdicts;

@@ -21,7 +21,7 @@ use table_checker::{Accepted, check};
 const LOOKS: u64 = 10_000_000;
 
 /// Whether it was set before so many looks.
-fn is_set_in_time(flag: &AtomicBool) -> bool {
+pub(crate) fn is_set_in_time(flag: &AtomicBool) -> bool {
     for _ in 0..LOOKS {
         if flag.load(Ordering::SeqCst) {
             return true;
@@ -75,14 +75,14 @@ send 010072200001000080001655555555555544440000000000000010000314091530000001064
 END
 ";
 
-const FIRST_APPROVED: &[u8] =
+pub(crate) const FIRST_APPROVED: &[u8] =
     b"01107222000102008000164111111111111111000000000000001000031409153000000103140640000100840";
 
 const SECOND_APPROVED: &[u8] =
     b"01107222000102008000165555555555554444000000000000001000031409153000000103140640000200840";
 
 /// Whether the one line of a session was answered with these bytes.
-fn is_answered(ended: &Ended, session: usize, bytes: &[u8]) -> bool {
+pub(crate) fn is_answered(ended: &Ended, session: usize, bytes: &[u8]) -> bool {
     let Some(session) = ended.sessions.get(session) else {
         return false;
     };
