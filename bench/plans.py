@@ -73,7 +73,7 @@ def main():
     words.add_argument("--processors", type=int)
     words.add_argument("--busy", type=int, default=0)
     words.add_argument("shapes", nargs="*", default=[""])
-    options = words.parse_args()
+    options = words.parse_intermixed_args()
     busy = [subprocess.Popen([sys.executable, "-c", "while True: pass"]) for _ in range(options.busy)]
     try:
         for shape in SHAPES:
