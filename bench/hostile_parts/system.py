@@ -2,6 +2,7 @@
 
 import errno
 import os
+import random
 import resource
 import shutil
 import subprocess
@@ -17,6 +18,10 @@ SECONDS = 60
 USAGE = b"usage: card_switch check|make|replay|run|decode [--frames]\n"
 HERE = Path(__file__).resolve().parent
 TOP = HERE.parents[1]
+# Behind the parts of this trial, which have a module of the same name as one there.
+sys.path.append(str(TOP / "bench" / "soak_parts"))
+
+import networks
 
 
 def first_inputs():
@@ -169,17 +174,27 @@ def limited(mib_quarters):
 
 
 def try_little_memory(program):
-    """Address spaces of 1 to 24 MiB by quarters. Where the program can't be started, nothing is asked of it."""
-    inputs = [(job, data) for job, data in first_inputs() if job != "run"]
-    inputs += [("decode", (changes.REQUEST + b"\n") * 20000), ("check", long_bundle(1 << 20))]
-    for job, data in inputs:
+    """Address spaces of 1 to 24 MiB by quarters, and for threads larger ones, in which more and more of them can be started. Where the
+    program can't be started, nothing is asked of it."""
+    inputs = [(job, data, range(4, 96)) for job, data in first_inputs() if job != "run"]
+    inputs += [("decode", (changes.REQUEST + b"\n") * 20000, range(4, 96)), ("check", long_bundle(1 << 20), range(4, 96))]
+    inputs += [("run", data, range(8, 8192, 64)) for job, data in first_inputs() if job == "run"]
+    inputs += [("run", many_sessions(), range(8, 8192, 64))]
+    for job, data, sizes in inputs:
         whole = started(program, WORDS[job], input=data)
-        for quarters in range(4, 96):
+        for quarters in sizes:
             if started(program, [], preexec_fn=limited(quarters)).stderr != USAGE:
                 continue
             run = started(program, WORDS[job], input=data, preexec_fn=limited(quarters))
             problem = whole_or_memory(job, data, run, (whole.returncode, whole.stdout))
             yield (f"{job}: {len(data)} bytes in {quarters / 4} MiB", problem)
+
+
+def many_sessions():
+    """A plan of 256 sessions over 64 nodes, each a thread, with a request each."""
+    network = networks.Network(8, 8)
+    plan = networks.plan(network, random.Random(1), 4_000_000_000, 0, [], 1)
+    return networks.bundle(network, 40, plan).encode()
 
 
 def long_bundle(size):
