@@ -5,6 +5,7 @@ mod calls;
 mod fitting;
 mod hearing;
 mod news;
+mod pumps;
 mod running;
 mod search;
 mod threads;

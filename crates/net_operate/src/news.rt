@@ -7,12 +7,13 @@ mod tests;
 use crate::calls::Calls;
 use crate::fitting::key_in;
 use crate::hearing::{Hearer, ThreadNumbers, who_hears};
+use crate::pumps::{Pump, PumpPlace};
 use card_digits::{Key, NodeNo};
 use net_threads::Station;
 use run_plan::Plan;
 use std::alloc::{AllocError, Global};
-use std::sync::Arc;
 use std::sync::atomic::{AtomicBool, AtomicU64, Ordering};
+use std::sync::{Arc, Mutex, Wait};
 use switch_node::Entry;
 use turn_clock::TurnClock;
 
@@ -65,6 +66,8 @@ struct News {
     asked: AtomicU64,
     /// The places of its sessions in the plan.
     sessions: Vec<usize>,
+    /// Where what its pump keeps lies while nobody pumps.
+    pump: Mutex<PumpPlace>,
 }
 
 /// What the threads tell each other beside the stations.
@@ -112,6 +115,7 @@ fn nodes_of(alloc: Global, count: usize, plan: &Plan<'_>) -> Result<Vec<News>, A
             told: AtomicU64::new(0),
             asked: AtomicU64::new(0),
             sessions: Vec::new(alloc),
+            pump: Mutex::new(PumpPlace::empty()),
         })?;
     }
     for (place, session) in plan.sessions.iter().enumerate() {
@@ -213,6 +217,19 @@ impl Shared {
         }
     }
 
+    /// Takes out what the pump of the station at a place keeps, unless somebody has it, who is noted to have been asked for it then.
+    pub(crate) fn take_pump<R: Wait>(&self, rt: &R, n: usize) -> Option<Pump> {
+        self.nodes.get(n)?.pump.lock(rt).take()
+    }
+
+    /// Puts it back, and says whether somebody wanted it meanwhile.
+    pub(crate) fn put_pump<R: Wait>(&self, rt: &R, n: usize, pump: Pump) -> bool {
+        match self.nodes.get(n) {
+            Some(news) => news.pump.lock(rt).put(pump),
+            None => false,
+        }
+    }
+
     /// Whether entries of a node's trace from this place on may have requests to its host.
     pub(crate) fn has_asks(&self, n: usize, from: usize) -> bool {
         match self.nodes.get(n) {
@@ -270,7 +287,7 @@ impl Shared {
 
     fn call_pump(&self, node: NodeNo, calls: &mut Calls) {
         if let Some(pump) = self.pumps.get(node.place()) {
-            calls.add(*pump);
+            calls.add_pump(*pump);
         }
     }
 

@@ -82,6 +82,7 @@ fn places_of<R: Wait>(
 fn pump_at<'s, 't, 'p>(
     alloc: Global,
     n: usize,
+    stations: &'s Vec<Mutex<Station<'t>>>,
     station: &'s Mutex<Station<'t>>,
     plan: &'s Plan<'p>,
     shared: &'s Shared,
@@ -90,6 +91,7 @@ fn pump_at<'s, 't, 'p>(
         alloc,
         n,
         thread: n,
+        stations,
         station,
         plan,
         shared,
@@ -107,7 +109,7 @@ fn acquirer_of<'s, 't, 'p>(
 ) -> Option<Acquirer<'s, 't, 'p>> {
     let n = session.node.place();
     let station = stations.get(n)?;
-    let pump = pump_at(alloc, n, station, plan, shared);
+    let pump = pump_at(alloc, n, stations, station, plan, shared);
     let thread = shared.threads().session(place);
     Some(Acquirer {
         worker: Worker { thread, ..pump },
@@ -155,7 +157,7 @@ fn run_all<H: Host + Sync, R: Threads + Wait + Sync>(
             let threads = shared.threads();
             for n in 0..stations.len() {
                 let station = &stations[n];
-                let pump = pump_at(alloc, n, station, plan, shared);
+                let pump = pump_at(alloc, n, stations, station, plan, shared);
                 shared.starts(n);
                 if scope.spawn(move || run_pump(rt, pump)).is_err() {
                     shared.stop();

@@ -4,9 +4,10 @@ ghost use Rattle.std.specs.Prelude.{◌≤◌};
 use crate::calls::Calls;
 use crate::fitting::is_answer_to;
 use crate::news::{Awaited, Shared};
+use crate::pumps::Pump;
 use crate::running::Host;
 use crate::search::Search;
-use crate::turns::{PumpTurns, Turns, idle};
+use crate::turns::{PumpTurns, Turns};
 use crate::waiting::{Cursor, Wanted, next_answer, next_ask};
 use iso_message::decode;
 use link_rings::Held;
@@ -18,6 +19,17 @@ use std::alloc::{AllocError, Global};
 use std::sync::{Mutex, Wait};
 use switch_node::{Case, Input};
 
+/// How many turns a thread pumps at most at other nodes behind a step of its own, before it wakes the pumps there.
+const MOST_PUMPED: usize = 16;
+
+/// What a pump does behind a turn.
+#[derive(Clone, Copy)]
+enum PumpEnd {
+    GoesOn,
+    Rests,
+    Over,
+}
+
 /// A thread of a plan at a node.
 #[derive(Clone, Copy)]
 pub(crate) struct Worker<'s, 't, 'p> {
@@ -26,6 +38,7 @@ pub(crate) struct Worker<'s, 't, 'p> {
     pub n: usize,
     /// Its number on the clock.
     pub thread: usize,
+    pub stations: &'s Vec<Mutex<Station<'t>>>,
     pub station: &'s Mutex<Station<'t>>,
     pub plan: &'s Plan<'p>,
     pub shared: &'s Shared,
@@ -44,10 +57,36 @@ impl<'s, 't, 'p> Worker<'s, 't, 'p> {
         self.shared.clock().rest(rt, self.thread, turns)
     }
 
-    /// Applies what happens at the node, and tells whom it concerns.
+    /// The same thread at another station.
+    fn at(&self, n: usize) -> Option<Worker<'s, 't, 'p>> {
+        let station = self.stations.get(n)?;
+        Some(Worker {
+            n,
+            station,
+            ..*self
+        })
+    }
+
+    /// Tells those whom a step concerns. Where a packet was put towards a node at which nobody pumps, it is pumped there at once: so a
+    /// packet goes on without a thread that wakes up for it. Where there is more to do, the pump there wakes up. Called with no lock held.
+    fn carry_on<R: Wait>(&self, rt: &R, calls: &mut Calls) {
+        let clock = self.shared.clock();
+        for _ in 0..MOST_PUMPED {
+            calls.tell_threads(clock);
+            let Some(n) = calls.next_pump() else {
+                break;
+            };
+            if let Some(there) = self.at(n) {
+                there.pump_for_other(rt, calls);
+            }
+        }
+        calls.tell(clock);
+    }
+
+    /// Applies what happens at the node, and carries on what comes of it.
     fn apply<R: Wait>(&self, rt: &R, case: Case, calls: &mut Calls) -> Result<(), StationFault> {
         let done = self.apply_locked(rt, case, calls);
-        calls.make(self.shared.clock());
+        self.carry_on(rt, calls);
         done
     }
 
@@ -63,54 +102,89 @@ impl<'s, 't, 'p> Worker<'s, 't, 'p> {
         done
     }
 
-    /// Pumps a turn, and says whether packets are left on the rings.
-    fn pump_locked<R: Wait>(&self, rt: &R, held: &mut Held, calls: &mut Calls) -> bool {
-        let mut station = self.station.lock(rt);
-        station.pump_by(&self.plan.faults, held);
-        self.shared.tell(self.alloc, self.n, &station, calls);
-        station.has_packets()
+    /// Takes out what the pump of the node keeps, unless somebody has it, and counts the turns that have passed.
+    fn take_pump<R: Wait>(&self, rt: &R) -> Option<Pump> {
+        let mut pump = self.shared.take_pump(rt, self.n)?;
+        pump.catch_up(self.shared.clock().turns());
+        Some(pump)
     }
 
-    /// A turn of the pump, with the tick that comes behind it; says whether packets are left on the rings.
-    fn pump<R: Wait>(
-        &self,
-        rt: &R,
-        turns: &mut PumpTurns,
-        held: &mut Held,
-        calls: &mut Calls,
-    ) -> bool {
-        let more = self.pump_locked(rt, held, calls);
-        calls.make(self.shared.clock());
-        if turns.next() {
-            let _ = self.apply(rt, Case::Tick, calls);
+    /// Puts it back, and says whether somebody wanted it meanwhile. From here on the node's pump wakes up by itself when something happens.
+    fn put_pump<R: Wait>(&self, rt: &R, pump: Pump) -> bool {
+        self.shared.clock().set_due(self.n, pump.due());
+        self.shared.put_pump(rt, self.n, pump)
+    }
+
+    /// A turn of the pump, with the tick that comes behind it; says whether packets were left on the rings.
+    fn pump_turn(&self, station: &mut Station<'_>, pump: &mut Pump, calls: &mut Calls) -> bool {
+        station.pump_by(&self.plan.faults, &mut pump.held);
+        let more = station.has_packets();
+        if pump.next_turn() {
+            let _ = station.apply(Input::new(Case::Tick));
         }
+        self.shared.tell(self.alloc, self.n, station, calls);
         more
     }
 
-    /// Sleeps until there may be something to pump, or to the turn in which the next tick comes, a packet that was held back is taken,
-    /// or the turns are over.
-    fn await_packets<R: Wait>(&self, rt: &R, turns: &mut PumpTurns, held: &mut Held) {
-        let event = turns.to_event(held.turns_to_due());
-        let passed = self.rest(rt, event);
-        let idle = idle(passed, event);
-        turns.pass(idle);
-        held.pass(idle);
+    fn pump_locked<R: Wait>(&self, rt: &R, pump: &mut Pump, calls: &mut Calls) -> bool {
+        let mut station = self.station.lock(rt);
+        self.pump_turn(&mut station, pump, calls)
     }
 
-    fn pump_all<R: Wait>(&self, rt: &R, held: &mut Held) {
-        let mut turns = PumpTurns::new(self.plan.turns, self.plan.tick_every);
+    /// The same where the station's lock is free; says whether there is more to do.
+    fn try_turn(&self, pump: &mut Pump, calls: &mut Calls) -> bool {
+        if pump.is_over() {
+            return true;
+        }
+        match self.station.try_lock() {
+            Some(mut station) => self.pump_turn(&mut station, pump, calls),
+            None => true,
+        }
+    }
+
+    /// Pumps a turn in the place of the node's pump, and waits for no lock. The pump wakes up where there is more to do, or where it is over.
+    /// Where somebody pumps there already, that one sees to it.
+    fn pump_for_other<R: Wait>(&self, rt: &R, calls: &mut Calls) {
+        let Some(mut pump) = self.take_pump(rt) else {
+            return;
+        };
+        let more = self.try_turn(&mut pump, calls);
+        if self.put_pump(rt, pump) || more {
+            self.shared.clock().tell(self.n);
+        }
+    }
+
+    /// A turn of the node's pump, unless another pumps in its place; says whether it may sleep behind it.
+    fn pump_own<R: Wait>(&self, rt: &R, calls: &mut Calls) -> PumpEnd {
+        let Some(mut pump) = self.take_pump(rt) else {
+            // Whoever pumps there tells it.
+            return PumpEnd::Rests;
+        };
+        if pump.is_over() {
+            return PumpEnd::Over;
+        }
+        let more = self.pump_locked(rt, &mut pump, calls);
+        let noted = self.put_pump(rt, pump);
+        self.carry_on(rt, calls);
+        if more || noted {
+            PumpEnd::GoesOn
+        } else {
+            PumpEnd::Rests
+        }
+    }
+
+    fn pump_all<R: Wait>(&self, rt: &R) {
         let mut calls = Calls::none(self.alloc);
-        // Packets may lie there already.
-        let mut more = true;
         for _ in 0..self.plan.turns {
-            if !more {
-                self.await_packets(rt, &mut turns, held);
-            }
             self.listen();
-            if turns.are_over() || self.shared.is_over() {
+            if self.shared.is_over() {
                 break;
             }
-            more = self.pump(rt, &mut turns, held, &mut calls);
+            match self.pump_own(rt, &mut calls) {
+                PumpEnd::GoesOn => {}
+                PumpEnd::Rests => self.shared.clock().sleep(rt, self.thread),
+                PumpEnd::Over => break,
+            }
         }
     }
 
@@ -165,8 +239,12 @@ impl<'s, 't, 'p> Worker<'s, 't, 'p> {
 /// no tick.
 pub(crate) fn run_pump<R: Wait>(rt: &R, worker: Worker<'_, '_, '_>) {
     let count = worker.station.lock(rt).count_in();
-    if let Ok(mut held) = Held::new(worker.alloc, count) {
-        worker.pump_all(rt, &mut held);
+    if let Ok(held) = Held::new(worker.alloc, count) {
+        let turns = PumpTurns::new(worker.plan.turns, worker.plan.tick_every);
+        let pump = Pump::new(turns, held, worker.shared.clock().turns());
+        let _ = worker.put_pump(rt, pump);
+        // Packets may lie there already.
+        worker.pump_all(rt);
     }
     worker.shared.ends(worker.n);
     worker.shared.clock().leave(rt);
@@ -298,7 +376,7 @@ impl<'s, 't, 'p> Acquirer<'s, 't, 'p> {
         let bytes = SharedBytes::from_slice(self.worker.alloc, line)?;
         let sought = self.sought(line);
         let (mut search, entered) = self.enter(rt, bytes, sought.as_ref(), calls);
-        calls.make(self.worker.shared.clock());
+        self.worker.carry_on(rt, calls);
         if let Err(fault) = entered {
             return Ok(LineEnd::Refused(fault));
         }

@@ -73,3 +73,39 @@ fn one_that_ends(rt: HostRuntime) -> Result<(), Fail> {
     clock.leave(&rt);
     Ok(())
 }
+
+/// Sleeps until turn 700, unless another turn is said meanwhile, and says at which it woke up.
+fn wake_at<R: Wait>(rt: &R, clock: &TurnClock, me: usize) -> u64 {
+    clock.listen(me);
+    clock.set_due(me, 700);
+    clock.sleep(rt, me);
+    let turn = clock.turns();
+    clock.leave(rt);
+    turn
+}
+
+/// Once another sleeps, as it does where turns have passed, says that it wakes up at turn 10.
+fn say_turn<R: Wait>(rt: &R, clock: &TurnClock, me: usize, other: usize) -> u64 {
+    clock.listen(me);
+    let passed = clock.rest(rt, me, 3);
+    clock.set_due(other, 10);
+    clock.leave(rt);
+    passed
+}
+
+fn said<R: Threads + Wait + Sync>(rt: &R, alloc: Global) -> Option<(u64, u64)> {
+    let clock = TurnClock::new(alloc, 2).ok()?;
+    let clock = &clock;
+    thread::scope(thread::scope_env(), rt, |scope| -> Option<(u64, u64)> {
+        let sleeper = scope.spawn(move || wake_at(rt, clock, 0)).ok()?;
+        let other = scope.spawn(move || say_turn(rt, clock, 1, 0)).ok()?;
+        Some((sleeper.join(rt), other.join(rt)))
+    })
+}
+
+/// A sleeper wakes up at the turn that another says while it sleeps.
+#[test]
+fn another_turn_said(rt: HostRuntime) -> Result<(), Fail> {
+    assert_eq!(rt; said(&rt, rt.alloc()), Some((10, 3)));
+    Ok(())
+}

@@ -78,6 +78,11 @@ impl TurnClock {
         })
     }
 
+    /// How many turns have passed.
+    pub fn turns(&self) -> u64 {
+        self.turns.load(Ordering::SeqCst)
+    }
+
     /// A thread looks from here on whether there is something to do: only what it is told of from now on keeps it from going to sleep.
     pub fn listen(&self, thread: usize) {
         if let Some(sleeper) = self.sleepers.get(thread) {
@@ -107,29 +112,39 @@ impl TurnClock {
         }
     }
 
+    /// From here on a thread that sleeps wakes up by itself once so many turns have passed on the clock. Whoever does the work of a sleeper
+    /// in its place says so, while it is awake itself: no turn passes meanwhile.
+    pub fn set_due(&self, thread: usize, due: u64) {
+        if let Some(sleeper) = self.sleepers.get(thread) {
+            sleeper.due.store(due, Ordering::SeqCst);
+        }
+    }
+
+    /// Sleeps until the thread is told of something or it is due, and not at all where it was told between listening and this.
+    pub fn sleep<R: Wait>(&self, rt: &R, thread: usize) {
+        let Some(sleeper) = self.sleepers.get(thread) else {
+            return;
+        };
+        if !sleeper.exchange(AWAKE, ASLEEP) {
+            return;
+        }
+        self.settle(rt);
+        // Who wakes it up leaves one token here, so it runs only once it is counted.
+        sleeper.parker.park(rt);
+    }
+
     /// Sleeps until the thread is told of something or so many turns have passed, and says how many have: none where it was told between
     /// listening and this.
     pub fn rest<R: Wait>(&self, rt: &R, thread: usize, turns: u64) -> u64
         ensures { result ≤ turns }
     {
-        let Some(sleeper) = self.sleepers.get(thread) else {
-            return 0;
-        };
         if turns == 0 {
             return 0;
         }
-        let before = self.turns.load(Ordering::SeqCst);
-        sleeper
-            .due
-            .store(before.saturating_add(turns), Ordering::SeqCst);
-        if !sleeper.exchange(AWAKE, ASLEEP) {
-            return 0;
-        }
-        self.settle(rt);
-        // Who wakes it up leaves one token here, so it runs only once it is counted.
-        sleeper.parker.park(rt);
-        let passed = self.turns.load(Ordering::SeqCst).saturating_sub(before);
-        passed.min(turns)
+        let before = self.turns();
+        self.set_due(thread, before.saturating_add(turns));
+        self.sleep(rt, thread);
+        self.turns().saturating_sub(before).min(turns)
     }
 
     /// A thread ends, and nobody waits for it any more.
