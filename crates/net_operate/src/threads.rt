@@ -8,7 +8,7 @@ use crate::pumps::Pump;
 use crate::running::Host;
 use crate::search::Search;
 use crate::turns::{PumpTurns, Turns};
-use crate::waiting::{Cursor, Wanted, next_answer, next_ask};
+use crate::waiting::{Ask, Cursor, Wanted, next_answer, next_ask};
 use iso_message::decode;
 use link_rings::Held;
 use message_keys::key_of;
@@ -83,23 +83,14 @@ impl<'s, 't, 'p> Worker<'s, 't, 'p> {
         calls.tell(clock);
     }
 
-    /// Applies what happens at the node, and carries on what comes of it.
-    fn apply<R: Wait>(&self, rt: &R, case: Case, calls: &mut Calls) -> Result<(), StationFault> {
-        let done = self.apply_locked(rt, case, calls);
-        self.carry_on(rt, calls);
-        done
-    }
-
-    fn apply_locked<R: Wait>(
-        &self,
-        rt: &R,
-        case: Case,
-        calls: &mut Calls,
-    ) -> Result<(), StationFault> {
-        let mut station = self.station.lock(rt);
-        let done = station.apply(Input::new(case));
-        self.shared.tell(self.alloc, self.n, &station, calls);
-        done
+    /// Tells those whom a step concerns. Whoever has nothing else to do carries on himself what comes of it, and who has leaves that to the
+    /// pumps.
+    fn hand_on<R: Wait>(&self, rt: &R, is_busy: bool, calls: &mut Calls) {
+        if is_busy {
+            calls.tell(self.shared.clock());
+        } else {
+            self.carry_on(rt, calls);
+        }
     }
 
     /// Takes out what the pump of the node keeps, unless somebody has it, and counts the turns that have passed.
@@ -164,9 +155,9 @@ impl<'s, 't, 'p> Worker<'s, 't, 'p> {
             return PumpEnd::Over;
         }
         let more = self.pump_locked(rt, &mut pump, calls);
-        let noted = self.put_pump(rt, pump);
-        self.carry_on(rt, calls);
-        if more || noted {
+        let goes_on = self.put_pump(rt, pump) || more;
+        self.hand_on(rt, goes_on, calls);
+        if goes_on {
             PumpEnd::GoesOn
         } else {
             PumpEnd::Rests
@@ -189,7 +180,7 @@ impl<'s, 't, 'p> Worker<'s, 't, 'p> {
     }
 
     /// The next request to the host of the node.
-    fn next_ask<R: Wait>(&self, rt: &R, cursor: &mut Cursor) -> Option<(u64, SharedBytes)> {
+    fn next_ask<R: Wait>(&self, rt: &R, cursor: &mut Cursor) -> Option<Ask> {
         if !self.shared.has_asks(self.n, cursor.entry) {
             return None;
         }
@@ -197,31 +188,111 @@ impl<'s, 't, 'p> Worker<'s, 't, 'p> {
         next_ask(station.trace(), cursor)
     }
 
-    /// Asks the host, with no lock held, and hands its answer to the station.
-    fn serve<H: Host, R: Wait>(&self, rt: &R, host: &H, ask: u64, bytes: &[u8], calls: &mut Calls) {
-        if let Ok(request) = decode(self.alloc, bytes) {
-            let code = host.authorize(&request);
-            let _ = self.apply(rt, Case::HostAnswer(ask, code), calls);
+    /// Applies the host's answer, with a turn of the pump where the host's thread has what that keeps and packets wait, and looks for the next
+    /// request, all under one lock. Says too whether packets were left on the rings.
+    fn answer_locked<R: Wait>(
+        &self,
+        rt: &R,
+        answer: Case,
+        pump: &mut Option<Pump>,
+        cursor: &mut Cursor,
+        calls: &mut Calls,
+    ) -> (bool, Option<Ask>) {
+        let mut station = self.station.lock(rt);
+        let _ = station.apply(Input::new(answer));
+        let more = match pump {
+            Some(pump) if !pump.is_over() && station.has_packets() => self.pump_turn(
+                &mut station,
+                pump,
+                calls,
+            ),
+            _ => {
+                self.shared.tell(self.alloc, self.n, &station, calls);
+                false
+            }
+        };
+        (more, next_ask(station.trace(), cursor))
+    }
+
+    /// Hands the host's answer to the station, and carries on what comes of it. Returns the next request to the host, where there is one by
+    /// then.
+    fn answer<R: Wait>(
+        &self,
+        rt: &R,
+        answer: Case,
+        cursor: &mut Cursor,
+        calls: &mut Calls,
+    ) -> Option<Ask> {
+        let mut pump = self.take_pump(rt);
+        let (more, next) = self.answer_locked(rt, answer, &mut pump, cursor, calls);
+        if next.is_some() {
+            // Meanwhile nobody else pumps here.
+            calls.tell(self.shared.clock());
         }
+        let goes_on = match pump {
+            Some(pump) => self.put_pump(rt, pump) || more,
+            None => false,
+        };
+        self.hand_on(rt, goes_on, calls);
+        if goes_on {
+            self.pump_on(rt, calls);
+        }
+        next
+    }
+
+    /// Pumps until nothing is left to do, and so many turns at most, behind which the node's pump wakes up. Called before the host is asked,
+    /// who may take his time.
+    fn pump_on<R: Wait>(&self, rt: &R, calls: &mut Calls) {
+        for _ in 0..MOST_PUMPED {
+            let Some(mut pump) = self.take_pump(rt) else {
+                return;
+            };
+            let more = pump.is_over() || self.pump_locked(rt, &mut pump, calls);
+            let goes_on = self.put_pump(rt, pump) || more;
+            calls.tell(self.shared.clock());
+            if !goes_on {
+                return;
+            }
+        }
+        self.shared.clock().tell(self.n);
+    }
+
+    /// Asks the host, with no lock held, and hands its answer to the station. Returns the next request to it, where there is one by then.
+    fn serve<H: Host, R: Wait>(
+        &self,
+        rt: &R,
+        host: &H,
+        ask: Ask,
+        cursor: &mut Cursor,
+        calls: &mut Calls,
+    ) -> Option<Ask> {
+        let request = decode(self.alloc, ask.bytes.as_slice()).ok()?;
+        let code = host.authorize(&request);
+        self.answer(rt, Case::HostAnswer(ask.number, code), cursor, calls)
     }
 
     fn serve_all<H: Host, R: Wait>(&self, rt: &R, host: &H) {
         let mut turns = Turns::new(self.plan.turns);
         let mut calls = Calls::none(self.alloc);
         let mut cursor = Cursor::at(0);
+        let mut next = None;
         for _ in 0..self.plan.turns {
             self.listen();
             if turns.are_over() || self.shared.is_over() {
                 break;
             }
             turns.pass(1);
-            match self.next_ask(rt, &mut cursor) {
-                Some((ask, bytes)) => self.serve(rt, host, ask, bytes.as_slice(), &mut calls),
+            if next.is_none() {
+                next = self.next_ask(rt, &mut cursor);
+            }
+            next = match next {
+                Some(ask) => self.serve(rt, host, ask, &mut cursor, &mut calls),
                 None => {
                     let passed = self.rest(rt, self.host_rest(&cursor, turns.left()));
                     turns.pass(passed);
+                    None
                 }
-            }
+            };
         }
     }
 

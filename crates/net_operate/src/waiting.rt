@@ -71,6 +71,13 @@ impl Cursor {
     }
 }
 
+/// A request to the host.
+#[derive(Drop)]
+pub(crate) struct Ask {
+    pub number: u64,
+    pub bytes: SharedBytes,
+}
+
 /// The first request to the host among an entry's outputs from a place on, and its place.
 fn asked(entry: &Entry, from: usize) -> Option<(usize, u64, &SharedBytes)> {
     for (place, output) in entry.outputs().as_slice().iter().enumerate().skip(from) {
@@ -94,12 +101,12 @@ fn answered<'e>(entry: &'e Entry, from: usize, wanted: &Wanted) -> Option<(usize
 }
 
 /// The next request to the host in a trace. The cursor moves behind it; where its bytes have too many owners, it stays before it.
-pub(crate) fn next_ask(trace: &[Entry], cursor: &mut Cursor) -> Option<(u64, SharedBytes)> {
+pub(crate) fn next_ask(trace: &[Entry], cursor: &mut Cursor) -> Option<Ask> {
     for k in cursor.entry..trace.len() {
-        if let Some((place, ask, bytes)) = asked(&trace[k], cursor.output) {
-            let shared = bytes.share().ok()?;
+        if let Some((place, number, bytes)) = asked(&trace[k], cursor.output) {
+            let bytes = bytes.share().ok()?;
             *cursor = Cursor::behind(k, place, trace[k].outputs().as_slice().len());
-            return Some((ask, shared));
+            return Some(Ask { number, bytes });
         }
         *cursor = Cursor::at(k + 1);
     }
