@@ -1,14 +1,14 @@
 //! The answer of `run`.
-ghost use Rattle.std.specs.Prelude.{◌≢◌, ◌⊎◌, map, Ok, IfOk};
+ghost use Rattle.std.specs.Prelude.{◌≡◌, ◌⊎◌, map, Ok, IfOk};
+ghost use Rattle.card_digits.specs.Lines.{lines};
 ghost use Rattle.net_tables.specs.Reading.{tables_in};
 ghost use Rattle.rank_cert.specs.Reading.{cert_in};
 ghost use Rattle.table_checker.specs.Rules.{first_refusal};
-ghost use Rattle.bundle_text.specs.declared.answer.Status.TheVariants.{Refused};
 ghost use Rattle.bundle_text.specs.Answers.{NamesMemory};
-ghost use Rattle.run_report.specs.Printed.{IsOfChecked, IsOfRead, IsOfParts, RunAnswers};
+ghost use Rattle.run_report.specs.Printed.{said_of, IsOfPlan, IsOfChecked, IsOfRead, IsOfParts, RunAnswers};
 
 use crate::fault_lines::run_fault_line;
-use crate::text_run::run_plan_text;
+use crate::text_run::{RunFault, run_plan_text};
 use bundle_text::{
     Answer, Status, cert_fault_line, check_memory_answer, fault_answer, parts, parts_fault,
     refused_answer, table_fault_line, without_carriage_returns,
@@ -21,6 +21,19 @@ use std::sync::Wait;
 use std::thread::Threads;
 use table_checker::{Accepted, Refusal, check};
 
+/// What is printed of a report, or of the fault for which there is none.
+fn said_of(alloc: Global, run: Result<String, RunFault>) -> Result<Answer, AllocError>
+    ensures { IfOk result (λ a. a ≡ said_of run) }
+{
+    match run {
+        Ok(report) => {
+            let line = format!(in alloc; "{report}\n")?;
+            Ok(Answer::new(line.into_bytes(), Status::Done))
+        }
+        Err(fault) => Ok(fault_answer(run_fault_line(alloc, fault)?)),
+    }
+}
+
 /// The report of a plan on accepted tables, or its fault.
 fn plan_answer<R: Threads + Wait + Sync>(
     rt: &R,
@@ -28,15 +41,9 @@ fn plan_answer<R: Threads + Wait + Sync>(
     accepted: &Accepted<'_>,
     plan: &[u8],
 ) -> Result<Answer, AllocError>
-    ensures { IfOk result (λ a. a.status ≢ Refused) }
+    ensures { IfOk result (IsOfPlan accepted.now (lines plan.now)) }
 {
-    match run_plan_text(rt, alloc, accepted, plan) {
-        Ok(report) => {
-            let line = format!(in alloc; "{report}\n")?;
-            Ok(Answer::new(line.into_bytes(), Status::Done))
-        }
-        Err(fault) => Ok(fault_answer(run_fault_line(alloc, fault)?)),
-    }
+    said_of(alloc, run_plan_text(rt, alloc, accepted, plan))
 }
 
 /// The answer to a plan on tables with their ranks.
@@ -47,7 +54,7 @@ fn checked_answer<R: Threads + Wait + Sync>(
     cert: &Cert,
     plan: &[u8],
 ) -> Result<Answer, AllocError>
-    ensures { IfOk result (λ a. IsOfChecked tables.now (first_refusal tables.now cert.now) a ⊎ NamesMemory a) }
+    ensures { IfOk result (λ a. IsOfChecked tables.now plan.now (first_refusal tables.now cert.now) a ⊎ NamesMemory a) }
 {
     match check(alloc, tables, cert) {
         Ok(accepted) => plan_answer(rt, alloc, &accepted, plan),
@@ -64,7 +71,7 @@ fn ranked_answer<R: Threads + Wait + Sync>(
     ranks: &[u8],
     plan: &[u8],
 ) -> Result<Answer, AllocError>
-    ensures { IfOk result (λ a. IsOfRead (Ok tables.now) (cert_in ranks.now) a ⊎ NamesMemory a) }
+    ensures { IfOk result (λ a. IsOfRead (Ok tables.now) (cert_in ranks.now) plan.now a ⊎ NamesMemory a) }
 {
     match read_cert(alloc, ranks) {
         Ok(cert) => checked_answer(rt, alloc, tables, &cert, plan),
@@ -80,7 +87,7 @@ fn read_answer<R: Threads + Wait + Sync>(
     ranks: &[u8],
     plan: &[u8],
 ) -> Result<Answer, AllocError>
-    ensures { IfOk result (λ a. IsOfRead (tables_in tables.now) (cert_in ranks.now) a ⊎ NamesMemory a) }
+    ensures { IfOk result (λ a. IsOfRead (tables_in tables.now) (cert_in ranks.now) plan.now a ⊎ NamesMemory a) }
 {
     match read_tables(alloc, tables) {
         Ok(tables) => ranked_answer(rt, alloc, &tables, ranks, plan),
