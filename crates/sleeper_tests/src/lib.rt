@@ -2,5 +2,6 @@
 //! itself, and finds too many turns.
 #![tactic(auto)]
 
+mod helping;
 mod passing;
 mod waking;

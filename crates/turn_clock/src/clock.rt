@@ -45,12 +45,28 @@ impl Sleeper {
         }
     }
 
+    /// Whether it wakes up by itself at this turn at the latest.
+    fn is_due(&self, turns: u64) -> bool {
+        self.due.load(Ordering::SeqCst) <= turns
+    }
+
     /// Goes from one state to another, unless it is in a third.
     fn exchange(&self, from: u64, to: u64) -> bool {
         self.state
             .compare_exchange(from, to, Ordering::SeqCst, Ordering::SeqCst)
             .is_ok()
     }
+}
+
+/// What became of turns that passed while all slept.
+#[derive(Clone, Copy)]
+enum Passed {
+    /// Nobody sleeps.
+    Nobody,
+    /// All who were due were woken up.
+    Woken,
+    /// Some are due whose work another does.
+    Helps,
 }
 
 /// How many turns have passed, and which threads of a plan sleep. A thread that has nothing to do sleeps until it is told of something,
@@ -120,17 +136,39 @@ impl TurnClock {
         }
     }
 
+    /// Whether the clock has come to the turn at which a thread wakes up by itself.
+    pub fn is_due(&self, thread: usize) -> bool {
+        match self.sleepers.get(thread) {
+            Some(sleeper) => sleeper.is_due(self.turns()),
+            None => false,
+        }
+    }
+
     /// Sleeps until the thread is told of something or it is due, and not at all where it was told between listening and this.
     pub fn sleep<R: Wait>(&self, rt: &R, thread: usize) {
+        let _ = self.sleep_or_help(rt, thread, 0);
+    }
+
+    /// The same for a thread that can do the work of the first so many in their place. Where turns pass and one of these is due, it doesn't
+    /// wake up: this returns true, and the caller does the work of each that is due, and says when it is due next.
+    pub fn sleep_or_help<R: Wait>(&self, rt: &R, thread: usize, helped: usize) -> bool {
         let Some(sleeper) = self.sleepers.get(thread) else {
-            return;
+            return false;
         };
         if !sleeper.exchange(AWAKE, ASLEEP) {
-            return;
+            return false;
         }
-        self.settle(rt);
+        let helps = self.settle(rt, helped);
+        if helps {
+            if sleeper.exchange(ASLEEP, AWAKE) {
+                return true;
+            }
+            // Who woke it up has counted it once more.
+            self.awake.fetch_sub(1, Ordering::SeqCst);
+        }
         // Who wakes it up leaves one token here, so it runs only once it is counted.
         sleeper.parker.park(rt);
+        helps
     }
 
     /// Sleeps until the thread is told of something or so many turns have passed, and says how many have: none where it was told between
@@ -149,13 +187,14 @@ impl TurnClock {
 
     /// A thread ends, and nobody waits for it any more.
     pub fn leave<R: Wait>(&self, rt: &R) {
-        self.settle(rt);
+        let _ = self.settle(rt, 0);
     }
 
-    /// One thread less is awake. Where none is, turns pass until one is; where none sleeps either, all have left.
-    fn settle<R: Wait>(&self, rt: &R) {
+    /// One thread less is awake. Where none is, turns pass until one is; where none sleeps either, all have left. Returns true where one of
+    /// the first so many is due: then whoever called this is still counted as awake.
+    fn settle<R: Wait>(&self, rt: &R, helped: usize) -> bool {
         if self.awake.fetch_sub(1, Ordering::SeqCst) != 1 {
-            return;
+            return false;
         }
         for _ in rt.forever() {
             // Whoever lets turns pass is counted, so nobody else does at the same time.
@@ -164,36 +203,47 @@ impl TurnClock {
                 .compare_exchange(0, 1, Ordering::SeqCst, Ordering::SeqCst)
                 .is_err()
             {
-                return;
+                return false;
             }
-            let woken = self.pass();
+            let passed = self.pass(helped);
+            if let Passed::Helps = passed {
+                return true;
+            }
             if self.awake.fetch_sub(1, Ordering::SeqCst) != 1 {
-                return;
+                return false;
             }
             // Somebody may have been told meanwhile, and sleep again.
-            if !woken && !self.has_sleeper() {
-                return;
+            if let Passed::Nobody = passed {
+                if !self.has_sleeper() {
+                    return false;
+                }
             }
         }
+        false
     }
 
-    /// Lets as many turns pass as the first of those waits for who sleep, and wakes all up who wait for no more. Says whether anybody
-    /// sleeps.
-    fn pass(&self) -> bool {
+    /// Lets as many turns pass as the first of those waits for who sleep, and wakes all up who wait for no more, but for the first so many.
+    fn pass(&self, helped: usize) -> Passed {
         let mut first = None;
         for sleeper in self.sleepers.iter() {
             first = sooner(first, sleeper.due());
         }
         let Some(turns) = first else {
-            return false;
+            return Passed::Nobody;
         };
         self.turns.fetch_max(turns, Ordering::SeqCst);
-        for sleeper in self.sleepers.iter() {
-            if sleeper.due.load(Ordering::SeqCst) <= turns {
+        let mut passed = Passed::Woken;
+        for (thread, sleeper) in self.sleepers.iter().enumerate() {
+            if !sleeper.is_asleep() || !sleeper.is_due(turns) {
+                continue;
+            }
+            if thread < helped {
+                passed = Passed::Helps;
+            } else {
                 self.wake(sleeper);
             }
         }
-        true
+        passed
     }
 
     fn has_sleeper(&self) -> bool {
