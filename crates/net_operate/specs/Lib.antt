@@ -1,6 +1,3 @@
-pub mod Calls
 pub mod Cursors
 pub mod Hearing
-pub mod Pumps
 pub mod Sessions
-pub mod Turns

@@ -1,15 +1,15 @@
 //! Nodes, hosts and sessions as threads.
 #![tactic(auto)]
 
-mod calls;
+mod acquirers;
 mod fitting;
 mod hearing;
 mod news;
-mod pumps;
+mod pumping;
 mod running;
 mod search;
-mod threads;
-mod turns;
+mod serving;
 mod waiting;
+mod worker;
 
 pub use running::{Host, OperateFault, operate};

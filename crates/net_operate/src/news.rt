@@ -4,12 +4,12 @@ ghost use Rattle.std.specs.Prelude.{◌≡◌, nat_lt};
 #[cfg(test)]
 mod tests;
 
-use crate::calls::Calls;
 use crate::fitting::key_in;
-use crate::hearing::{Hearer, ThreadNumbers, who_hears};
-use crate::pumps::{Pump, PumpPlace};
+use crate::hearing::{Hearer, who_hears};
+use crate::serving::Service;
 use card_digits::{Key, NodeNo};
 use net_threads::Station;
+use plan_threads::{Calls, Pump, Shelf, ThreadNumbers};
 use run_plan::Plan;
 use std::alloc::{AllocError, Global};
 use std::sync::atomic::{AtomicBool, AtomicU64, Ordering};
@@ -67,7 +67,13 @@ struct News {
     /// The places of its sessions in the plan.
     sessions: Vec<usize>,
     /// Where what its pump keeps lies while nobody pumps.
-    pump: Mutex<PumpPlace>,
+    pump: Mutex<Shelf<Pump>>,
+    /// Where what is kept of its host lies while nobody asks it.
+    service: Mutex<Shelf<Service>>,
+    /// How many threads of the plan have its station, wait for it, or have just given it back.
+    visitors: AtomicU64,
+    /// Somebody wanted to make a turn there while another had the station, and nobody has seen to it since.
+    missed: AtomicBool,
 }
 
 /// What the threads tell each other beside the stations.
@@ -115,7 +121,10 @@ fn nodes_of(alloc: Global, count: usize, plan: &Plan<'_>) -> Result<Vec<News>, A
             told: AtomicU64::new(0),
             asked: AtomicU64::new(0),
             sessions: Vec::new(alloc),
-            pump: Mutex::new(PumpPlace::empty()),
+            pump: Mutex::new(Shelf::empty()),
+            service: Mutex::new(Shelf::empty()),
+            visitors: AtomicU64::new(0),
+            missed: AtomicBool::new(false),
         })?;
     }
     for (place, session) in plan.sessions.iter().enumerate() {
@@ -209,7 +218,7 @@ impl Shared {
         }
     }
 
-    /// Whether the pump and the host of a node have ended, so that nothing comes any more.
+    /// Whether the pump and the host of a node have ended, so that no session there waits any longer.
     pub(crate) fn is_idle(&self, n: usize) -> bool {
         match self.nodes.get(n) {
             Some(news) => news.working.load(Ordering::SeqCst) == 0,
@@ -226,6 +235,58 @@ impl Shared {
     pub(crate) fn put_pump<R: Wait>(&self, rt: &R, n: usize, pump: Pump) -> bool {
         match self.nodes.get(n) {
             Some(news) => news.pump.lock(rt).put(pump),
+            None => false,
+        }
+    }
+
+    /// Takes out what is kept of the host of the station at a place, unless somebody has it, who is noted to have been asked for it then.
+    pub(crate) fn take_service<R: Wait>(&self, rt: &R, n: usize) -> Option<Service> {
+        self.nodes.get(n)?.service.lock(rt).take()
+    }
+
+    /// Puts it back, and says whether somebody wanted it meanwhile.
+    pub(crate) fn put_service<R: Wait>(&self, rt: &R, n: usize, service: Service) -> bool {
+        match self.nodes.get(n) {
+            Some(news) => news.service.lock(rt).put(service),
+            None => false,
+        }
+    }
+
+    /// A thread of the plan has the station at a place, or waits for it.
+    pub(crate) fn comes(&self, n: usize) {
+        if let Some(news) = self.nodes.get(n) {
+            news.visitors.fetch_add(1, Ordering::SeqCst);
+        }
+    }
+
+    /// It has given it back, and looks from now on whether somebody missed it.
+    pub(crate) fn goes(&self, n: usize) {
+        if let Some(news) = self.nodes.get(n) {
+            news.visitors.fetch_sub(1, Ordering::SeqCst);
+        }
+    }
+
+    /// Whether a thread of the plan will yet look whether somebody missed the station at a place.
+    pub(crate) fn is_visited(&self, n: usize) -> bool {
+        match self.nodes.get(n) {
+            Some(news) => news.visitors.load(Ordering::SeqCst) > 0,
+            None => false,
+        }
+    }
+
+    /// Somebody wanted the station at a place, and another had it.
+    pub(crate) fn note_missed(&self, n: usize) {
+        if let Some(news) = self.nodes.get(n) {
+            news.missed.store(true, Ordering::SeqCst);
+        }
+    }
+
+    /// Whether that was noted, once for each time.
+    pub(crate) fn take_missed(&self, n: usize) -> bool {
+        match self.nodes.get(n) {
+            Some(news) => {
+                news.missed.load(Ordering::SeqCst) && news.missed.swap(false, Ordering::SeqCst)
+            }
             None => false,
         }
     }
@@ -277,7 +338,7 @@ impl Shared {
     ) {
         for output in entry.outputs().as_slice() {
             match who_hears(station.tables(), station.place(), output.way()) {
-                Hearer::Pump(node) => self.call_pump(node, calls),
+                Hearer::PumpOf(node) => self.call_pump(node, calls),
                 Hearer::Host => self.tell_host(n, place, calls),
                 Hearer::Sessions => self.tell_answer(alloc, n, place as u64, output.bytes(), calls),
                 Hearer::Nobody => {}
@@ -298,7 +359,7 @@ impl Shared {
                 .store((place as u64).saturating_add(1), Ordering::SeqCst);
         }
         if let Some(host) = self.threads.host(n) {
-            calls.add(host);
+            calls.add_host(host);
         }
     }
 
@@ -318,7 +379,7 @@ impl Shared {
             if let Some(awaited) = self.awaited.get(*session) {
                 if hash.is_none() || hash == Some(awaited.hash.load(Ordering::SeqCst)) {
                     awaited.add(place);
-                    calls.add(self.threads.session(*session));
+                    calls.add_session(self.threads.session(*session));
                 }
             }
         }

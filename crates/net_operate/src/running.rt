@@ -3,9 +3,12 @@ ghost use Rattle.std.specs.Prelude.{IfOk};
 ghost use Rattle.std.specs.List.{AllZip};
 ghost use Rattle.net_operate.specs.Sessions.{SessionFits};
 
+use crate::acquirers::{Acquirer, run_session};
 use crate::fitting::fitted;
 use crate::news::Shared;
-use crate::threads::{Acquirer, Worker, run_host, run_pump, run_session};
+use crate::pumping::run_pump;
+use crate::serving::run_host;
+use crate::worker::Worker;
 use iso_message::Message;
 use message_elements::Code;
 use net_threads::{Ended, LineEnd, Network, Station};
@@ -21,6 +24,12 @@ use thiserror::Error;
 pub trait Host {
     /// The response code to a request.
     fn authorize(&self, request: &Message) -> Code;
+
+    /// Whether the host answers at once and waits for nobody. Whoever makes the step that asks such a host puts the request to it himself;
+    /// any other is asked by a thread of its own, which may take its time.
+    fn answers_at_once(&self) -> bool {
+        false
+    }
 }
 
 /// Why a plan was not run to its end.
@@ -159,14 +168,17 @@ fn run_all<H: Host + Sync, R: Threads + Wait + Sync>(
                 let station = &stations[n];
                 let pump = pump_at(alloc, n, stations, station, plan, shared);
                 shared.starts(n);
-                if scope.spawn(move || run_pump(rt, pump)).is_err() {
+                if scope.spawn(move || run_pump(rt, pump, hosts)).is_err() {
                     shared.stop();
                     return Err(OperateFault::Thread);
                 }
                 if let (Some(host), Some(thread)) = (hosts.get(n), threads.host(n)) {
                     let server = Worker { thread, ..pump };
                     shared.starts(n);
-                    if scope.spawn(move || run_host(rt, server, host)).is_err() {
+                    if scope
+                        .spawn(move || run_host(rt, server, hosts, host))
+                        .is_err()
+                    {
                         shared.stop();
                         return Err(OperateFault::Thread);
                     }
@@ -176,7 +188,7 @@ fn run_all<H: Host + Sync, R: Threads + Wait + Sync>(
             for (place, session) in plan.sessions.iter().enumerate() {
                 let acquirer = acquirer_of(alloc, stations, plan, shared, place, session);
                 let Ok(child) = scope.spawn(move || {
-                    run_session(rt, alloc, acquirer, session, shared)
+                    run_session(rt, alloc, hosts, acquirer, session, shared)
                 }) else {
                     shared.stop();
                     return Err(OperateFault::Thread);
@@ -207,7 +219,9 @@ fn run_all<H: Host + Sync, R: Threads + Wait + Sync>(
 /// thread ends after the plan's turns at the latest, pumps and hosts as soon as all sessions have ended. A host is called with no
 /// lock held.
 ///
-/// A thread that has nothing to do sleeps, and whoever makes a step tells those whom its outputs concern. While anybody works, no turn
+/// A thread that has nothing to do sleeps. Whoever makes a step carries on what comes of it: he pumps at the other end of a link, and puts
+/// requests to hosts that answer at once, where no other does at that moment; he tells the sessions that have an answer, and the threads of
+/// other hosts. A thread that has more to do for itself leaves that to the threads that are there for it. While anybody works, no turn
 /// passes for those who sleep; one in which a pump works counts for it alone. Where all sleep, as many turns pass at once as the first of
 /// them waits for: those until a tick, until a packet that was held back is taken, or until a wait or the plan is over. Steps that others
 /// make by `step_at`, `pump_once` and `pump_with` of the network wake its node's pump. Another plan on the same network is not told of what

@@ -2,7 +2,7 @@
 //! turns of its plan, and have no answer then.
 use crate::lent::lent_on;
 use crate::network::{ranks, tables};
-use crate::plans::{HUNDRED, ONE, Run, are_all_answered, outcome_of};
+use crate::plans::{APPROVING, HUNDRED, ONE, Run, are_all_answered, outcome_of};
 use net_threads::Verdict;
 use sample_networks::Sample;
 use std::alloc::Global;
@@ -12,13 +12,17 @@ use std::thread::Threads;
 
 const TIMES: usize = 100;
 
+/// So often with the hosts that approve in turn.
+const TIMES_OF_BOTH: usize = 200;
+
 /// Three requests over two links, which the host approves.
 const THREE: Run = Run {
     requests: 3,
     ..HUNDRED
 };
 
-/// How many of so many runs go as they should, up to the first that doesn't: each request gets its code, and a host is asked so often.
+/// How many of so many runs with each host that approves go as they should, up to the first that doesn't: each request gets its code, and a
+/// host is asked so often.
 fn count_answered<R: Threads + Wait + Sync>(
     rt: &R,
     alloc: Global,
@@ -26,8 +30,9 @@ fn count_answered<R: Threads + Wait + Sync>(
     asks: usize,
 ) -> Result<usize, Fail> {
     let mut count: usize = 0;
-    for _ in 0..TIMES {
-        if !are_all_answered(rt, alloc, run, asks)? {
+    for n in 0..TIMES_OF_BOTH {
+        let host = APPROVING[n % 2];
+        if !are_all_answered(rt, alloc, Run { host, ..run }, asks)? {
             break;
         }
         count = count.saturating_add(1);
@@ -37,7 +42,7 @@ fn count_answered<R: Threads + Wait + Sync>(
 
 #[test]
 fn good_links(rt: HostRuntime) -> Result<(), Fail> {
-    assert_eq!(rt; count_answered(&rt, rt.alloc(), THREE, 3)?, TIMES);
+    assert_eq!(rt; count_answered(&rt, rt.alloc(), THREE, 3)?, TIMES_OF_BOTH);
     Ok(())
 }
 
@@ -48,7 +53,7 @@ fn links_that_delay(rt: HostRuntime) -> Result<(), Fail> {
         head: "PLAN 1\nturns 50000000\ntick_every 0\ndelay AB 1 3\ndelay BH 2 100\n",
         ..THREE
     };
-    assert_eq!(rt; count_answered(&rt, rt.alloc(), run, 3)?, TIMES);
+    assert_eq!(rt; count_answered(&rt, rt.alloc(), run, 3)?, TIMES_OF_BOTH);
     Ok(())
 }
 
@@ -58,7 +63,7 @@ fn links_that_repeat(rt: HostRuntime) -> Result<(), Fail> {
         head: "PLAN 1\nturns 50000000\ntick_every 0\nrepeat AB 1\nrepeat BH 1\n",
         ..THREE
     };
-    assert_eq!(rt; count_answered(&rt, rt.alloc(), run, 3)?, TIMES);
+    assert_eq!(rt; count_answered(&rt, rt.alloc(), run, 3)?, TIMES_OF_BOTH);
     Ok(())
 }
 
@@ -69,8 +74,9 @@ fn delays_longer_than_ticks(rt: HostRuntime) -> Result<(), Fail> {
         head: "PLAN 1\nturns 50000000\ntick_every 7\ndelay AB 1 10\ndelay BH 2 20\n",
         ..THREE
     };
-    for _ in 0..TIMES {
-        let outcome = outcome_of(&rt, rt.alloc(), run)?;
+    for n in 0..TIMES_OF_BOTH {
+        let host = APPROVING[n % 2];
+        let outcome = outcome_of(&rt, rt.alloc(), Run { host, ..run })?;
         assert_eq!(rt; (outcome.lines, outcome.silent), (3, 0));
         assert_eq!(rt; outcome.verdict, Verdict::Linked);
     }
@@ -91,14 +97,17 @@ fn lost_without_ticks(rt: HostRuntime) -> Result<(), Fail> {
     Ok(())
 }
 
-/// Each request wakes the pumps of three nodes, a host and its session, so that each is woken two thousand times.
+/// Each request goes by the pumps of three nodes, a host and its session.
 #[test]
 fn two_thousand_requests(rt: HostRuntime) -> Result<(), Fail> {
-    let run = Run {
-        requests: 2_000,
-        ..HUNDRED
-    };
-    assert!(rt; are_all_answered(&rt, rt.alloc(), run, 2_000)?);
+    for host in APPROVING {
+        let run = Run {
+            requests: 2_000,
+            host,
+            ..HUNDRED
+        };
+        assert!(rt; are_all_answered(&rt, rt.alloc(), run, 2_000)?);
+    }
     Ok(())
 }
 
@@ -110,7 +119,7 @@ fn a_link_that_loses_all(rt: HostRuntime) -> Result<(), Fail> {
         code: *b"91",
         ..ONE
     };
-    assert_eq!(rt; count_answered(&rt, rt.alloc(), run, 0)?, TIMES);
+    assert_eq!(rt; count_answered(&rt, rt.alloc(), run, 0)?, TIMES_OF_BOTH);
     Ok(())
 }
 
@@ -121,8 +130,9 @@ fn bad_links(rt: HostRuntime) -> Result<(), Fail> {
         head: "PLAN 1\nturns 50000000\ntick_every 20\nlose AB 4\ndelay AB 3 5\nrepeat BH 2\n",
         ..THREE
     };
-    for _ in 0..TIMES {
-        let outcome = outcome_of(&rt, rt.alloc(), run)?;
+    for n in 0..TIMES_OF_BOTH {
+        let host = APPROVING[n % 2];
+        let outcome = outcome_of(&rt, rt.alloc(), Run { host, ..run })?;
         assert_eq!(rt; outcome.lines, 3);
         assert_eq!(rt; outcome.silent, 0);
         assert!(rt; outcome.asks <= 3);
@@ -142,10 +152,11 @@ fn few_turns(rt: HostRuntime) -> Result<(), Fail> {
         head: "PLAN 1\nturns 3\ntick_every 2\ndelay AB 1 2\n",
         ..THREE
     };
-    for _ in 0..TIMES {
-        let short = outcome_of(&rt, rt.alloc(), one)?;
+    for n in 0..TIMES_OF_BOTH {
+        let host = APPROVING[n % 2];
+        let short = outcome_of(&rt, rt.alloc(), Run { host, ..one })?;
         assert_eq!(rt; (short.lines, short.verdict), (3, Verdict::Linked));
-        let longer = outcome_of(&rt, rt.alloc(), three)?;
+        let longer = outcome_of(&rt, rt.alloc(), Run { host, ..three })?;
         assert_eq!(rt; (longer.lines, longer.verdict), (3, Verdict::Linked));
     }
     Ok(())

@@ -1,7 +1,7 @@
 //! Plans with many sessions at one node, on both sides of the number from which their answers are found by an index, and a plan on a
 //! network whose stations changed places.
 use crate::network::ranks;
-use crate::plans::Always;
+use crate::plans::{APPROVING, Always};
 use crate::verdicts::swap;
 use card_digits::NodeNo;
 use net_operate::operate;
@@ -17,8 +17,8 @@ use std::test::Fail;
 use std::thread::Threads;
 use table_checker::{Accepted, check};
 
-/// How often each plan runs.
-const TIMES: usize = 20;
+/// How often each plan runs, with the hosts that approve in turn.
+const TIMES_OF_BOTH: usize = 40;
 
 /// Its acquirer is the gate of the home.
 const AT_HOME: u32 = 600_000;
@@ -110,17 +110,24 @@ fn count_answers(ended: &Ended) -> usize {
     count
 }
 
+/// How a plan is run, and who the hosts are.
+#[derive(Clone, Copy)]
+struct Trial {
+    way: Way,
+    host: Always,
+}
+
 /// How many lines were answered, and what the traces show.
 fn ran<R: Threads + Wait + Sync>(
     rt: &R,
     alloc: Global,
     accepted: &Accepted<'_>,
     plan: &Plan<'_>,
-    way: Way,
+    trial: Trial,
 ) -> Option<(usize, Verdict)> {
-    let hosts = [Always::Approves; 2];
+    let hosts = [trial.host; 2];
     let network = Network::new(alloc, accepted).ok()?;
-    match way {
+    match trial.way {
         Way::Once => {}
         Way::Again => {
             let _ = operate(rt, alloc, &network, plan, &hosts).ok()?;
@@ -140,10 +147,10 @@ fn ran_by_plan<R: Threads + Wait + Sync>(
     tables: &Tables,
     accepted: &Accepted<'_>,
     plan: &str,
-    way: Way,
+    trial: Trial,
 ) -> Option<(usize, Verdict)> {
     match read_plan(alloc, tables, plan.as_bytes()) {
-        Ok(plan) => ran(rt, alloc, accepted, &plan, way),
+        Ok(plan) => ran(rt, alloc, accepted, &plan, trial),
         Err(_) => None,
     }
 }
@@ -154,10 +161,10 @@ fn ran_on<R: Threads + Wait + Sync>(
     tables: &Tables,
     cert: &Cert,
     plan: &str,
-    way: Way,
+    trial: Trial,
 ) -> Option<(usize, Verdict)> {
     match check(alloc, tables, cert) {
-        Ok(accepted) => ran_by_plan(rt, alloc, tables, &accepted, plan, way),
+        Ok(accepted) => ran_by_plan(rt, alloc, tables, &accepted, plan, trial),
         Err(_) => None,
     }
 }
@@ -167,10 +174,10 @@ fn ran_on_tables<R: Threads + Wait + Sync>(
     alloc: Global,
     tables: &Tables,
     plan: &str,
-    way: Way,
+    trial: Trial,
 ) -> Result<Option<(usize, Verdict)>, Fail> {
     match ranks(alloc, Sample::TwoNodes) {
-        Ok(cert) => Ok(ran_on(rt, alloc, tables, &cert, plan, way)),
+        Ok(cert) => Ok(ran_on(rt, alloc, tables, &cert, plan, trial)),
         Err(fail) => Err(fail),
     }
 }
@@ -180,11 +187,11 @@ fn ran_on_text<R: Threads + Wait + Sync>(
     alloc: Global,
     sessions: u32,
     plan: &str,
-    way: Way,
+    trial: Trial,
 ) -> Result<Option<(usize, Verdict)>, Fail> {
     let text = tables_text(alloc, sessions)?;
     match read_tables(alloc, text.as_bytes()) {
-        Ok(tables) => ran_on_tables(rt, alloc, &tables, plan, way),
+        Ok(tables) => ran_on_tables(rt, alloc, &tables, plan, trial),
         Err(_) => Err("tables".into()),
     }
 }
@@ -198,8 +205,10 @@ fn are_all_answered<R: Threads + Wait + Sync>(
 ) -> Result<bool, Fail> {
     let plan = plan_text(alloc, sessions)?;
     let wanted = Some((sessions.saturating_mul(4) as usize, Verdict::Linked));
-    for _ in 0..TIMES {
-        if ran_on_text(rt, alloc, sessions, plan.as_str(), way)? != wanted {
+    for n in 0..TIMES_OF_BOTH {
+        let host = APPROVING[n % 2];
+        let trial = Trial { way, host };
+        if ran_on_text(rt, alloc, sessions, plan.as_str(), trial)? != wanted {
             return Ok(false);
         }
     }
@@ -224,12 +233,16 @@ fn twenty_sessions(rt: HostRuntime) -> Result<(), Fail> {
 fn sessions_that_overflow_a_ring(rt: HostRuntime) -> Result<(), Fail> {
     let alloc = rt.alloc();
     let plan = plan_text(alloc, 200)?;
-    let Some((answers, verdict)) = ran_on_text(&rt, alloc, 200, plan.as_str(), Way::Once)? else {
-        return Err("not run".into());
-    };
-    assert!(rt; answers > 0);
-    assert!(rt; answers <= 800);
-    assert_eq!(rt; verdict, Verdict::Linked);
+    for host in APPROVING {
+        let way = Way::Once;
+        let trial = Trial { way, host };
+        let Some((answers, verdict)) = ran_on_text(&rt, alloc, 200, plan.as_str(), trial)? else {
+            return Err("not run".into());
+        };
+        assert!(rt; answers > 0);
+        assert!(rt; answers <= 800);
+        assert_eq!(rt; verdict, Verdict::Linked);
+    }
     Ok(())
 }
 
@@ -245,8 +258,12 @@ fn sessions_on_a_network_that_ran(rt: HostRuntime) -> Result<(), Fail> {
 fn stations_that_changed_places_answer(rt: HostRuntime) -> Result<(), Fail> {
     let alloc = rt.alloc();
     let plan = strange_text(alloc)?;
-    let seen = ran_on_text(&rt, alloc, 1, plan.as_str(), Way::Swapped)?;
     let strange = Verdict::StationStrange(NodeNo::new(0));
-    assert_eq!(rt; seen, Some((1, strange)));
+    for host in APPROVING {
+        let way = Way::Swapped;
+        let trial = Trial { way, host };
+        let seen = ran_on_text(&rt, alloc, 1, plan.as_str(), trial)?;
+        assert_eq!(rt; seen, Some((1, strange)));
+    }
     Ok(())
 }

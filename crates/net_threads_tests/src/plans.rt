@@ -23,17 +23,26 @@ use table_checker::{Accepted, check};
 #[derive(Clone, Copy)]
 pub(crate) enum Always {
     Approves,
+    /// And whoever makes the step may ask it.
+    ApprovesAtOnce,
     Declines,
 }
 
 impl Host for Always {
     fn authorize(&self, _request: &Message) -> Code {
         match self {
-            Always::Approves => Code::new(*b"00"),
+            Always::Approves | Always::ApprovesAtOnce => Code::new(*b"00"),
             Always::Declines => Code::new(*b"05"),
         }
     }
+
+    fn answers_at_once(&self) -> bool {
+        matches!(self, Always::ApprovesAtOnce)
+    }
 }
+
+/// Hosts that approve: those that threads of their own ask, and those that others ask too.
+pub(crate) const APPROVING: [Always; 2] = [Always::Approves, Always::ApprovesAtOnce];
 
 /// What a line of a session ended with.
 #[derive(Clone, Copy, Debug, PartialEq, Eq)]

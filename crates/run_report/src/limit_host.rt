@@ -1,5 +1,5 @@
 //! A host that approves up to an amount.
-ghost use Rattle.std.specs.Prelude.{◌≡◌};
+ghost use Rattle.std.specs.Prelude.{◌≡◌, true};
 ghost use Rattle.run_report.specs.Hosts.{is_within, limit_code};
 
 use card_digits::Amount;
@@ -35,5 +35,11 @@ impl Host for LimitHost {
         } else {
             Code::new(*b"05")
         }
+    }
+
+    fn answers_at_once(&self) -> bool
+        ensures { result ≡ true }
+    {
+        true
     }
 }

@@ -1,9 +1,9 @@
 //! Who hears of an answer.
-use crate::calls::Calls;
 use crate::news::Shared;
 use card_digits::{Key, NodeNo};
 use iso_message::decode;
 use message_keys::key_of;
+use plan_threads::Calls;
 use run_plan::{Faults, Plan, Session};
 use std::alloc::{AllocError, Global};
 use std::test::Fail;

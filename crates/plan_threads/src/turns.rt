@@ -1,53 +1,70 @@
 //! The turns that a thread makes, and those that pass while it sleeps.
 ghost use Rattle.std.specs.Prelude.{◌≡◌, ◌≤◌, ◌<◌, ◌+◌, ◌-◌, ◌^◌, ◌==◌, min, nat_le, IfSome, if◌then◌else◌};
-ghost use Rattle.net_operate.specs.Turns.{turns_to_tick, turns_to_event};
+ghost use Rattle.plan_threads.specs.Turns.{turns_to_tick, turns_to_event};
 
+use std::marker::Model;
 use turn_clock::sooner;
 
-/// The turns that a host or a session has left.
-#[derive(Clone, Copy)]
-pub(crate) struct Turns {
+/// The turns that a session has left.
+#[derive(Drop)]
+pub struct Turns {
     left: u64,
 }
 
+impl Model for Turns {
+    ghost use Rattle.std.specs.Prelude.{ℕ};
+
+    ghost Value = { ℕ };
+
+    ghost view = { λ t. t.left };
+}
+
 impl Turns {
-    pub(crate) fn new(turns: u64) -> Turns
-        ensures { result ≡ record { left = turns } }
+    pub fn new(turns: u64) -> Turns
+        ensures { result ≡ turns }
     {
         Turns { left: turns }
     }
 
-    pub(crate) fn left(&self) -> u64
-        ensures { result ≡ self.now.left }
+    pub fn left(&self) -> u64
+        ensures { result ≡ self.now }
     {
         self.left
     }
 
-    pub(crate) fn are_over(&self) -> bool
-        ensures { result ≡ nat_le self.now.left 0 }
+    pub fn are_over(&self) -> bool
+        ensures { result ≡ nat_le self.now 0 }
     {
         self.left == 0
     }
 
     /// So many turns pass.
-    pub(crate) fn pass(&mut self, turns: u64)
-        ensures { self.new ≡ record { left = self.old.left - turns } }
+    pub fn pass(&mut self, turns: u64)
+        ensures { self.new ≡ self.old - turns }
     {
         self.left = self.left.saturating_sub(turns);
     }
 }
 
 /// The turns that a pump has left, and those until its node's next tick.
-#[derive(Clone, Copy)]
-pub(crate) struct PumpTurns {
+#[derive(Drop)]
+pub struct PumpTurns {
     left: u64,
     /// None where this is 0.
     tick_every: u64,
     since_tick: u64,
 }
 
+impl Model for PumpTurns {
+    ghost use Rattle.plan_threads.specs.Turns.{PumpTurnsView};
+
+    ghost Value = { PumpTurnsView };
+
+    ghost view = { λ t. record { left = t.left; tick_every = t.tick_every; since_tick = t.since_tick } };
+}
+
 impl PumpTurns {
-    pub(crate) fn new(turns: u64, tick_every: u64) -> PumpTurns
+    pub fn new(turns: u64, tick_every: u64) -> PumpTurns
         ensures { result ≡ record { left = turns; tick_every = tick_every; since_tick = 0 } }
     {
         PumpTurns {
@@ -57,7 +74,7 @@ impl PumpTurns {
         }
     }
 
-    pub(crate) fn are_over(&self) -> bool
+    pub fn are_over(&self) -> bool
         ensures { result ≡ nat_le self.now.left 0 }
     {
         self.left == 0
@@ -74,7 +91,7 @@ impl PumpTurns {
     }
 
     /// After how many turns something happens, where a packet that was held back is taken after so many.
-    pub(crate) fn to_event(&self, held: Option<u64>) -> u64
+    pub fn to_event(&self, held: Option<u64>) -> u64
         ensures event { result ≡ turns_to_event self.now held }
         // Nothing sooner is passed over: no packet, no tick and not the end.
         ensures held { IfSome held (λ turns. result ≤ turns) }
@@ -88,7 +105,7 @@ impl PumpTurns {
     }
 
     /// So many turns pass in which nothing happens.
-    pub(crate) fn pass(&mut self, turns: u64)
+    pub fn pass(&mut self, turns: u64)
         ensures left { self.new.left ≡ self.old.left - turns }
         ensures tick_every { self.new.tick_every ≡ self.old.tick_every }
         ensures since_tick { self.new.since_tick ≡ min (self.old.since_tick + turns) (2 ^ 64 - 1) }
@@ -98,7 +115,7 @@ impl PumpTurns {
     }
 
     /// A turn in which the pump works; says whether a tick comes behind it.
-    pub(crate) fn next(&mut self) -> bool
+    pub fn next(&mut self) -> bool
         ensures ticks { result ≡ (min (self.old.since_tick + 1) (2 ^ 64 - 1) == self.old.tick_every) }
         ensures left { self.new.left ≡ self.old.left - 1 }
         ensures tick_every { self.new.tick_every ≡ self.old.tick_every }
@@ -115,7 +132,7 @@ impl PumpTurns {
 
 /// Of the turns that passed while a pump waited for what happens after so many, those in which nothing happened: in the last one it
 /// does.
-pub(crate) fn idle(passed: u64, event: u64) -> u64
+pub fn idle(passed: u64, event: u64) -> u64
     ensures { result ≡ min passed (event - 1) }
 {
     passed.min(event.saturating_sub(1))

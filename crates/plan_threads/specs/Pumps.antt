@@ -1,8 +1,8 @@
 -- What is counted of a pump once turns have passed.
 use Rattle.std.specs.Prelude.{ℕ, ◌-◌, min}
 use Rattle.link_rings.specs.Held.{turns_to_due}
-use Rattle.net_operate.specs.Turns.{turns_to_event}
-use Rattle.net_operate.specs.declared.pumps.Pump.{Pump}
+use Rattle.plan_threads.specs.Turns.{turns_to_event}
+use Rattle.plan_threads.specs.declared.pumps.Pump.{Pump}
 
 -- after how many turns something happens
 abbrev pub turns_ahead : Pump → ℕ

@@ -1,23 +1,23 @@
-//! What a pump keeps between its turns, and whoever pumps in its place takes out.
-ghost use Rattle.std.specs.Prelude.{◌≡◌, ◌-◌, ◌==◌, nat_le, None, Some, false};
-ghost use Rattle.std.specs.Option.{is_none};
+//! What a pump keeps between its turns.
+ghost use Rattle.std.specs.Prelude.{◌≡◌, ◌-◌, ◌==◌, nat_le};
 ghost use Rattle.link_rings.specs.Held.{later};
-ghost use Rattle.net_operate.specs.Pumps.{turns_ahead, idle_turns};
+ghost use Rattle.plan_threads.specs.Pumps.{turns_ahead, idle_turns};
 
 use crate::turns::{PumpTurns, idle};
 use link_rings::Held;
 
 /// What a pump keeps between its turns.
 #[derive(Drop)]
-pub(crate) struct Pump {
-    turns: PumpTurns,
+pub struct Pump {
+    pub turns: PumpTurns,
+    /// The packets that are held back.
     pub held: Held,
     /// The turns of the clock up to which those of the pump are counted.
-    counted: u64,
+    pub counted: u64,
 }
 
 impl Pump {
-    pub(crate) fn new(turns: PumpTurns, held: Held, now: u64) -> Pump
+    pub fn new(turns: PumpTurns, held: Held, now: u64) -> Pump
         ensures { result ≡ record { turns = turns; held = held; counted = now } }
     {
         Pump {
@@ -27,7 +27,7 @@ impl Pump {
         }
     }
 
-    pub(crate) fn is_over(&self) -> bool
+    pub fn is_over(&self) -> bool
         ensures { result ≡ nat_le self.now.turns.left 0 }
     {
         self.turns.are_over()
@@ -40,14 +40,14 @@ impl Pump {
     }
 
     /// The turn of the clock at which something happens: a tick, a packet that was held back is taken, or the turns are over.
-    pub(crate) fn due(&self) -> u64
+    pub fn due(&self) -> u64
         ensures { result ≡ later self.now.counted (turns_ahead self.now) }
     {
         self.counted.saturating_add(self.turns_ahead())
     }
 
     /// Counts the turns of the clock in which nothing happened.
-    pub(crate) fn catch_up(&mut self, now: u64)
+    pub fn catch_up(&mut self, now: u64)
         ensures left { self.new.turns.left ≡ self.old.turns.left - idle_turns now self.old }
         ensures since_tick { self.new.turns.since_tick ≡ later self.old.turns.since_tick (idle_turns now self.old) }
         ensures tick_every { self.new.turns.tick_every ≡ self.old.turns.tick_every }
@@ -62,49 +62,10 @@ impl Pump {
     }
 
     /// A turn in which the pump works; says whether a tick comes behind it.
-    pub(crate) fn next_turn(&mut self) -> bool
+    pub fn next_turn(&mut self) -> bool
         ensures ticks { result ≡ (later self.old.turns.since_tick 1 == self.old.turns.tick_every) }
         ensures left { self.new.turns.left ≡ self.old.turns.left - 1 }
     {
         self.turns.next()
-    }
-}
-
-/// Where what a pump keeps lies while nobody pumps.
-#[derive(Drop)]
-pub(crate) struct PumpPlace {
-    pump: Option<Pump>,
-    /// Somebody wanted it while it was taken out.
-    noted: bool,
-}
-
-impl PumpPlace {
-    pub(crate) fn empty() -> PumpPlace
-        ensures { result ≡ record { pump = None; noted = false } }
-    {
-        PumpPlace {
-            pump: None,
-            noted: false,
-        }
-    }
-
-    /// Takes out what lies there. Where nothing does, that is noted for whoever has it.
-    pub(crate) fn take(&mut self) -> Option<Pump>
-        ensures taken { result ≡ self.old.pump }
-        ensures left { self.new.pump ≡ None }
-        ensures noted { self.new.noted ≡ is_none self.old.pump }
-    {
-        let pump = self.pump.take();
-        self.noted = pump.is_none();
-        pump
-    }
-
-    /// Puts it back, and says whether somebody wanted it meanwhile.
-    pub(crate) fn put(&mut self, pump: Pump) -> bool
-        ensures kept { self.new.pump ≡ Some pump }
-        ensures noted { result ≡ self.old.noted }
-    {
-        self.pump = Some(pump);
-        self.noted
     }
 }

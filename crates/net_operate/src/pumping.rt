@@ -1,0 +1,120 @@
+//! Pumps: who takes packets off the rings of a node.
+
+use crate::running::Host;
+use crate::worker::{Locking, Turn, Worker};
+use link_rings::Held;
+use net_threads::Station;
+use plan_threads::{Calls, Pump, PumpTurns};
+use std::sync::Wait;
+use switch_node::{Case, Input};
+
+impl<'s, 't, 'p> Worker<'s, 't, 'p> {
+    /// Takes out what the pump of the node keeps, unless somebody has it, and counts the turns that have passed.
+    fn take_pump<R: Wait>(&self, rt: &R) -> Option<Pump> {
+        let mut pump = self.shared.take_pump(rt, self.n)?;
+        pump.catch_up(self.shared.clock().turns());
+        Some(pump)
+    }
+
+    /// Puts it back, and says whether somebody wanted it meanwhile. From here on the node's pump wakes up by itself when something happens.
+    fn put_pump<R: Wait>(&self, rt: &R, pump: Pump) -> bool {
+        self.shared.clock().set_due(self.n, pump.due());
+        self.shared.put_pump(rt, self.n, pump)
+    }
+
+    /// A turn of the pump, with the tick that comes behind it; says whether packets were left on the rings.
+    fn pump_turn(&self, station: &mut Station<'_>, pump: &mut Pump, calls: &mut Calls) -> bool {
+        station.pump_by(&self.plan.faults, &mut pump.held);
+        let more = station.has_packets();
+        if pump.next_turn() {
+            let _ = station.apply(Input::new(Case::Tick));
+        }
+        self.shared.tell(self.alloc, self.n, station, calls);
+        more
+    }
+
+    /// The same where there is a turn left and the station is to be had.
+    fn try_pump<R: Wait>(
+        &self,
+        rt: &R,
+        locking: Locking,
+        pump: &mut Pump,
+        calls: &mut Calls,
+    ) -> Turn {
+        if pump.is_over() {
+            return Turn::Over;
+        }
+        match self.try_station(rt, locking) {
+            Some(mut station) => Turn::made(self.pump_turn(&mut station, pump, calls)),
+            None => Turn::Locked,
+        }
+    }
+
+    fn pump<R: Wait>(&self, rt: &R, locking: Locking, pump: &mut Pump, calls: &mut Calls) -> Turn {
+        let turn = self.try_pump(rt, locking, pump, calls);
+        if let Turn::Done | Turn::More = turn {
+            self.leave_station(calls);
+        }
+        turn
+    }
+
+    /// Pumps a turn in the place of the node's pump, and waits for no station. Where somebody pumps there already, that one sees to it.
+    pub(crate) fn pump_for_other<R: Wait>(&self, rt: &R, calls: &mut Calls) {
+        let Some(mut pump) = self.take_pump(rt) else {
+            return;
+        };
+        let turn = self.pump(rt, Locking::GoesOn, &mut pump, calls);
+        let wanted = self.put_pump(rt, pump);
+        match turn.or_more(wanted) {
+            Turn::Done => {}
+            Turn::More => calls.add_pump(self.n),
+            Turn::Locked => self.miss(self.n, calls),
+            Turn::Over => self.shared.clock().tell(self.n),
+        }
+    }
+
+    /// A turn of the node's pump. Where another pumps in its place, that one sees to it.
+    fn pump_own<H: Host, R: Wait>(&self, rt: &R, hosts: &[H], calls: &mut Calls) -> Turn {
+        let Some(mut pump) = self.take_pump(rt) else {
+            return Turn::Done;
+        };
+        let turn = self.pump(rt, Locking::Waits, &mut pump, calls);
+        if let Turn::Over = turn {
+            return turn;
+        }
+        let wanted = self.put_pump(rt, pump);
+        let turn = turn.or_more(wanted);
+        self.hand_on(rt, hosts, turn, calls);
+        turn
+    }
+
+    fn pump_all<H: Host, R: Wait>(&self, rt: &R, hosts: &[H]) {
+        let mut calls = Calls::none(self.alloc);
+        for _ in 0..self.plan.turns {
+            self.listen();
+            if self.shared.is_over() {
+                break;
+            }
+            match self.pump_own(rt, hosts, &mut calls) {
+                Turn::Done => self.sleep(rt, hosts, &mut calls),
+                Turn::More | Turn::Locked => {}
+                Turn::Over => break,
+            }
+        }
+    }
+}
+
+/// Pumps a station, with a tick after so many turns. It sleeps while nothing lies on its rings, no packet that was held back is due, and
+/// no tick.
+pub(crate) fn run_pump<H: Host, R: Wait>(rt: &R, worker: Worker<'_, '_, '_>, hosts: &[H]) {
+    let count = worker.station.lock(rt).count_in();
+    if let Ok(held) = Held::new(worker.alloc, count) {
+        let turns = PumpTurns::new(worker.plan.turns, worker.plan.tick_every);
+        let pump = Pump::new(turns, held, worker.shared.clock().turns());
+        let _ = worker.put_pump(rt, pump);
+        // Packets may lie there already.
+        worker.pump_all(rt, hosts);
+    }
+    worker.shared.ends(worker.n);
+    worker.shared.clock().leave(rt);
+}

@@ -1,0 +1,5 @@
+pub mod Calls
+pub mod Numbers
+pub mod Pumps
+pub mod Shelves
+pub mod Turns

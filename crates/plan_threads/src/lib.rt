@@ -1,0 +1,16 @@
+//! What the threads of a plan keep between their turns, and whom they tell of a step.
+#![tactic(auto)]
+
+mod calls;
+mod host_turns;
+mod numbers;
+mod pumps;
+mod shelf;
+mod turns;
+
+pub use calls::Calls;
+pub use host_turns::HostTurns;
+pub use numbers::ThreadNumbers;
+pub use pumps::Pump;
+pub use shelf::Shelf;
+pub use turns::{PumpTurns, Turns};
