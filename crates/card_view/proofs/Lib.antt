@@ -1,0 +1,4 @@
+pub mod Pairs
+pub mod Prefixes
+pub mod Pieces
+pub mod WayText

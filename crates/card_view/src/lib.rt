@@ -1,0 +1,17 @@
+//! What each node of a network does with one card, as text.
+#![tactic(auto)]
+
+mod answer;
+mod class;
+mod days;
+mod issuer;
+mod job;
+mod names;
+mod node;
+mod view;
+mod ways;
+
+pub use answer::view_answer;
+pub use class::class_of;
+pub use job::run_view;
+pub use view::CardView;

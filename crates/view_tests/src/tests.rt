@@ -1,0 +1,249 @@
+//! Whole inputs and what is printed for them.
+use card_digits::{Card, Counted};
+use card_view::run_view;
+use std::alloc::{AllocError, Global};
+use std::test::Fail;
+
+const TABLES: &str = r#"[network]
+currency = "840"
+date = "0314"
+host_ticks = 100
+advice_ticks = 50
+[[node]]
+name = "A"
+id = "1001"
+[[node]]
+name = "H"
+id = "1002"
+[[link]]
+name = "AH"
+ends = ["A", "H"]
+ticks = 3
+[[acquirer]]
+id = "400001"
+node = "A"
+[[issuer]]
+name = "I"
+prefix = "4"
+home = "H"
+named = []
+ceiling = 0
+[[route]]
+node = "A"
+prefix = "4"
+links = ["AH"]
+"#;
+
+const RANKS: &str = "RANKS 1\nA 4 1\nH 4 0\nEND\n";
+
+/// What is printed for a card and an input, and the status.
+fn view(alloc: Global, card: &[u8], input: &[u8]) -> Option<(Vec<u8>, u8)> {
+    let Ok(card) = Card::read(card) else {
+        return None;
+    };
+    let mut text: Vec<u8> = Vec::new(alloc);
+    let mut reader = Counted::reader(input);
+    let mut writer = Counted::writer(&mut text);
+    match run_view(alloc, &card, &mut reader, &mut writer) {
+        Ok(status) => Some((text, status)),
+        Err(_) => None,
+    }
+}
+
+/// A network in which A has two ways to H, rows of a longer prefix and limits of its own.
+const WIDE_TABLES: &str = r#"[network]
+currency = "840"
+date = "0314"
+host_ticks = 100
+advice_ticks = 50
+[[node]]
+name = "A"
+id = "1001"
+[[node]]
+name = "P"
+id = "1003"
+[[node]]
+name = "H"
+id = "1002"
+[[link]]
+name = "AP"
+ends = ["A", "P"]
+ticks = 9
+[[link]]
+name = "HA"
+ends = ["H", "A"]
+ticks = 3
+[[link]]
+name = "PH"
+ends = ["P", "H"]
+ticks = 3
+[[acquirer]]
+id = "400001"
+node = "A"
+[[acquirer]]
+id = "400002"
+node = "H"
+[[issuer]]
+name = "I"
+prefix = "4"
+home = "H"
+named = ["A", "P"]
+ceiling = 500
+[[route]]
+node = "A"
+prefix = "4"
+links = ["HA"]
+[[route]]
+node = "A"
+prefix = "411"
+links = ["AP", "HA"]
+[[route]]
+node = "P"
+prefix = "4"
+links = ["PH"]
+[[stand_in]]
+node = "A"
+prefix = "4"
+day = 300
+single = 200
+"#;
+
+const WIDE_RANKS: &str = "\
+RANKS 1
+A 4 2
+P 4 1
+H 4 0
+A 411 2
+P 411 1
+H 411 0
+END
+";
+
+/// Whether this is printed for a card and two parts, with this status.
+fn says(
+    alloc: Global,
+    card: &[u8],
+    tables: &str,
+    ranks: &str,
+    want: &str,
+    status: u8,
+) -> Result<bool, AllocError> {
+    let input = format!(in alloc; "{tables}%%\n{ranks}")?;
+    match view(alloc, card, input.as_bytes()) {
+        Some((text, ended)) => Ok(text.as_slice() == want.as_bytes() && ended == status),
+        None => Ok(false),
+    }
+}
+
+#[test]
+fn the_first_network(rt: HostRuntime) -> Result<(), Fail> {
+    let want = "\
+accepted
+class 4
+issuer I: PAN prefix 4; home H; ceiling 0; no named nodes
+node A: rank 1; route 4: AH to H; no stand-in
+node H (home): rank 0; no route; no stand-in
+sum of stand-in days 0; ceiling 0
+acquirer 400001 at A: AH to H; home
+";
+    assert!(rt; says(rt.alloc(), b"4111111111111111", TABLES, RANKS, want, 0)?);
+    Ok(())
+}
+
+#[test]
+fn the_longest_prefixes(rt: HostRuntime) -> Result<(), Fail> {
+    let want = "\
+accepted
+class 411
+issuer I: PAN prefix 4; home H; ceiling 500; named nodes A P
+node A: rank 2; route 411: AP to P, fallback HA to H; stand-in 4: day 300, single 200
+node P: rank 1; route 4: PH to H; no stand-in
+node H (home): rank 0; no route; no stand-in
+sum of stand-in days 300; ceiling 500
+acquirer 400001 at A: AP to P, fallback HA to H; PH to H; home
+acquirer 400002 at H: home
+";
+    let alloc = rt.alloc();
+    assert!(rt; says(alloc, b"4111111111111111", WIDE_TABLES, WIDE_RANKS, want, 0)?);
+    let want = "\
+accepted
+class 4
+issuer I: PAN prefix 4; home H; ceiling 500; named nodes A P
+node A: rank 2; route 4: HA to H; stand-in 4: day 300, single 200
+node P: rank 1; route 4: PH to H; no stand-in
+node H (home): rank 0; no route; no stand-in
+sum of stand-in days 300; ceiling 500
+acquirer 400001 at A: HA to H; home
+acquirer 400002 at H: home
+";
+    assert!(rt; says(alloc, b"4211111111111111", WIDE_TABLES, WIDE_RANKS, want, 0)?);
+    Ok(())
+}
+
+#[test]
+fn a_card_of_no_issuer(rt: HostRuntime) -> Result<(), Fail> {
+    let want = "\
+accepted
+no class
+no issuer
+node A: no rank; no route; no stand-in
+node H: no rank; no route; no stand-in
+sum of stand-in days 0; no ceiling
+acquirer 400001 at A: no route
+";
+    assert!(rt; says(rt.alloc(), b"5111111111111111", TABLES, RANKS, want, 0)?);
+    Ok(())
+}
+
+#[test]
+fn a_refusal(rt: HostRuntime) -> Result<(), Fail> {
+    let want = "\
+refused 2 not less: node A prefix 4 link AH
+class 4
+issuer I: PAN prefix 4; home H; ceiling 0; no named nodes
+node A: rank 0; route 4: AH to H; no stand-in
+node H (home): rank 0; no route; no stand-in
+sum of stand-in days 0; ceiling 0
+acquirer 400001 at A: AH to H; home
+";
+    let ranks = "RANKS 1\nA 4 0\nH 4 0\nEND\n";
+    assert!(rt; says(rt.alloc(), b"4111111111111111", TABLES, ranks, want, 1)?);
+    Ok(())
+}
+
+#[test]
+fn faults(rt: HostRuntime) -> Result<(), Fail> {
+    let alloc = rt.alloc();
+    let card = b"4111111111111111";
+    assert!(rt;
+        says(
+            alloc,
+            card,
+            "",
+            RANKS,
+            "fault tables 2 missing field: network 1 currency\n",
+            2
+        )?
+    );
+    assert!(rt;
+        says(
+            alloc,
+            card,
+            TABLES,
+            "RANKS 2\n",
+            "fault ranks 1 header\n",
+            2
+        )?
+    );
+    assert!(rt;
+        says(
+            alloc,
+            card,
+            TABLES,
+            "RANKS 1\nEND\n%%\n",
+            "fault bundle 1 parts\n",
+            2
+        )?
+    );
+    Ok(())
+}
