@@ -2,7 +2,6 @@
 #![tactic(auto)]
 
 mod bundle;
-mod input;
 
-pub use bundle::{BundleFault, run_bundle, run_text};
-pub use input::InputFault;
+pub use bundle::{run_bundle, run_text};
+pub use bundle_input::{BundleFault, InputFault};

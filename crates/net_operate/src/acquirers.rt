@@ -1,5 +1,7 @@
 //! Sessions: who enters the lines of an acquirer, and waits for their answers.
 
+ghost use Rattle.std.specs.Prelude.{◌≤◌};
+
 use crate::fitting::is_answer_to;
 use crate::news::{Awaited, Shared};
 use crate::running::Host;
@@ -9,12 +11,15 @@ use crate::worker::Worker;
 use iso_message::decode;
 use message_keys::key_of;
 use net_threads::{LineEnd, StationFault};
-use plan_threads::{Calls, Turns};
+use plan_threads::{Calls, Standing, Turns};
 use run_plan::Session;
 use shared_bytes::SharedBytes;
 use std::alloc::{AllocError, Global};
 use std::sync::Wait;
 use switch_node::{Case, Input};
+
+/// How many lines a session enters until it is the turn of another of its node.
+const LINES_OF_A_TURN: usize = 256;
 
 /// What a session looks for at its node, and what it is told of, where its line has a key.
 #[derive(Clone, Copy)]
@@ -102,6 +107,25 @@ impl<'s, 't, 'p> Acquirer<'s, 't, 'p> {
         found
     }
 
+    /// Waits until it is the session's turn, and no longer than anybody works.
+    fn take_turn<H: Host, R: Wait>(&self, rt: &R, hosts: &[H], calls: &mut Calls) {
+        let worker = &self.worker;
+        worker.listen();
+        if !worker.shared.take_turn(rt, self.place) {
+            worker.nap(rt, hosts, calls);
+            worker.shared.go_on(rt, self.place);
+        }
+    }
+
+    /// Another session of the node goes on, and this one sleeps until it has an answer, or so many turns have passed.
+    fn rest<H: Host, R: Wait>(&self, rt: &R, hosts: &[H], turns: u64, calls: &mut Calls) -> u64
+        ensures { result ≤ turns }
+    {
+        let worker = &self.worker;
+        self.leave_turn(rt, Standing::Away);
+        worker.rest(rt, hosts, turns, calls)
+    }
+
     /// Waits for the answer to a line, for the plan's turns, and no longer than something can come.
     fn await_answer<H: Host, R: Wait>(
         &self,
@@ -116,10 +140,11 @@ impl<'s, 't, 'p> Acquirer<'s, 't, 'p> {
         let shared = worker.shared;
         let mut turns = Turns::new(worker.plan.turns);
         for _ in 0..worker.plan.turns {
-            worker.listen();
             if turns.are_over() {
                 break;
             }
+            self.take_turn(rt, hosts, calls);
+            worker.listen();
             turns.pass(1);
             let last = shared.is_stopped() || shared.is_idle(worker.n);
             let found = self.next_answer(rt, search, sought, calls);
@@ -136,7 +161,7 @@ impl<'s, 't, 'p> Acquirer<'s, 't, 'p> {
                     }
                     let told = count_told(Some(sought));
                     let left = search.rest(told, turns.left());
-                    let passed = worker.rest(rt, hosts, left, calls);
+                    let passed = self.rest(rt, hosts, left, calls);
                     turns.pass(passed);
                 }
             }
@@ -153,6 +178,7 @@ impl<'s, 't, 'p> Acquirer<'s, 't, 'p> {
         calls: &mut Calls,
     ) -> Result<LineEnd, AllocError> {
         let bytes = SharedBytes::from_slice(self.worker.alloc, line)?;
+        self.take_turn(rt, hosts, calls);
         let sought = self.sought(line);
         let (mut search, entered) = self.enter(rt, bytes, sought.as_ref(), calls);
         self.worker.leave_station(calls);
@@ -175,10 +201,30 @@ impl<'s, 't, 'p> Acquirer<'s, 't, 'p> {
     ) -> Result<Vec<LineEnd>, AllocError> {
         let mut ends = Vec::new(self.worker.alloc);
         let mut calls = Calls::none(self.worker.alloc);
-        for line in session.lines.iter() {
+        for (number, line) in session.lines.iter().enumerate() {
+            if number % LINES_OF_A_TURN == LINES_OF_A_TURN - 1 {
+                self.leave_turn(rt, Standing::Queued);
+            }
             ends.push(self.run_line(rt, hosts, *line, &mut calls)?)?;
         }
         Ok(ends)
+    }
+
+    /// Enters the lines of the session, after which it is the turn of the others.
+    fn run<H: Host, R: Wait>(
+        &self,
+        rt: &R,
+        hosts: &[H],
+        session: &Session<'_>,
+    ) -> Result<Vec<LineEnd>, AllocError> {
+        let ends = self.run_lines(rt, hosts, session);
+        self.leave_turn(rt, Standing::Out);
+        ends
+    }
+
+    /// The session goes on no more, and stands so from now on.
+    fn leave_turn<R: Wait>(&self, rt: &R, standing: Standing) {
+        self.worker.shared.leave_turn(rt, self.place, standing);
     }
 }
 
@@ -204,7 +250,7 @@ pub(crate) fn run_session<H: Host, R: Wait>(
     shared: &Shared,
 ) -> Result<Vec<LineEnd>, AllocError> {
     let ends = match acquirer {
-        Some(acquirer) => acquirer.run_lines(rt, hosts, session),
+        Some(acquirer) => acquirer.run(rt, hosts, session),
         None => Ok(Vec::new(alloc)),
     };
     shared.session_ends();

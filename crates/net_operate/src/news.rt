@@ -9,7 +9,7 @@ use crate::hearing::{Hearer, who_hears};
 use crate::serving::Service;
 use card_digits::{Key, NodeNo};
 use net_threads::Station;
-use plan_threads::{Calls, Pump, Shelf, ThreadNumbers};
+use plan_threads::{Calls, Pump, Queue, Shelf, Standing, ThreadNumbers};
 use run_plan::Plan;
 use std::alloc::{AllocError, Global};
 use std::sync::atomic::{AtomicBool, AtomicU64, Ordering};
@@ -66,6 +66,8 @@ struct News {
     asked: AtomicU64,
     /// The places of its sessions in the plan.
     sessions: Vec<usize>,
+    /// Whose turn it is among these.
+    queue: Mutex<Queue>,
     /// Where what its pump keeps lies while nobody pumps.
     pump: Mutex<Shelf<Pump>>,
     /// Where what is kept of its host lies while nobody asks it.
@@ -74,6 +76,15 @@ struct News {
     visitors: AtomicU64,
     /// Somebody wanted to make a turn there while another had the station, and nobody has seen to it since.
     missed: AtomicBool,
+}
+
+/// Where a session stands.
+#[derive(Clone, Copy)]
+struct Seat {
+    /// The place of its node.
+    node: usize,
+    /// Its own among the sessions there.
+    place: usize,
 }
 
 /// What the threads tell each other beside the stations.
@@ -89,6 +100,8 @@ pub(crate) struct Shared {
     stopped: AtomicBool,
     nodes: Vec<News>,
     awaited: Vec<Awaited>,
+    /// Those of the plan's sessions.
+    seats: Vec<Seat>,
 }
 
 /// The hash of bytes behind others.
@@ -113,26 +126,61 @@ fn are_asks_from(asked: u64, from: usize) -> bool
     asked > from as u64
 }
 
-fn nodes_of(alloc: Global, count: usize, plan: &Plan<'_>) -> Result<Vec<News>, AllocError> {
-    let mut nodes: Vec<News> = Vec::with_capacity(alloc, count)?;
+/// For each node the places of its sessions in the plan.
+fn sessions_of(
+    alloc: Global,
+    count: usize,
+    plan: &Plan<'_>,
+) -> Result<Vec<Vec<usize>>, AllocError> {
+    let mut sessions: Vec<Vec<usize>> = Vec::with_capacity(alloc, count)?;
     for _ in 0..count {
-        nodes.push(News {
-            working: AtomicU64::new(0),
-            told: AtomicU64::new(0),
-            asked: AtomicU64::new(0),
-            sessions: Vec::new(alloc),
-            pump: Mutex::new(Shelf::empty()),
-            service: Mutex::new(Shelf::empty()),
-            visitors: AtomicU64::new(0),
-            missed: AtomicBool::new(false),
-        })?;
+        sessions.push(Vec::new(alloc))?;
     }
     for (place, session) in plan.sessions.iter().enumerate() {
-        if let Some(news) = nodes.get_mut(session.node.place()) {
-            news.sessions.push(place)?;
+        if let Some(there) = sessions.get_mut(session.node.place()) {
+            there.push(place)?;
         }
     }
+    Ok(sessions)
+}
+
+fn news_of(alloc: Global, sessions: Vec<usize>) -> Result<News, AllocError> {
+    Ok(News {
+        working: AtomicU64::new(0),
+        told: AtomicU64::new(0),
+        asked: AtomicU64::new(0),
+        queue: Mutex::new(Queue::new(alloc, sessions.len())?),
+        sessions,
+        pump: Mutex::new(Shelf::empty()),
+        service: Mutex::new(Shelf::empty()),
+        visitors: AtomicU64::new(0),
+        missed: AtomicBool::new(false),
+    })
+}
+
+fn nodes_of(alloc: Global, count: usize, plan: &Plan<'_>) -> Result<Vec<News>, AllocError> {
+    let mut nodes: Vec<News> = Vec::with_capacity(alloc, count)?;
+    for sessions in sessions_of(alloc, count, plan)? {
+        nodes.push(news_of(alloc, sessions)?)?;
+    }
     Ok(nodes)
+}
+
+/// Where each session of a plan stands. One at a node that isn't there has the place of none.
+fn seats_of(alloc: Global, nodes: &[News], plan: &Plan<'_>) -> Result<Vec<Seat>, AllocError> {
+    let mut seats = Vec::with_capacity(alloc, plan.sessions.len())?;
+    for session in plan.sessions.iter() {
+        let node = session.node.place();
+        seats.push(Seat { node, place: 0 })?;
+    }
+    for news in nodes {
+        for (place, session) in news.sessions.iter().enumerate() {
+            if let Some(seat) = seats.get_mut(*session) {
+                seat.place = place;
+            }
+        }
+    }
+    Ok(seats)
 }
 
 fn nothing_awaited(alloc: Global, sessions: usize) -> Result<Vec<Awaited>, AllocError> {
@@ -158,13 +206,15 @@ impl Shared {
             hosts: hosts.min(nodes),
         };
         let clock = TurnClock::new(alloc, threads.session(sessions))?;
+        let nodes = nodes_of(alloc, nodes, plan)?;
         Ok(Shared {
             clock: Arc::new(alloc, clock)?,
             threads,
             pumps,
             live: AtomicU64::new(sessions as u64),
             stopped: AtomicBool::new(false),
-            nodes: nodes_of(alloc, nodes, plan)?,
+            seats: seats_of(alloc, nodes.as_slice(), plan)?,
+            nodes,
             awaited: nothing_awaited(alloc, sessions)?,
         })
     }
@@ -222,6 +272,60 @@ impl Shared {
     pub(crate) fn is_idle(&self, n: usize) -> bool {
         match self.nodes.get(n) {
             Some(news) => news.working.load(Ordering::SeqCst) == 0,
+            None => true,
+        }
+    }
+
+    /// Whether it is the turn of the session at a place of the plan. Otherwise it is told once it is: one session of a node goes on at a time.
+    pub(crate) fn take_turn<R: Wait>(&self, rt: &R, session: usize) -> bool {
+        let Some(seat) = self.seats.get(session) else {
+            return true;
+        };
+        match self.nodes.get(seat.node) {
+            Some(news) => news.queue.lock(rt).take(seat.place),
+            None => true,
+        }
+    }
+
+    /// The session at a place of the plan goes on, whether or not it is its turn: from here on it is told of its answers at once.
+    pub(crate) fn go_on<R: Wait>(&self, rt: &R, session: usize) {
+        let Some(seat) = self.seats.get(session) else {
+            return;
+        };
+        if let Some(news) = self.nodes.get(seat.node) {
+            news.queue.lock(rt).go_on(seat.place);
+        }
+    }
+
+    /// The session at a place of the plan goes on no more, and stands so from now on. If it was its turn, the next of its node is told.
+    pub(crate) fn leave_turn<R: Wait>(&self, rt: &R, session: usize, standing: Standing) {
+        let Some(seat) = self.seats.get(session) else {
+            return;
+        };
+        let Some(news) = self.nodes.get(seat.node) else {
+            return;
+        };
+        let next = news.queue.lock(rt).leave(seat.place, standing);
+        if let Some(place) = next {
+            if let Some(next) = news.sessions.get(place) {
+                self.clock.tell(self.threads.session(*next));
+            }
+        }
+    }
+
+    /// Tells a session that there is an answer, by its number on the clock: at once, or as soon as it is its turn.
+    pub(crate) fn recall<R: Wait>(&self, rt: &R, thread: usize) {
+        if self.is_told(rt, self.threads.place_of_session(thread)) {
+            self.clock.tell(thread);
+        }
+    }
+
+    fn is_told<R: Wait>(&self, rt: &R, session: usize) -> bool {
+        let Some(seat) = self.seats.get(session) else {
+            return true;
+        };
+        match self.nodes.get(seat.node) {
+            Some(news) => news.queue.lock(rt).recall(seat.place),
             None => true,
         }
     }

@@ -75,11 +75,8 @@ impl<'s, 't, 'p> Worker<'s, 't, 'p> {
         visited
     }
 
-    /// What the host answers, with no station locked. Before one is asked that may take its time the threads wake up that are to be told.
-    fn ask<H: Host>(&self, host: &H, ask: &Ask, calls: &mut Calls) -> Option<Case> {
-        if !host.answers_at_once() {
-            calls.tell(self.shared.clock());
-        }
+    /// What the host answers, with no station locked.
+    fn ask<H: Host>(&self, host: &H, ask: &Ask) -> Option<Case> {
         let request = decode(self.alloc, ask.bytes.as_slice()).ok()?;
         Some(Case::HostAnswer(ask.number, host.authorize(&request)))
     }
@@ -106,7 +103,11 @@ impl<'s, 't, 'p> Worker<'s, 't, 'p> {
             return Turn::Done;
         };
         service.turns.next();
-        service.answer = self.ask(host, &ask, calls);
+        if !host.answers_at_once() {
+            // It may take its time: whoever is to be told of something isn't kept waiting.
+            self.tell(rt, calls);
+        }
+        service.answer = self.ask(host, &ask);
         if service.answer.is_some() && !self.visit_and_leave(rt, locking, service, calls) {
             return Turn::Locked;
         }

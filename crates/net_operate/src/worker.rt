@@ -102,6 +102,13 @@ impl<'s, 't, 'p> Worker<'s, 't, 'p> {
         clock.turns().saturating_sub(before).min(turns)
     }
 
+    /// Sleeps until it is told of something, and no longer than anybody works.
+    pub(crate) fn nap<H: Host, R: Wait>(&self, rt: &R, hosts: &[H], calls: &mut Calls) {
+        let clock = self.shared.clock();
+        clock.set_due(self.thread, clock.turns());
+        self.sleep(rt, hosts, calls);
+    }
+
     /// Pumps wherever a pump is due, and carries on what comes of it.
     fn pump_due<H: Host, R: Wait>(&self, rt: &R, hosts: &[H], calls: &mut Calls) {
         for n in 0..self.stations.len() {
@@ -127,7 +134,7 @@ impl<'s, 't, 'p> Worker<'s, 't, 'p> {
     /// there is more to do, the threads that are there for it wake up. Called with no lock held.
     pub(crate) fn carry_on<H: Host, R: Wait>(&self, rt: &R, hosts: &[H], calls: &mut Calls) {
         for _ in 0..MOST_CARRIED {
-            calls.tell_sessions(self.shared.clock());
+            self.recall_sessions(rt, calls);
             if let Some(thread) = calls.next_host() {
                 self.serve_at(rt, hosts, thread, calls);
             } else if let Some(n) = calls.next_pump() {
@@ -138,6 +145,21 @@ impl<'s, 't, 'p> Worker<'s, 't, 'p> {
                 break;
             }
         }
+        self.tell(rt, calls);
+    }
+
+    /// Sessions that have an answer go on, each once no other of its node does.
+    fn recall_sessions<R: Wait>(&self, rt: &R, calls: &mut Calls) {
+        for _ in 0..calls.count_sessions() {
+            if let Some(session) = calls.next_session() {
+                self.shared.recall(rt, session);
+            }
+        }
+    }
+
+    /// All who are to be told of something are. Called with no lock held.
+    pub(crate) fn tell<R: Wait>(&self, rt: &R, calls: &mut Calls) {
+        self.recall_sessions(rt, calls);
         calls.tell(self.shared.clock());
     }
 
@@ -150,7 +172,7 @@ impl<'s, 't, 'p> Worker<'s, 't, 'p> {
         calls: &mut Calls,
     ) {
         match turn {
-            Turn::More | Turn::Locked => calls.tell(self.shared.clock()),
+            Turn::More | Turn::Locked => self.tell(rt, calls),
             Turn::Done | Turn::Over => self.carry_on(rt, hosts, calls),
         }
     }

@@ -77,6 +77,19 @@ fn plan_text(alloc: Global, sessions: u32) -> Result<String, AllocError> {
     Ok(text)
 }
 
+/// Three sessions with so many requests each.
+fn long_text(alloc: Global, requests: u32) -> Result<String, AllocError> {
+    let mut text = String::from_str(alloc, "PLAN 1\nturns 50000000\ntick_every 0\n")?;
+    for session in 0..3 {
+        text.push_str(format!(in alloc; "session {}\n", acquirer(session))?.as_str())?;
+        for trace in 0..requests {
+            push_request(alloc, &mut text, acquirer(session), trace)?;
+        }
+    }
+    text.push_str("END\n")?;
+    Ok(text)
+}
+
 /// One session at the first node, whose request is of the home's acquirer.
 fn strange_text(alloc: Global) -> Result<String, AllocError> {
     let mut text = String::from_str(
@@ -224,6 +237,20 @@ fn sixteen_sessions(rt: HostRuntime) -> Result<(), Fail> {
 #[test]
 fn twenty_sessions(rt: HostRuntime) -> Result<(), Fail> {
     assert!(rt; are_all_answered(&rt, rt.alloc(), 20, Way::Once)?);
+    Ok(())
+}
+
+/// Sessions of a node go on by turns, and each has more lines than it enters in a turn of its own.
+#[test]
+fn sessions_of_many_lines(rt: HostRuntime) -> Result<(), Fail> {
+    let alloc = rt.alloc();
+    let plan = long_text(alloc, 600)?;
+    for n in 0..6 {
+        let host = APPROVING[n % 2];
+        let way = Way::Once;
+        let seen = ran_on_text(&rt, alloc, 3, plan.as_str(), Trial { way, host })?;
+        assert_eq!(rt; seen, Some((1_800, Verdict::Linked)));
+    }
     Ok(())
 }
 

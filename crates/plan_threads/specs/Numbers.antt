@@ -13,3 +13,7 @@ node_of_host threads thread = thread - threads.pumps
 -- a session, by its place in the plan
 abbrev pub session_at : ThreadNumbers → ℕ → ℕ
 session_at threads place = min (min (threads.pumps + threads.hosts) (2 ^ 64 - 1) + place) (2 ^ 64 - 1)
+
+-- the place in the plan of the session that has this number
+abbrev pub place_of_session : ThreadNumbers → ℕ → ℕ
+place_of_session threads thread = thread - min (threads.pumps + threads.hosts) (2 ^ 64 - 1)

@@ -1,5 +1,5 @@
 //! Threads that are to be told of a step once the station's lock is free again.
-ghost use Rattle.std.specs.Prelude.{◌≡◌, ◌==◌, ◌++◌, ℕ, true, false, []};
+ghost use Rattle.std.specs.Prelude.{◌≡◌, ◌==◌, ◌++◌, ℕ, true, false, [], length};
 ghost use Rattle.std.specs.Option.{option_to_list};
 ghost use Rattle.std.specs.List.{list_any};
 ghost use Rattle.plan_threads.specs.Calls.{is_called};
@@ -88,6 +88,23 @@ impl Calls {
         }
     }
 
+    /// How many sessions are to be told.
+    pub fn count_sessions(&self) -> usize
+        ensures { result ≡ length self.now.sessions }
+    {
+        self.sessions.len()
+    }
+
+    /// Takes out one of the sessions.
+    pub fn next_session(&mut self) -> Option<usize>
+        ensures sessions { self.old.sessions ≡ self.new.sessions ++ option_to_list result }
+        ensures hosts { self.new.hosts ≡ self.old.hosts }
+        ensures pumps { self.new.pumps ≡ self.old.pumps }
+        ensures all { self.new.all ≡ self.old.all }
+    {
+        self.sessions.pop()
+    }
+
     /// Takes out one of the hosts.
     pub fn next_host(&mut self) -> Option<usize>
         ensures hosts { self.old.hosts ≡ self.new.hosts ++ option_to_list result }
@@ -106,17 +123,6 @@ impl Calls {
         ensures all { self.new.all ≡ self.old.all }
     {
         self.pumps.pop()
-    }
-
-    /// Tells the sessions, after which none is left.
-    pub fn tell_sessions(&mut self, clock: &TurnClock)
-        ensures sessions { self.new.sessions ≡ [] }
-        ensures hosts { self.new.hosts ≡ self.old.hosts }
-        ensures pumps { self.new.pumps ≡ self.old.pumps }
-        ensures all { self.new.all ≡ self.old.all }
-    {
-        tell_each(clock, self.sessions.as_slice());
-        self.sessions.clear();
     }
 
     /// Tells all, after which none is left.

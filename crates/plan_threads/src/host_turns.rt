@@ -31,6 +31,7 @@ impl HostTurns {
         }
     }
 
+    /// Whether none is left.
     pub fn are_over(&self) -> bool
         ensures { result ≡ nat_le self.now.left 0 }
     {

@@ -5,6 +5,7 @@ mod calls;
 mod host_turns;
 mod numbers;
 mod pumps;
+mod queue;
 mod shelf;
 mod turns;
 
@@ -12,5 +13,6 @@ pub use calls::Calls;
 pub use host_turns::HostTurns;
 pub use numbers::ThreadNumbers;
 pub use pumps::Pump;
+pub use queue::{Queue, Standing};
 pub use shelf::Shelf;
 pub use turns::{PumpTurns, Turns};

@@ -1,6 +1,6 @@
 //! How the threads of a plan are told apart.
 ghost use Rattle.std.specs.Prelude.{◌≡◌};
-ghost use Rattle.plan_threads.specs.Numbers.{host_at, node_of_host, session_at};
+ghost use Rattle.plan_threads.specs.Numbers.{host_at, node_of_host, session_at, place_of_session};
 
 /// How the threads of a plan are told apart: pumps by the places of their stations, behind them hosts in the same order, behind them
 /// sessions.
@@ -41,5 +41,11 @@ impl ThreadNumbers {
         ensures { result ≡ session_at self.now place }
     {
         self.first_session().saturating_add(place)
+    }
+    /// The place in the plan of the session that has this number.
+    pub fn place_of_session(&self, thread: usize) -> usize
+        ensures { result ≡ place_of_session self.now thread }
+    {
+        thread.saturating_sub(self.first_session())
     }
 }

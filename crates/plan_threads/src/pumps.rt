@@ -17,6 +17,7 @@ pub struct Pump {
 }
 
 impl Pump {
+    /// With these turns and packets, counted up to a turn of the clock.
     pub fn new(turns: PumpTurns, held: Held, now: u64) -> Pump
         ensures { result ≡ record { turns = turns; held = held; counted = now } }
     {
@@ -27,6 +28,7 @@ impl Pump {
         }
     }
 
+    /// Whether it has no turn left.
     pub fn is_over(&self) -> bool
         ensures { result ≡ nat_le self.now.turns.left 0 }
     {

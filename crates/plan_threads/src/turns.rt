@@ -20,18 +20,21 @@ impl Model for Turns {
 }
 
 impl Turns {
+    /// So many.
     pub fn new(turns: u64) -> Turns
         ensures { result ≡ turns }
     {
         Turns { left: turns }
     }
 
+    /// How many are left.
     pub fn left(&self) -> u64
         ensures { result ≡ self.now }
     {
         self.left
     }
 
+    /// Whether none is left.
     pub fn are_over(&self) -> bool
         ensures { result ≡ nat_le self.now 0 }
     {
@@ -64,6 +67,7 @@ impl Model for PumpTurns {
 }
 
 impl PumpTurns {
+    /// So many, with a tick behind each so many of them; none where that is 0.
     pub fn new(turns: u64, tick_every: u64) -> PumpTurns
         ensures { result ≡ record { left = turns; tick_every = tick_every; since_tick = 0 } }
     {
@@ -74,6 +78,7 @@ impl PumpTurns {
         }
     }
 
+    /// Whether none is left.
     pub fn are_over(&self) -> bool
         ensures { result ≡ nat_le self.now.left 0 }
     {
@@ -132,7 +137,7 @@ impl PumpTurns {
 
 /// Of the turns that passed while a pump waited for what happens after so many, those in which nothing happened: in the last one it
 /// does.
-pub fn idle(passed: u64, event: u64) -> u64
+pub(crate) fn idle(passed: u64, event: u64) -> u64
     ensures { result ≡ min passed (event - 1) }
 {
     passed.min(event.saturating_sub(1))
