@@ -11,9 +11,6 @@ use Rattle.all_refusals.specs.Rows.{Refused, shown, Adds}
 pub none_added : (t : Network) (found : List RowRefusal) → Adds t found found []
 none_added t found = sym (append-nil (map (shown t) found))
 
-pub added : (t : Network) (found : List RowRefusal) (r : RowRefusal) (s : Refused) → shown t r ≡ s → Adds t found (found ++ r ∷ []) (s ∷ [])
-added t found r s is = map-append (shown t) found (r ∷ []) ∙ rw is refl
-
 pub then : (t : Network) (old mid new : List RowRefusal) (xs ys : List Refused) → Adds t old mid xs → Adds t mid new ys → Adds t old new (xs ++ ys)
 then t old mid new xs ys one two = two ∙ (rw one (append_assoc (map (shown t) old) xs ys))
 
