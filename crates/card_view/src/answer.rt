@@ -99,12 +99,7 @@ fn view_of_tables(
 }
 
 /// The first fault of the ranks, or the view.
-fn view_ranks(
-    alloc: Global,
-    job: &Job,
-    tables: &Tables,
-    ranks: &[u8],
-) -> Result<Answer, AllocError>
+fn view_ranks(alloc: Global, job: &Job, tables: &Tables, ranks: &[u8]) -> Result<Answer, AllocError>
     ensures { IfOk result (λ a. IsViewRead job.now (Ok tables.now) (cert_in ranks.now) a) }
 {
     match read_cert(alloc, ranks) {

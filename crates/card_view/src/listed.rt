@@ -83,6 +83,7 @@ fn add_line(
 }
 
 /// Adds a line for each refusal.
+#[tactic(auto, using(crate::proofs::Listing::refusals_more))]
 pub(crate) fn add_lines(
     alloc: Global,
     text: &mut Vec<u8>,

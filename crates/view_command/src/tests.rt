@@ -5,10 +5,11 @@ use std::test::Fail;
 
 #[test]
 fn a_card(rt: HostRuntime) -> Result<(), Fail> {
-    let Ok(card) = Card::read(b"4111111111111111") else {
-        return Err(Fail);
-    };
-    assert_eq!(rt; job_of(&["card", "4111111111111111"]), Some(Job::Card(card)));
+    let card = Card::read(b"4111111111111111")?;
+    assert_eq!(rt;
+        job_of(&["card", "4111111111111111"]),
+        Some(Job::Card(card))
+    );
     Ok(())
 }
 

@@ -86,7 +86,16 @@ END
 fn no_refusal(rt: HostRuntime) -> Result<(), Fail> {
     let alloc = rt.alloc();
     assert!(rt; prints(alloc, &Job::Refusals, TABLES, RANKS, "accepted\n", 0)?);
-    assert!(rt; prints(alloc, &Job::Refusals, WIDE_TABLES, WIDE_RANKS, "accepted\n", 0)?);
+    assert!(rt;
+        prints(
+            alloc,
+            &Job::Refusals,
+            WIDE_TABLES,
+            WIDE_RANKS,
+            "accepted\n",
+            0
+        )?
+    );
     Ok(())
 }
 
@@ -119,7 +128,16 @@ refused 6 acquirer twice: 00000400001; [[acquirer]] 2
 refused 7 node id twice: 00000001001; [[node]] 3
 refused 8 timer too long: link PH; [[link]] 3
 ";
-    assert!(rt; prints(rt.alloc(), &Job::Refusals, BROKEN_TABLES, BROKEN_RANKS, want, 1)?);
+    assert!(rt;
+        prints(
+            rt.alloc(),
+            &Job::Refusals,
+            BROKEN_TABLES,
+            BROKEN_RANKS,
+            want,
+            1
+        )?
+    );
     Ok(())
 }
 
@@ -131,7 +149,16 @@ refused 1 no rank: node A prefix 4; [[route]] 1
 refused 1 no rank: node H prefix 4; [[route]] 1
 refused 2 not less: node A prefix 4 link AH; [[route]] 1
 ";
-    assert!(rt; prints(rt.alloc(), &Job::Refusals, TABLES, "RANKS 1\nEND\n", want, 1)?);
+    assert!(rt;
+        prints(
+            rt.alloc(),
+            &Job::Refusals,
+            TABLES,
+            "RANKS 1\nEND\n",
+            want,
+            1
+        )?
+    );
     Ok(())
 }
 
