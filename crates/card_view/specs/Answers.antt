@@ -10,7 +10,7 @@ use Rattle.table_checker.specs.Rules.{first_refusal}
 use Rattle.all_refusals.specs.declared.row.RowRefusal.{RowRefusal}
 use Rattle.all_refusals.specs.Rows.{shown}
 use Rattle.all_refusals.specs.Found.{all_refusals}
-use Rattle.bundle_text.specs.Answers.{Said, Answers, NamesMemory, fault, parts_fault, verdict}
+use Rattle.bundle_text.specs.Answers.{Said, NamesMemory, fault, parts_fault, verdict}
 use Rattle.bundle_text.specs.Lines.{Text, table_fault_line, cert_fault_line}
 use Rattle.bundle_text.specs.Parts.{parts_of}
 use Rattle.view_command.specs.declared.job.Job.{Job}
@@ -32,21 +32,21 @@ pub record IsListed (t : Network) (cert : List Rank) (said : Said) : Type 0 wher
   pub all : map (shown t) found ≡ all_refusals t cert
   pub printed : said ≡ followed (verdict t (first_refusal t cert)) (refusals_text t found)
 
--- the answer of a job to tables and ranks, unless memory was refused
+-- an answer of a job to tables and ranks
 abbrev pub IsView : Job → Network → List Rank → Said → Type 0
-IsView (jobs.Card card) t cert said = Answers said (view_of card t cert)
-IsView jobs.Refusals t cert said = IsListed t cert said ⊎ NamesMemory said
+IsView (jobs.Card card) t cert said = said ≡ view_of card t cert
+IsView jobs.Refusals t cert said = IsListed t cert said
 
--- the first fault of tables and ranks, or that answer
+-- the first fault of tables and ranks, or such an answer
 abbrev pub IsViewRead : Job → Result Network TableFault → Result (List Rank) CertFault → Said → Type 0
-IsViewRead job (Err e) ranks said = Answers said (fault (table_fault_line e))
-IsViewRead job (Ok t) (Err e) said = Answers said (fault (cert_fault_line e))
+IsViewRead job (Err e) ranks said = said ≡ fault (table_fault_line e)
+IsViewRead job (Ok t) (Err e) said = said ≡ fault (cert_fault_line e)
 IsViewRead job (Ok t) (Ok cert) said = IsView job t cert said
 
 abbrev pub IsViewParts : Job → List (List ℕ) → Said → Type 0
 IsViewParts job (tables ∷ ranks ∷ []) said = IsViewRead job (tables_in tables) (cert_in ranks) said
-IsViewParts job _ said = Answers said parts_fault
+IsViewParts job _ said = said ≡ parts_fault
 
 -- an answer of a job to an input, unless memory was refused
 abbrev pub ViewAnswers : Job → List ℕ → Said → Type 0
-ViewAnswers job input said = IsViewParts job (parts_of input) said
+ViewAnswers job input said = IsViewParts job (parts_of input) said ⊎ NamesMemory said

@@ -1,8 +1,8 @@
 //! The answer to an input and a job.
-ghost use Rattle.std.specs.Prelude.{◌≡◌, ◌++◌, IfOk, map, Ok, Some};
+ghost use Rattle.std.specs.Prelude.{◌≡◌, ◌++◌, ◌⊎◌, IfOk, map, Ok, Some};
 ghost use Rattle.net_tables.specs.Reading.{tables_in};
 ghost use Rattle.rank_cert.specs.Reading.{cert_in};
-ghost use Rattle.bundle_text.specs.Answers.{Answers};
+ghost use Rattle.bundle_text.specs.Answers.{Answers, NamesMemory};
 ghost use Rattle.table_checker.specs.Rules.{first_refusal};
 ghost use Rattle.card_view.specs.View as views;
 ghost use Rattle.card_view.specs.Answers.{ViewAnswers, IsListed, IsView, IsViewRead, IsViewParts, view_of};
@@ -71,7 +71,7 @@ fn with_refusals(
 
 /// The verdict on tables, and all refusals.
 fn listed(alloc: Global, tables: &Tables, cert: &Cert) -> Result<Answer, AllocError>
-    ensures { IfOk result (λ a. IsView Job.Refusals tables.now cert.now a) }
+    ensures { IfOk result (λ a. IsListed tables.now cert.now a ⊎ NamesMemory a) }
 {
     match check(alloc, tables, cert) {
         Ok(_) => {
@@ -90,7 +90,7 @@ fn view_of_tables(
     tables: &Tables,
     cert: &Cert,
 ) -> Result<Answer, AllocError>
-    ensures { IfOk result (λ a. IsView job.now tables.now cert.now a) }
+    ensures { IfOk result (λ a. IsView job.now tables.now cert.now a ⊎ NamesMemory a) }
 {
     match job {
         Job::Card(card) => viewed(alloc, &CardView { tables, cert, card }),
@@ -100,7 +100,7 @@ fn view_of_tables(
 
 /// The first fault of the ranks, or the view.
 fn view_ranks(alloc: Global, job: &Job, tables: &Tables, ranks: &[u8]) -> Result<Answer, AllocError>
-    ensures { IfOk result (λ a. IsViewRead job.now (Ok tables.now) (cert_in ranks.now) a) }
+    ensures { IfOk result (λ a. IsViewRead job.now (Ok tables.now) (cert_in ranks.now) a ⊎ NamesMemory a) }
 {
     match read_cert(alloc, ranks) {
         Ok(cert) => view_of_tables(alloc, job, tables, &cert),
@@ -110,7 +110,7 @@ fn view_ranks(alloc: Global, job: &Job, tables: &Tables, ranks: &[u8]) -> Result
 
 /// The first fault of tables and ranks, or the view.
 fn view_both(alloc: Global, job: &Job, tables: &[u8], ranks: &[u8]) -> Result<Answer, AllocError>
-    ensures { IfOk result (λ a. IsViewRead job.now (tables_in tables.now) (cert_in ranks.now) a) }
+    ensures { IfOk result (λ a. IsViewRead job.now (tables_in tables.now) (cert_in ranks.now) a ⊎ NamesMemory a) }
 {
     match read_tables(alloc, tables) {
         Ok(tables) => view_ranks(alloc, job, &tables, ranks),
@@ -120,7 +120,7 @@ fn view_both(alloc: Global, job: &Job, tables: &[u8], ranks: &[u8]) -> Result<An
 
 #[tactic(auto, using(crate::proofs::Pairs::not_two, bundle_text::proofs::Pairs::two))]
 fn view_of_parts(alloc: Global, job: &Job, parts: &[&[u8]]) -> Result<Answer, AllocError>
-    ensures { IfOk result (λ a. IsViewParts job.now (map (λ p. p.now) parts.now) a) }
+    ensures { IfOk result (λ a. IsViewParts job.now (map (λ p. p.now) parts.now) a ⊎ NamesMemory a) }
 {
     if parts.len() != 2 {
         return parts_fault(alloc);
