@@ -2,3 +2,4 @@ pub mod Pairs
 pub mod Prefixes
 pub mod Pieces
 pub mod WayText
+pub mod Listing

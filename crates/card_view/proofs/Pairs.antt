@@ -1,10 +1,11 @@
--- Two parts, and other numbers of them.
-use Rattle.std.proofs.Common.{◌≡◌, ◌≢◌, ℕ, List, [], ◌∷◌, map, length, Bor, refl, arith}
-use Rattle.bundle_text.specs.Answers.{parts_fault}
-use Rattle.card_view.specs.Answers.{view_parts}
+-- Numbers of parts other than two.
+use Rattle.std.proofs.Common.{◌≡◌, ◌≢◌, ℕ, List, [], ◌∷◌, map, length, Bor, arith}
+use Rattle.bundle_text.specs.Answers.{Said, parts_fault}
+use Rattle.view_command.specs.declared.job.Job.{Job}
+use Rattle.card_view.specs.Answers.{IsViewParts}
 
-pub not_two : (card : List ℕ) (parts : List (Bor (List ℕ))) → length parts ≢ 2 → view_parts card (map (λ p. p.now) parts) ≡ parts_fault
-not_two card [] h = refl
-not_two card (a ∷ []) h = refl
-not_two card (a ∷ b ∷ []) h = absurd (h (omega arith))
-not_two card (a ∷ b ∷ c ∷ parts) h = refl
+pub not_two : (job : Job) (parts : List (Bor (List ℕ))) (said : Said) → length parts ≢ 2 → said ≡ parts_fault → IsViewParts job (map (λ p. p.now) parts) said
+not_two job [] said h e = e
+not_two job (a ∷ []) said h e = e
+not_two job (a ∷ b ∷ []) said h e = absurd (h (omega arith))
+not_two job (a ∷ b ∷ c ∷ parts) said h e = e

@@ -1,5 +1,5 @@
--- What is answered to an input and a card.
-use Rattle.std.specs.Prelude.{ℕ, List, [], ◌∷◌, ◌++◌, Result, Ok, Err}
+-- What is answered to an input and a job.
+use Rattle.std.specs.Prelude.{◌≡◌, ℕ, List, [], ◌∷◌, ◌++◌, ◌⊎◌, map, Result, Ok, Err}
 use Rattle.net_rows.specs.Network.{Network}
 use Rattle.net_tables.specs.Reading.{tables_in}
 use Rattle.table_fields.specs.declared.fault.TableFault.{TableFault}
@@ -7,10 +7,16 @@ use Rattle.rank_cert.specs.Reading.{cert_in}
 use Rattle.rank_cert.specs.declared.cert.Rank.{Rank}
 use Rattle.rank_cert.specs.declared.fault.CertFault.{CertFault}
 use Rattle.table_checker.specs.Rules.{first_refusal}
-use Rattle.bundle_text.specs.Answers.{Said, Answers, fault, parts_fault, verdict}
+use Rattle.all_refusals.specs.declared.row.RowRefusal.{RowRefusal}
+use Rattle.all_refusals.specs.Rows.{shown}
+use Rattle.all_refusals.specs.Found.{all_refusals}
+use Rattle.bundle_text.specs.Answers.{Said, NamesMemory, fault, parts_fault, verdict}
 use Rattle.bundle_text.specs.Lines.{Text, table_fault_line, cert_fault_line}
 use Rattle.bundle_text.specs.Parts.{parts_of}
+use Rattle.view_command.specs.declared.job.Job.{Job}
+use Rattle.view_command.specs.declared.job.Job.TheVariants as jobs
 use Rattle.card_view.specs.View.{view_text}
+use Rattle.card_view.specs.Listed.{refusals_text}
 
 -- an answer with more text behind it, and of the same status
 abbrev pub followed : Said → Text → Said
@@ -20,20 +26,27 @@ followed said text = record { text = said.text ++ text; status = said.status }
 abbrev pub view_of : List ℕ → Network → List Rank → Said
 view_of card t cert = followed (verdict t (first_refusal t cert)) (view_text t cert card)
 
--- the first fault of tables and ranks, or the view
-abbrev pub view_read : List ℕ → Result Network TableFault → Result (List Rank) CertFault → Said
-view_read card (Err e) ranks = fault (table_fault_line e)
-view_read card (Ok t) (Err e) = fault (cert_fault_line e)
-view_read card (Ok t) (Ok cert) = view_of card t cert
+-- the verdict on tables, and a line for each refusal, with the number of a row in which what it speaks of stands
+pub record IsListed (t : Network) (cert : List Rank) (said : Said) : Type 0 where
+  pub found : List RowRefusal
+  pub all : map (shown t) found ≡ all_refusals t cert
+  pub printed : said ≡ followed (verdict t (first_refusal t cert)) (refusals_text t found)
 
-abbrev pub view_parts : List ℕ → List (List ℕ) → Said
-view_parts card (tables ∷ ranks ∷ []) = view_read card (tables_in tables) (cert_in ranks)
-view_parts card _ = parts_fault
+-- an answer of a job to tables and ranks
+abbrev pub IsView : Job → Network → List Rank → Said → Type 0
+IsView (jobs.Card card) t cert said = said ≡ view_of card t cert
+IsView jobs.Refusals t cert said = IsListed t cert said
 
--- the answer to an input
-abbrev pub view_said : List ℕ → List ℕ → Said
-view_said card input = view_parts card (parts_of input)
+-- the first fault of tables and ranks, or such an answer
+abbrev pub IsViewRead : Job → Result Network TableFault → Result (List Rank) CertFault → Said → Type 0
+IsViewRead job (Err e) ranks said = said ≡ fault (table_fault_line e)
+IsViewRead job (Ok t) (Err e) said = said ≡ fault (cert_fault_line e)
+IsViewRead job (Ok t) (Ok cert) said = IsView job t cert said
 
--- the same, unless memory was refused
-abbrev pub ViewAnswers : List ℕ → List ℕ → Said → Type 0
-ViewAnswers card input said = Answers said (view_said card input)
+abbrev pub IsViewParts : Job → List (List ℕ) → Said → Type 0
+IsViewParts job (tables ∷ ranks ∷ []) said = IsViewRead job (tables_in tables) (cert_in ranks) said
+IsViewParts job _ said = said ≡ parts_fault
+
+-- an answer of a job to an input, unless memory was refused
+abbrev pub ViewAnswers : Job → List ℕ → Said → Type 0
+ViewAnswers job input said = IsViewParts job (parts_of input) said ⊎ NamesMemory said

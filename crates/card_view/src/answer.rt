@@ -1,22 +1,25 @@
-//! The answer to an input and a card.
-ghost use Rattle.std.specs.Prelude.{◌≡◌, ◌++◌, IfOk, map, Ok};
+//! The answer to an input and a job.
+ghost use Rattle.std.specs.Prelude.{◌≡◌, ◌++◌, ◌⊎◌, IfOk, map, Ok, Some};
 ghost use Rattle.net_tables.specs.Reading.{tables_in};
 ghost use Rattle.rank_cert.specs.Reading.{cert_in};
-ghost use Rattle.bundle_text.specs.Answers.{Answers};
+ghost use Rattle.bundle_text.specs.Answers.{Answers, NamesMemory};
+ghost use Rattle.table_checker.specs.Rules.{first_refusal};
 ghost use Rattle.card_view.specs.View as views;
-ghost use Rattle.card_view.specs.Answers.{ViewAnswers, view_of, view_read, view_parts};
+ghost use Rattle.card_view.specs.Answers.{ViewAnswers, IsListed, IsView, IsViewRead, IsViewParts, view_of};
 
+use crate::listed::add_lines;
 use crate::view::{CardView, view_text};
+use all_refusals::refusals;
 use bundle_text::{
     Answer, Status, cert_fault_line, check_memory_answer, fault_answer, parts, parts_fault,
     refusal_line, table_fault_line, without_carriage_returns,
 };
-use card_digits::Card;
 use net_rows::Tables;
 use net_tables::read_tables;
 use rank_cert::{Cert, read_cert};
 use std::alloc::{AllocError, Global};
 use table_checker::{Refusal, check};
+use view_command::Job;
 
 /// A verdict's line and status, and the lines of the view behind it.
 fn with_view(
@@ -50,54 +53,87 @@ fn viewed(alloc: Global, view: &CardView<'_>) -> Result<Answer, AllocError>
     }
 }
 
-/// The first fault of the ranks, or the view.
-fn view_ranks(
+/// A refusal's line, and a line for each of all refusals behind it.
+fn with_refusals(
     alloc: Global,
-    card: &Card,
     tables: &Tables,
-    ranks: &[u8],
+    cert: &Cert,
+    refusal: &Refusal,
 ) -> Result<Answer, AllocError>
-    ensures { IfOk result (λ a. Answers a (view_read card.now (Ok tables.now) (cert_in ranks.now))) }
+    requires { first_refusal tables.now cert.now ≡ Some refusal.now }
+    ensures { IfOk result (λ a. IsListed tables.now cert.now a) }
+{
+    let mut text = refusal_line(alloc, tables, refusal)?;
+    let found = refusals(alloc, tables, cert)?;
+    add_lines(alloc, &mut text, tables, &found)?;
+    Ok(Answer::new(text, Status::Refused))
+}
+
+/// The verdict on tables, and all refusals.
+fn listed(alloc: Global, tables: &Tables, cert: &Cert) -> Result<Answer, AllocError>
+    ensures { IfOk result (λ a. IsListed tables.now cert.now a ⊎ NamesMemory a) }
+{
+    match check(alloc, tables, cert) {
+        Ok(_) => {
+            let line = String::from_str(alloc, "accepted\n")?;
+            Ok(Answer::new(line.into_bytes(), Status::Done))
+        }
+        Err(Refusal::Memory) => check_memory_answer(alloc),
+        Err(refusal) => with_refusals(alloc, tables, cert, &refusal),
+    }
+}
+
+/// The answer of a job to tables and ranks.
+fn view_of_tables(
+    alloc: Global,
+    job: &Job,
+    tables: &Tables,
+    cert: &Cert,
+) -> Result<Answer, AllocError>
+    ensures { IfOk result (λ a. IsView job.now tables.now cert.now a ⊎ NamesMemory a) }
+{
+    match job {
+        Job::Card(card) => viewed(alloc, &CardView { tables, cert, card }),
+        Job::Refusals => listed(alloc, tables, cert),
+    }
+}
+
+/// The first fault of the ranks, or the view.
+fn view_ranks(alloc: Global, job: &Job, tables: &Tables, ranks: &[u8]) -> Result<Answer, AllocError>
+    ensures { IfOk result (λ a. IsViewRead job.now (Ok tables.now) (cert_in ranks.now) a ⊎ NamesMemory a) }
 {
     match read_cert(alloc, ranks) {
-        Ok(cert) => viewed(
-            alloc,
-            &CardView {
-                tables,
-                cert: &cert,
-                card,
-            },
-        ),
+        Ok(cert) => view_of_tables(alloc, job, tables, &cert),
         Err(e) => Ok(fault_answer(cert_fault_line(alloc, e)?)),
     }
 }
 
 /// The first fault of tables and ranks, or the view.
-fn view_both(alloc: Global, card: &Card, tables: &[u8], ranks: &[u8]) -> Result<Answer, AllocError>
-    ensures { IfOk result (λ a. Answers a (view_read card.now (tables_in tables.now) (cert_in ranks.now))) }
+fn view_both(alloc: Global, job: &Job, tables: &[u8], ranks: &[u8]) -> Result<Answer, AllocError>
+    ensures { IfOk result (λ a. IsViewRead job.now (tables_in tables.now) (cert_in ranks.now) a ⊎ NamesMemory a) }
 {
     match read_tables(alloc, tables) {
-        Ok(tables) => view_ranks(alloc, card, &tables, ranks),
+        Ok(tables) => view_ranks(alloc, job, &tables, ranks),
         Err(e) => Ok(fault_answer(table_fault_line(alloc, e)?)),
     }
 }
 
 #[tactic(auto, using(crate::proofs::Pairs::not_two, bundle_text::proofs::Pairs::two))]
-fn view_of_parts(alloc: Global, card: &Card, parts: &[&[u8]]) -> Result<Answer, AllocError>
-    ensures { IfOk result (λ a. Answers a (view_parts card.now (map (λ p. p.now) parts.now))) }
+fn view_of_parts(alloc: Global, job: &Job, parts: &[&[u8]]) -> Result<Answer, AllocError>
+    ensures { IfOk result (λ a. IsViewParts job.now (map (λ p. p.now) parts.now) a ⊎ NamesMemory a) }
 {
     if parts.len() != 2 {
         return parts_fault(alloc);
     }
-    view_both(alloc, card, parts[0], parts[1])
+    view_both(alloc, job, parts[0], parts[1])
 }
 
-/// The answer to an input of two parts, the tables and the ranks: the verdict of `check` and what each node does with the card, or
-/// the first fault.
-pub fn view_answer(alloc: Global, card: &Card, input: &[u8]) -> Result<Answer, AllocError>
-    ensures { IfOk result (ViewAnswers card.now input.now) }
+/// The answer to an input of two parts, the tables and the ranks: the verdict of `check` with what each node does with the card or
+/// all refusals behind it, or the first fault.
+pub fn view_answer(alloc: Global, job: &Job, input: &[u8]) -> Result<Answer, AllocError>
+    ensures { IfOk result (ViewAnswers job.now input.now) }
 {
     let text = without_carriage_returns(alloc, input)?;
     let parts = parts(alloc, &text)?;
-    view_of_parts(alloc, card, &parts)
+    view_of_parts(alloc, job, &parts)
 }

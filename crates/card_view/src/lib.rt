@@ -1,4 +1,4 @@
-//! What each node of a network does with one card, as text.
+//! What each node of a network does with one card, and all refusals of its tables, as text.
 #![tactic(auto)]
 
 mod answer;
@@ -6,6 +6,7 @@ mod class;
 mod days;
 mod issuer;
 mod job;
+mod listed;
 mod names;
 mod node;
 mod view;

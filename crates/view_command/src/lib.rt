@@ -1,8 +1,8 @@
 //! What the words of `network_view` ask for.
 #![tactic(auto)]
 
+mod job;
 #[cfg(test)]
 mod tests;
-mod words;
 
-pub use words::card_of;
+pub use job::{Job, job_of};

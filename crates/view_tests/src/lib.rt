@@ -1,5 +1,7 @@
-//! Tests of what each node does with a card.
+//! Tests of what each node does with a card, and of all refusals.
 #![tactic(auto)]
 
+#[cfg(test)]
+mod refusals;
 #[cfg(test)]
 mod tests;

@@ -3,8 +3,9 @@ use card_digits::{Card, Counted};
 use card_view::run_view;
 use std::alloc::{AllocError, Global};
 use std::test::Fail;
+use view_command::Job;
 
-const TABLES: &str = r#"[network]
+pub(crate) const TABLES: &str = r#"[network]
 currency = "840"
 date = "0314"
 host_ticks = 100
@@ -34,24 +35,21 @@ prefix = "4"
 links = ["AH"]
 "#;
 
-const RANKS: &str = "RANKS 1\nA 4 1\nH 4 0\nEND\n";
+pub(crate) const RANKS: &str = "RANKS 1\nA 4 1\nH 4 0\nEND\n";
 
-/// What is printed for a card and an input, and the status.
-fn view(alloc: Global, card: &[u8], input: &[u8]) -> Option<(Vec<u8>, u8)> {
-    let Ok(card) = Card::read(card) else {
-        return None;
-    };
+/// What is printed for a job and an input, and the status.
+fn view(alloc: Global, job: &Job, input: &[u8]) -> Option<(Vec<u8>, u8)> {
     let mut text: Vec<u8> = Vec::new(alloc);
     let mut reader = Counted::reader(input);
     let mut writer = Counted::writer(&mut text);
-    match run_view(alloc, &card, &mut reader, &mut writer) {
+    match run_view(alloc, job, &mut reader, &mut writer) {
         Ok(status) => Some((text, status)),
         Err(_) => None,
     }
 }
 
 /// A network in which A has two ways to H, rows of a longer prefix and limits of its own.
-const WIDE_TABLES: &str = r#"[network]
+pub(crate) const WIDE_TABLES: &str = r#"[network]
 currency = "840"
 date = "0314"
 host_ticks = 100
@@ -108,7 +106,7 @@ day = 300
 single = 200
 "#;
 
-const WIDE_RANKS: &str = "\
+pub(crate) const WIDE_RANKS: &str = "\
 RANKS 1
 A 4 2
 P 4 1
@@ -119,6 +117,22 @@ H 411 0
 END
 ";
 
+/// Whether this is printed for a job and two parts, with this status.
+pub(crate) fn prints(
+    alloc: Global,
+    job: &Job,
+    tables: &str,
+    ranks: &str,
+    want: &str,
+    status: u8,
+) -> Result<bool, AllocError> {
+    let input = format!(in alloc; "{tables}%%\n{ranks}")?;
+    match view(alloc, job, input.as_bytes()) {
+        Some((text, ended)) => Ok(text.as_slice() == want.as_bytes() && ended == status),
+        None => Ok(false),
+    }
+}
+
 /// Whether this is printed for a card and two parts, with this status.
 fn says(
     alloc: Global,
@@ -128,11 +142,10 @@ fn says(
     want: &str,
     status: u8,
 ) -> Result<bool, AllocError> {
-    let input = format!(in alloc; "{tables}%%\n{ranks}")?;
-    match view(alloc, card, input.as_bytes()) {
-        Some((text, ended)) => Ok(text.as_slice() == want.as_bytes() && ended == status),
-        None => Ok(false),
-    }
+    let Ok(card) = Card::read(card) else {
+        return Ok(false);
+    };
+    prints(alloc, &Job::Card(card), tables, ranks, want, status)
 }
 
 #[test]

@@ -1,0 +1,5 @@
+pub mod First
+pub mod Adding
+mod Own
+mod LookedUp
+mod Repeats

@@ -1,0 +1,15 @@
+use Rattle.std.proofs.Common.{◌≡◌, Some, refl}
+use Rattle.table_checker.specs.Rules.{not_less_over}
+use Rattle.all_refusals.specs.declared.row.TableRow.TheVariants as table
+use Rattle.all_refusals.specs.Rows.{RouteRow, row_at, Adds}
+use Rattle.all_refusals.specs.Found.{of_row}
+use Rattle.all_refusals.proofs.Adding.{next}
+use Rattle.all_refusals.proofs.at.At.add_not_less_of.Goals as goal
+
+pub loop-link-preserved : goal.loop-link-preserved
+loop-link-preserved c =
+    let t = c.args.self.now.tables.now in
+    let row = RouteRow c.args.row.now in
+    let at : row_at t (table.Route c.args.place) ≡ Some row = rw c.requires.place refl in
+    let new : Adds t c.loop-link.found.items c.add.new.found.items (of_row row (not_less_over t c.args.self.now.cert.now c.args.self.now.class c.args.node c.link-item.result)) = rw (← c.not_less_over-over.ensures) (c.in_ok-add.ensures t row at) in
+    next t (λ k. of_row row (not_less_over t c.args.self.now.cert.now c.args.self.now.class c.args.node k)) _ c.loop-link.link-index c.link-item.result _ _ _ c.loop-link-test.true c.link-item.is c.loop-link.invariant new

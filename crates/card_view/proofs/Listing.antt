@@ -1,0 +1,25 @@
+-- Lines of refusals, and the answer where there is none.
+use Rattle.std.proofs.Common.{◌≡◌, ◌∙◌, ℕ, ◌<◌, ◌+◌, List, [], ◌++◌, take, get_or, length, codes, None, refl, sym}
+use Rattle.std.proofs.lemmas.List.{take_more, flat_map_more}
+use Rattle.net_rows.specs.Network.{Network}
+use Rattle.rank_cert.specs.declared.cert.Rank.{Rank}
+use Rattle.table_checker.specs.Rules.{first_refusal}
+use Rattle.all_refusals.specs.declared.row.RowRefusal.{RowRefusal}
+use Rattle.all_refusals.proofs.First.{none_is}
+use Rattle.bundle_text.specs.Answers.{Said}
+use Rattle.bundle_text.specs.declared.answer.Status.TheVariants.{Done}
+use Rattle.card_view.specs.Listed.{found_line, refusals_text}
+use Rattle.card_view.specs.Answers.{IsListed}
+
+-- a line more
+pub refusals_more : (t : Network) (before : List ℕ) (found : List RowRefusal) (i : ℕ) (r : RowRefusal) → i < length found → r ≡ get_or found i r
+    → (before ++ refusals_text t (take i found)) ++ found_line t r ≡ before ++ refusals_text t (take (i + 1) found)
+refusals_more t before found i r lt is = rw (take_more found i r, ← is) (flat_map_more (found_line t) before (take i found) r)
+
+-- where there is none
+pub accepted_is : (t : Network) (cert : List Rank) (said : Said) → first_refusal t cert ≡ None → said ≡ record { text = codes "accepted\n"; status = Done } → IsListed t cert said
+accepted_is t cert said none is = record {
+  found = [];
+  all = sym (none_is t cert none);
+  printed = is ∙ (rw none refl);
+}

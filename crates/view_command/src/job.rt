@@ -1,0 +1,28 @@
+//! The job that the words name.
+ghost use Rattle.std.specs.Prelude.{◌≡◌, map};
+ghost use Rattle.view_command.specs.Line.{job_asked};
+
+use card_digits::Card;
+
+/// What to print of a network.
+#[derive(Clone, Copy, Debug, PartialEq, Eq)]
+pub enum Job {
+    /// What each node does with a card.
+    Card(Card),
+    /// All refusals, each with its row.
+    Refusals,
+}
+
+/// The job of the words behind the program's name, `card N` or `refusals`, or none of other words.
+pub fn job_of(words: &[&str]) -> Option<Job>
+    ensures { result ≡ job_asked (map (λ w. w.now) words.now) }
+{
+    match words {
+        [word, number] if *word == "card" => {
+            let card = Card::read(number.as_bytes()).ok()?;
+            Some(Job::Card(card))
+        }
+        [word] if *word == "refusals" => Some(Job::Refusals),
+        _ => None,
+    }
+}
