@@ -1,0 +1,7 @@
+pub mod Faults
+pub mod Lines
+pub mod Packets
+pub mod Words
+pub mod Rows
+pub mod Table
+pub mod Answers

@@ -1,0 +1,57 @@
+-- The table of a printed trace.
+use Rattle.std.specs.Prelude.{ℕ, ◌==◌, ◌+◌, Bool, List, [], ◌∷◌, ◌++◌, take, drop, codes, if◌then◌else◌, Option, Some, None, Result, Ok, Err}
+use Rattle.std.specs.Cmp.Lexicographic.{pointwise}
+use Rattle.card_digits.specs.Attempts.{◌>>=◌}
+use Rattle.card_digits.specs.Lines.{lines}
+use Rattle.net_rows.specs.Network.{Network}
+use Rattle.bundle_text.specs.Lines.{Text}
+use Rattle.trace_view.specs.declared.fault.LineFault.{LineFault}
+use Rattle.trace_view.specs.declared.fault.LineFault.TheVariants.{NoNode, NoMessage}
+use Rattle.trace_view.specs.declared.fault.TraceFault.{TraceFault}
+use Rattle.trace_view.specs.declared.line.Step.{Step}
+use Rattle.trace_view.specs.Faults.{ok_or}
+use Rattle.trace_view.specs.Lines.{step_line, output_line}
+use Rattle.trace_view.specs.Packets.{sent_in}
+use Rattle.trace_view.specs.Rows.{heading, step_row, output_row}
+
+-- the step that the lines behind may belong to, and the rows so far
+abbrev pub Rows : Type 0
+Rows = Step × Text
+
+-- behind rows, that of an input
+abbrev pub step_onto : Network → Text → List ℕ → Result Rows LineFault
+step_onto t text line = do
+  step ← step_line t line
+  Ok (step, text ++ step_row t step)
+
+-- behind rows, that of what went out
+abbrev pub output_onto : Network → Text → Option Step → List ℕ → Result Rows LineFault
+output_onto t text above line = do
+  step ← ok_or above NoNode
+  sent ← output_line t step.node line
+  packet ← ok_or (sent_in sent.0 sent.1) NoMessage
+  Ok (step, text ++ output_row t step sent.0 packet)
+
+-- two spaces stand before what went out
+abbrev pub goes_out : List ℕ → Bool
+goes_out line = pointwise ◌==◌ (take 2 line) (codes "  ")
+
+-- behind rows, that of a line below this step
+abbrev pub line_onto : Network → Text → Option Step → List ℕ → Result Rows LineFault
+line_onto t text above line = if goes_out line then output_onto t text above (drop 2 line) else step_onto t text line
+
+-- a fault at the line of this number
+abbrev pub at_line : ℕ → Result Rows LineFault → Result Rows TraceFault
+at_line n (Ok rows) = Ok rows
+at_line n (Err e) = Err (record { fault = e; line = n })
+
+-- behind rows, one for each line from that of this number on, or the first fault
+abbrev pub rows_onto : Network → Text → ℕ → Option Step → List (List ℕ) → Result Text TraceFault
+rows_onto t text n above [] = Ok text
+rows_onto t text n above (line ∷ lines) = do
+  rows ← at_line n (line_onto t text above line)
+  rows_onto t rows.1 (n + 1) (Some rows.0) lines
+
+-- the columns, and a row for each line of a trace, or its first fault
+abbrev pub table_in : Network → List ℕ → Result Text TraceFault
+table_in t trace = rows_onto t heading 1 None (lines trace)

@@ -1,0 +1,88 @@
+//! The table of a printed trace.
+ghost use Rattle.std.specs.Prelude.{None};
+ghost use Rattle.card_digits.specs.Attempts.{Gives};
+ghost use Rattle.card_digits.specs.Lines.{lines};
+ghost use Rattle.trace_view.specs.Faults.{is_memory, names_memory};
+ghost use Rattle.trace_view.specs.Table.{line_onto, output_onto, rows_onto, step_onto};
+
+use crate::fault::{LineFault, TraceFault};
+use crate::line::{Step, read_output, read_step};
+use crate::packet::sent_in;
+use crate::rows::{add_output_row, add_step_row};
+use card_digits::first_line;
+use iso_message::Message;
+use message_elements::Kind;
+use net_rows::Tables;
+use std::alloc::Global;
+
+/// Adds the row of an input. Gives the step that the lines behind may belong to.
+#[tactic(auto, using(card_digits::proofs::Attempts::fails_from))]
+fn add_step(text: &mut Vec<u8>, tables: &Tables, line: &[u8]) -> Result<Step, LineFault>
+    ensures { Gives is_memory (λ step. (step, text.new.items)) result (step_onto tables.now text.old.items line.now) }
+{
+    let step = read_step(tables, line)?;
+    add_step_row(text, tables, step)?;
+    Ok(step)
+}
+
+/// Adds the row of what went out, at the step above.
+#[tactic(auto, using(card_digits::proofs::Attempts::fails_from))]
+fn add_output(
+    text: &mut Vec<u8>,
+    message: &mut Message,
+    tables: &Tables,
+    above: Option<Step>,
+    line: &[u8],
+) -> Result<Step, LineFault>
+    ensures { Gives is_memory (λ step. (step, text.new.items)) result (output_onto tables.now text.old.items above line.now) }
+{
+    let step = above.ok_or(LineFault::NoNode)?;
+    let (way, bytes) = read_output(tables, step.node, line)?;
+    let packet = sent_in(message, way, bytes)?;
+    let packet = packet.ok_or(LineFault::NoMessage)?;
+    add_output_row(text, tables, step, way, packet)?;
+    Ok(step)
+}
+
+/// Adds the row of a line below a step.
+fn add_line(
+    text: &mut Vec<u8>,
+    message: &mut Message,
+    tables: &Tables,
+    above: Option<Step>,
+    line: &[u8],
+) -> Result<Step, LineFault>
+    ensures { Gives is_memory (λ step. (step, text.new.items)) result (line_onto tables.now text.old.items above line.now) }
+{
+    match line.strip_prefix(b"  ") {
+        Some(output) => add_output(text, message, tables, above, output),
+        None => add_step(text, tables, line),
+    }
+}
+
+/// Adds a row for each line of a trace, up to the first that has a fault.
+pub(crate) fn add_rows(
+    alloc: Global,
+    text: &mut Vec<u8>,
+    tables: &Tables,
+    trace: &[u8],
+) -> Result<(), TraceFault>
+    ensures { Gives names_memory (λ _. text.new.items) result (rows_onto tables.now text.old.items 1 None (lines trace.now)) }
+{
+    let mut message = Message::new(alloc, Kind::K0100);
+    let mut above = None;
+    let mut number = 1;
+    let mut rest = trace;
+    while let Some((line, behind)) = first_line(rest) {
+        match add_line(text, &mut message, tables, above, line) {
+            Ok(step) => above = Some(step),
+            Err(fault) => return Err(TraceFault {
+                fault,
+                line: number,
+            }),
+        }
+        number += 1;
+        rest = behind;
+    }
+    Ok(())
+}
