@@ -42,6 +42,31 @@ fn lines_of_no_trace(rt: HostRuntime) -> Result<(), Fail> {
 }
 
 #[test]
+fn lines_that_the_script_does_not_have(rt: HostRuntime) -> Result<(), Fail> {
+    let alloc = rt.alloc();
+    for (script, trace, want) in [
+        ("tick A\n", "1 H\n", "fault trace 6 not in script line 1\n"),
+        (
+            "tick A\n",
+            "1 A\n2 A\n",
+            "fault trace 6 not in script line 2\n",
+        ),
+        ("tick A\n", "0 A\n", "fault trace 6 not in script line 1\n"),
+        ("tock A\n", "1 A\n", "fault trace 6 not in script line 1\n"),
+        ("", "1 A\n", "fault trace 6 not in script line 1\n"),
+        (
+            "enter A 0100\n",
+            "1 A\n",
+            "fault trace 5 no message line 1\n",
+        ),
+    ] {
+        let input = format!(in alloc; "{TABLES}%%\n{RANKS}%%\n{script}%%\n{trace}")?;
+        assert!(rt; prints(alloc, &input, want, 2)?, "{script}{trace}");
+    }
+    Ok(())
+}
+
+#[test]
 fn refused_tables(rt: HostRuntime) -> Result<(), Fail> {
     let alloc = rt.alloc();
     let input = format!(in alloc; "{TABLES}%%\nRANKS 1\nA 4 0\nH 4 0\nEND\n%%\n1 A\n")?;
@@ -58,7 +83,10 @@ fn other_faults(rt: HostRuntime) -> Result<(), Fail> {
     assert!(rt; prints(alloc, &input, want, 2)?);
     let input = format!(in alloc; "{TABLES}%%\nRANKS 2\n%%\n1 A\n")?;
     assert!(rt; prints(alloc, &input, "fault ranks 1 header\n", 2)?);
+    let want = "fault bundle 1 parts\n";
     let input = format!(in alloc; "{TABLES}%%\n{RANKS}")?;
-    assert!(rt; prints(alloc, &input, "fault bundle 1 parts\n", 2)?);
+    assert!(rt; prints(alloc, &input, want, 2)?);
+    let input = format!(in alloc; "{TABLES}%%\n{RANKS}%%\n%%\n%%\n")?;
+    assert!(rt; prints(alloc, &input, want, 2)?);
     Ok(())
 }

@@ -76,6 +76,20 @@ pub(crate) fn shows(
     prints(alloc, &input, &want, 0)
 }
 
+/// Whether a trace gives the heading and these rows, with its script before it.
+pub(crate) fn shows_with(
+    alloc: Global,
+    tables: &str,
+    ranks: &str,
+    script: &str,
+    trace: &str,
+    rows: &str,
+) -> Result<bool, AllocError> {
+    let input = format!(in alloc; "{tables}%%\n{ranks}%%\n{script}%%\n{trace}")?;
+    let want = format!(in alloc; "{HEADING}{rows}")?;
+    prints(alloc, &input, &want, 0)
+}
+
 /// Whether a trace of the first network gives this fault.
 pub(crate) fn faults(alloc: Global, trace: &str, want: &str) -> Result<bool, AllocError> {
     let input = format!(in alloc; "{TABLES}%%\n{RANKS}%%\n{trace}")?;

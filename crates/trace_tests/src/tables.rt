@@ -1,5 +1,5 @@
 //! Traces that `replay` printed, and their tables.
-use crate::inputs::{RANKS, TABLES, shows};
+use crate::inputs::{RANKS, TABLES, shows, shows_with};
 use std::test::Fail;
 
 /// A request goes to the host, and its answer comes back twice.
@@ -88,5 +88,73 @@ const OTHER_ROWS: &str = "\
 #[test]
 fn what_is_rare(rt: HostRuntime) -> Result<(), Fail> {
     assert!(rt; shows(rt.alloc(), TABLES, RANKS, OTHERS, OTHER_ROWS)?);
+    Ok(())
+}
+
+/// The script of the first trace.
+const FIRST_SCRIPT: &str = "\
+enter A 01007220000100008000164111111111111111000000000000001000031409153000000106400001840
+take AH H 1
+host H 1 00
+take AH A 1
+enter A 01007220000100008000164111111111111111000000000000001000031409153000000106400001840
+take AH A 1
+";
+
+const FIRST_ROWS_OF_BOTH: &str = "\
+1         A         in enter                 0100  authorization request           000001  0314091530  00000400001  -
+1         A         put AH 1                 0100  authorization request           000001  0314091530  00000400001  -
+2         H         in take AH H 1
+2         H         ask 1                    0100  authorization request           000001  0314091530  00000400001  -
+3         H         in host H 1 00 approved
+3         H         put AH 1                 0110  authorization request response  000001  0314091530  00000400001  00 approved
+4         A         in take AH A 1
+4         A         answer                   0110  authorization request response  000001  0314091530  00000400001  00 approved
+5         A         in enter                 0100  authorization request           000001  0314091530  00000400001  -
+5         A         answer                   0110  authorization request response  000001  0314091530  00000400001  00 approved
+6         A         in take AH A 1
+";
+
+#[test]
+fn a_request_with_its_script(rt: HostRuntime) -> Result<(), Fail> {
+    assert!(rt;
+        shows_with(
+            rt.alloc(),
+            TABLES,
+            RANKS,
+            FIRST_SCRIPT,
+            FIRST,
+            FIRST_ROWS_OF_BOTH
+        )?
+    );
+    Ok(())
+}
+
+/// Of each other line of a script.
+const OTHER_SCRIPT: &str = "\
+down AH A
+up AH A
+tick H
+date H 0315
+lend A H 4111111111111111 0314 100
+host H 1 Z9
+";
+
+const OTHER_INPUTS: &str = "1 A\n2 A\n4 H\n5 A\n3 H\n6 H\n";
+
+const OTHER_INPUT_ROWS: &str = "\
+1         A         in down AH A
+2         A         in up AH A
+4         H         in date H 0315
+5         A         in lend A H 4111111111111111 0314 100
+3         H         in tick H
+6         H         in host H 1 Z9
+";
+
+#[test]
+fn other_lines_of_a_script(rt: HostRuntime) -> Result<(), Fail> {
+    let alloc = rt.alloc();
+    let input = OTHER_INPUTS;
+    assert!(rt; shows_with(alloc, TABLES, RANKS, OTHER_SCRIPT, input, OTHER_INPUT_ROWS)?);
     Ok(())
 }

@@ -22,18 +22,20 @@ table_said (Ok text) = record { text = text; status = Done }
 table_said (Err e) = fault (trace_fault_line e)
 
 -- the refusal of tables, or the table of their trace
-abbrev pub checked_said : Network → Option Refusal → List ℕ → Said
-checked_said t (Some r) trace = verdict t (Some r)
-checked_said t None trace = table_said (table_in t trace)
+abbrev pub checked_said : Network → Option Refusal → Option (List ℕ) → List ℕ → Said
+checked_said t (Some r) script trace = verdict t (Some r)
+checked_said t None script trace = table_said (table_in t script trace)
 
 -- the first fault of tables and ranks, or what comes of them
-abbrev pub read_said : Result Network TableFault → Result (List Rank) CertFault → List ℕ → Said
-read_said (Err e) ranks trace = fault (table_fault_line e)
-read_said (Ok t) (Err e) trace = fault (cert_fault_line e)
-read_said (Ok t) (Ok cert) trace = checked_said t (first_refusal t cert) trace
+abbrev pub read_said : Result Network TableFault → Result (List Rank) CertFault → Option (List ℕ) → List ℕ → Said
+read_said (Err e) ranks script trace = fault (table_fault_line e)
+read_said (Ok t) (Err e) script trace = fault (cert_fault_line e)
+read_said (Ok t) (Ok cert) script trace = checked_said t (first_refusal t cert) script trace
 
+-- tables, ranks and a trace, or the script of the trace before it
 abbrev pub trace_parts : List (List ℕ) → Said
-trace_parts (tables ∷ ranks ∷ trace ∷ []) = read_said (tables_in tables) (cert_in ranks) trace
+trace_parts (tables ∷ ranks ∷ trace ∷ []) = read_said (tables_in tables) (cert_in ranks) None trace
+trace_parts (tables ∷ ranks ∷ script ∷ trace ∷ []) = read_said (tables_in tables) (cert_in ranks) (Some script) trace
 trace_parts _ = parts_fault
 
 -- the answer to an input

@@ -13,7 +13,8 @@ line_fault_text fault.UnknownNode = codes "2 unknown node"
 line_fault_text fault.UnknownLink = codes "3 unknown link"
 line_fault_text fault.NoNode = codes "4 no node"
 line_fault_text fault.NoMessage = codes "5 no message"
-line_fault_text fault.Memory = codes "6 memory"
+line_fault_text fault.NotInScript = codes "6 not in script"
+line_fault_text fault.Memory = codes "7 memory"
 
 -- and at which line of the trace
 abbrev pub trace_fault_text : TraceFault → Text

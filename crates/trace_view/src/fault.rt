@@ -18,8 +18,10 @@ pub enum LineFault {
     UnknownLink,
     /// What went out stands below no line with a node.
     NoNode,
-    /// What went out is no message.
+    /// What went out, or what was entered, is no message.
     NoMessage,
+    /// The script has no line of that number which speaks of the node.
+    NotInScript,
     Memory,
 }
 
@@ -36,7 +38,8 @@ impl fmt::Display for LineFault {
             LineFault::UnknownLink => "3 unknown link",
             LineFault::NoNode => "4 no node",
             LineFault::NoMessage => "5 no message",
-            LineFault::Memory => "6 memory",
+            LineFault::NotInScript => "6 not in script",
+            LineFault::Memory => "7 memory",
         })
     }
 }

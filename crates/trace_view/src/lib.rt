@@ -4,6 +4,7 @@
 mod answer;
 mod cells;
 mod fault;
+mod inputs;
 mod job;
 mod line;
 mod packet;

@@ -41,7 +41,7 @@ fn known_of(message: &Message) -> Known
 }
 
 /// The message that the bytes spell, which is read in the place of another; none where they spell none.
-fn message_in(message: &mut Message, bytes: &[u8]) -> Result<Option<Packet>, AllocError>
+pub(crate) fn message_in(message: &mut Message, bytes: &[u8]) -> Result<Option<Packet>, AllocError>
     ensures { IfOk result (λ packet. packet ≡ message_in bytes.now) }
 {
     match message.read_again(bytes) {

@@ -17,7 +17,7 @@ const LINE: usize = 8;
 
 const NODE: usize = 8;
 
-const WAY: usize = 23;
+pub(crate) const WAY: usize = 23;
 
 const TYPE: usize = 4;
 
@@ -47,7 +47,7 @@ pub(crate) fn heading(alloc: Global) -> Result<Vec<u8>, AllocError>
 }
 
 /// Adds the number of a line and its node.
-fn add_front(text: &mut Vec<u8>, tables: &Tables, step: Step) -> Result<(), AllocError>
+pub(crate) fn add_front(text: &mut Vec<u8>, tables: &Tables, step: Step) -> Result<(), AllocError>
     ensures { OnOk result (text.new.items ≡ text.old.items ++ front tables.now step) }
 {
     let mut buffer = Buffer::new();
@@ -157,7 +157,7 @@ fn add_other(text: &mut Vec<u8>, words: &[u8]) -> Result<(), AllocError>
 }
 
 /// Adds what is shown of what goes out.
-fn add_packet(text: &mut Vec<u8>, packet: Packet) -> Result<(), AllocError>
+pub(crate) fn add_packet(text: &mut Vec<u8>, packet: Packet) -> Result<(), AllocError>
     ensures { OnOk result (text.new.items ≡ text.old.items ++ packet_text packet) }
 {
     match packet {

@@ -3,12 +3,14 @@ ghost use Rattle.std.specs.Prelude.{None};
 ghost use Rattle.card_digits.specs.Attempts.{Gives};
 ghost use Rattle.card_digits.specs.Lines.{lines};
 ghost use Rattle.trace_view.specs.Faults.{is_memory, names_memory};
+ghost use Rattle.trace_view.specs.Inputs.{lines_now};
 ghost use Rattle.trace_view.specs.Table.{line_onto, output_onto, rows_onto, step_onto};
 
 use crate::fault::{LineFault, TraceFault};
+use crate::inputs::add_input;
 use crate::line::{Step, read_output, read_step};
 use crate::packet::sent_in;
-use crate::rows::{add_output_row, add_step_row};
+use crate::rows::add_output_row;
 use card_digits::first_line;
 use iso_message::Message;
 use message_elements::Kind;
@@ -16,12 +18,18 @@ use net_rows::Tables;
 use std::alloc::Global;
 
 /// Adds the row of an input. Gives the step that the lines behind may belong to.
-#[tactic(auto, using(card_digits::proofs::Attempts::fails_from))]
-fn add_step(text: &mut Vec<u8>, tables: &Tables, line: &[u8]) -> Result<Step, LineFault>
-    ensures { Gives is_memory (λ step. (step, text.new.items)) result (step_onto tables.now text.old.items line.now) }
+#[tactic(auto, using(card_digits::proofs::Attempts::fails_from, card_digits::proofs::Attempts::fails_bind))]
+fn add_step(
+    text: &mut Vec<u8>,
+    message: &mut Message,
+    tables: &Tables,
+    script: Option<&[&[u8]]>,
+    line: &[u8],
+) -> Result<Step, LineFault>
+    ensures { Gives is_memory (λ step. (step, text.new.items)) result (step_onto tables.now (lines_now script) text.old.items line.now) }
 {
     let step = read_step(tables, line)?;
-    add_step_row(text, tables, step)?;
+    add_input(text, message, tables, script, step)?;
     Ok(step)
 }
 
@@ -49,14 +57,15 @@ fn add_line(
     text: &mut Vec<u8>,
     message: &mut Message,
     tables: &Tables,
+    script: Option<&[&[u8]]>,
     above: Option<Step>,
     line: &[u8],
 ) -> Result<Step, LineFault>
-    ensures { Gives is_memory (λ step. (step, text.new.items)) result (line_onto tables.now text.old.items above line.now) }
+    ensures { Gives is_memory (λ step. (step, text.new.items)) result (line_onto tables.now (lines_now script) text.old.items above line.now) }
 {
     match line.strip_prefix(b"  ") {
         Some(output) => add_output(text, message, tables, above, output),
-        None => add_step(text, tables, line),
+        None => add_step(text, message, tables, script, line),
     }
 }
 
@@ -65,16 +74,17 @@ pub(crate) fn add_rows(
     alloc: Global,
     text: &mut Vec<u8>,
     tables: &Tables,
+    script: Option<&[&[u8]]>,
     trace: &[u8],
 ) -> Result<(), TraceFault>
-    ensures { Gives names_memory (λ _. text.new.items) result (rows_onto tables.now text.old.items 1 None (lines trace.now)) }
+    ensures { Gives names_memory (λ _. text.new.items) result (rows_onto tables.now (lines_now script) text.old.items 1 None (lines trace.now)) }
 {
     let mut message = Message::new(alloc, Kind::K0100);
     let mut above = None;
     let mut number = 1;
     let mut rest = trace;
     while let Some((line, behind)) = first_line(rest) {
-        match add_line(text, &mut message, tables, above, line) {
+        match add_line(text, &mut message, tables, script, above, line) {
             Ok(step) => above = Some(step),
             Err(fault) => return Err(TraceFault {
                 fault,
