@@ -1,2 +1,2 @@
 pub mod Parts
-pub mod Cells
+pub mod Spaces

@@ -1,5 +1,6 @@
 -- What the lines of a printed trace say.
-use Rattle.std.specs.Prelude.{ℕ, List, codes, bytes_eq, Result, Ok, Err, if◌then◌else◌, Bor}
+use Rattle.std.specs.Prelude.{ℕ, List, codes, bytes_eq, Result, Ok, Err, if◌then◌else◌}
+use Rattle.std.specs.Borrow.{Bor}
 use Rattle.card_digits.specs.Attempts.{◌>>=◌}
 use Rattle.net_rows.specs.Network.{Network}
 use Rattle.replay_script.specs.Words.{word_and_rest, number_of}

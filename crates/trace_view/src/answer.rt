@@ -32,7 +32,7 @@ fn table_of(
     script: Option<&[&[u8]]>,
     trace: &[u8],
 ) -> Result<Answer, AllocError>
-    ensures { IfOk result (λ a. AnswersTrace a (table_said (rows_onto tables.now (lines_now script) heading 1 None (lines trace.now)))) }
+    ensures { IfOk result (λ a. AnswersTrace a (table_said (rows_onto tables.now (lines_now script.entry) heading 1 None (lines trace.now)))) }
 {
     let mut text = heading(alloc)?;
     match add_rows(alloc, &mut text, tables, script, trace) {
@@ -48,7 +48,7 @@ fn table(
     script: Option<&[u8]>,
     trace: &[u8],
 ) -> Result<Answer, AllocError>
-    ensures { IfOk result (λ a. AnswersTrace a (table_said (table_in tables.now (option_copied script) trace.now))) }
+    ensures { IfOk result (λ a. AnswersTrace a (table_said (table_in tables.now (option_copied script.entry) trace.now))) }
 {
     match script {
         Some(script) => {
@@ -67,7 +67,7 @@ fn of_checked(
     script: Option<&[u8]>,
     trace: &[u8],
 ) -> Result<Answer, AllocError>
-    ensures { IfOk result (λ a. AnswersTrace a (checked_said tables.now (first_refusal tables.now cert.now) (option_copied script) trace.now)) }
+    ensures { IfOk result (λ a. AnswersTrace a (checked_said tables.now (first_refusal tables.now cert.now) (option_copied script.entry) trace.now)) }
 {
     match check(alloc, tables, cert) {
         Ok(_) => table(alloc, tables, script, trace),
@@ -84,7 +84,7 @@ fn of_ranked(
     script: Option<&[u8]>,
     trace: &[u8],
 ) -> Result<Answer, AllocError>
-    ensures { IfOk result (λ a. AnswersTrace a (read_said (Ok tables.now) (cert_in ranks.now) (option_copied script) trace.now)) }
+    ensures { IfOk result (λ a. AnswersTrace a (read_said (Ok tables.now) (cert_in ranks.now) (option_copied script.entry) trace.now)) }
 {
     match read_cert(alloc, ranks) {
         Ok(cert) => of_checked(alloc, tables, &cert, script, trace),
@@ -100,7 +100,7 @@ fn of_read(
     script: Option<&[u8]>,
     trace: &[u8],
 ) -> Result<Answer, AllocError>
-    ensures { IfOk result (λ a. AnswersTrace a (read_said (tables_in tables.now) (cert_in ranks.now) (option_copied script) trace.now)) }
+    ensures { IfOk result (λ a. AnswersTrace a (read_said (tables_in tables.now) (cert_in ranks.now) (option_copied script.entry) trace.now)) }
 {
     match read_tables(alloc, tables) {
         Ok(tables) => of_ranked(alloc, &tables, ranks, script, trace),

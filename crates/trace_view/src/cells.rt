@@ -7,7 +7,7 @@ use std::alloc::AllocError;
 const SPACES: [u8; 40] = [b' '; 40];
 
 /// Adds so many spaces.
-#[tactic(auto, using(crate::proofs::Cells::spaces))]
+#[tactic(auto, using(crate::proofs::Spaces::spaces))]
 pub(crate) fn add_spaces(text: &mut Vec<u8>, count: usize) -> Result<(), AllocError>
     requires { count ≤ 40 }
     ensures { OnOk result (text.new.items ≡ text.old.items ++ replicate count 32) }

@@ -46,19 +46,21 @@ fn line_at<'s>(script: &[&'s [u8]], number: u64) -> Option<&'s [u8]>
 fn said_at<'s>(tables: &Tables, node: NodeNo, line: &'s [u8]) -> Option<ScriptLine<'s>>
     ensures { option_map said result ≡ said_at tables.now node line.now }
 {
-    let said = read_line(tables, line)?;
-    if said.node == node { Some(said) } else { None }
+    match read_line(tables, line) {
+        Some(said) => { if said.node == node { Some(said) } else { None } }
+        None => None,
+    }
 }
 
 /// Adds the row of a line of the script, with more words behind it.
 fn add_said_row(
     text: &mut Vec<u8>,
     tables: &Tables,
-    step: Step,
+    step: &Step,
     line: &[u8],
     words: &[u8],
 ) -> Result<(), AllocError>
-    ensures { OnOk result (text.new.items ≡ text.old.items ++ said_row tables.now step line.now words.now) }
+    ensures { OnOk result (text.new.items ≡ text.old.items ++ said_row tables.now step.now line.now words.now) }
 {
     add_front(text, tables, step)?;
     text.extend_from_slice(b"in ")?;
@@ -71,10 +73,10 @@ fn add_said_row(
 fn add_entered_row(
     text: &mut Vec<u8>,
     tables: &Tables,
-    step: Step,
-    packet: Packet,
+    step: &Step,
+    packet: &Packet,
 ) -> Result<(), AllocError>
-    ensures { OnOk result (text.new.items ≡ text.old.items ++ entered_row tables.now step packet) }
+    ensures { OnOk result (text.new.items ≡ text.old.items ++ entered_row tables.now step.now packet.now) }
 {
     add_front(text, tables, step)?;
     add_cell(text, b"in enter", WAY)?;
@@ -88,17 +90,17 @@ fn add_event(
     text: &mut Vec<u8>,
     message: &mut Message,
     tables: &Tables,
-    step: Step,
+    step: &Step,
     line: &[u8],
-    command: Command<'_>,
+    command: &Command<'_>,
 ) -> Result<(), LineFault>
-    ensures { Gives is_memory (λ _. text.new.items) result (event_onto tables.now text.old.items step line.now (event_of command)) }
+    ensures { Gives is_memory (λ _. text.new.items) result (event_onto tables.now text.old.items step.now line.now (event_of command.now)) }
 {
     match command {
         Command::Enter(bytes) => {
             let packet = message_in(message, bytes)?;
             let packet = packet.ok_or(LineFault::NoMessage)?;
-            Ok(add_entered_row(text, tables, step, packet)?)
+            Ok(add_entered_row(text, tables, step, &packet)?)
         }
         Command::HostAnswer { code, .. } => {
             let words = code_words(code.as_slice());
@@ -119,14 +121,16 @@ pub(crate) fn add_input(
     message: &mut Message,
     tables: &Tables,
     script: Option<&[&[u8]]>,
-    step: Step,
+    step: &Step,
 ) -> Result<(), LineFault>
-    ensures { Gives is_memory (λ _. text.new.items) result (input_onto tables.now (lines_now script) text.old.items step) }
+    ensures { Gives is_memory (λ _. text.new.items) result (input_onto tables.now (lines_now script.entry) text.old.items step.now) }
 {
     let Some(script) = script else {
         return Ok(add_step_row(text, tables, step)?);
     };
     let line = line_at(script, step.number).ok_or(LineFault::NotInScript)?;
-    let said = said_at(tables, step.node, line).ok_or(LineFault::NotInScript)?;
-    add_event(text, message, tables, step, line, said.command)
+    match said_at(tables, step.node, line) {
+        Some(said) => add_event(text, message, tables, step, line, &said.command),
+        None => Err(LineFault::NotInScript),
+    }
 }

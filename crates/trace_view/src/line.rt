@@ -11,14 +11,14 @@ use net_rows::Tables;
 use step_rules::is_link_of;
 
 /// A line with a node: something came in there, as the line of this number of the script says.
-#[derive(Clone, Copy, Debug, PartialEq, Eq)]
+#[derive(Clone, Copy)]
 pub struct Step {
     pub number: u64,
     pub node: NodeNo,
 }
 
 /// Where something goes that a node puts out.
-#[derive(Clone, Copy, Debug, PartialEq, Eq)]
+#[derive(Clone, Copy)]
 pub enum Way {
     /// On a link. The node's puts on it count from 1.
     Put { link: LinkNo, serial: u64 },

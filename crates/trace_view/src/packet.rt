@@ -11,7 +11,7 @@ use network_law::{GrantPacket, read_packet};
 use std::alloc::AllocError;
 
 /// What is shown of a message: its type, the key of its request, and its response code.
-#[derive(Clone, Copy, Debug, PartialEq, Eq)]
+#[derive(Clone, Copy)]
 pub struct Known {
     pub kind: Kind,
     pub key: Option<Key>,
@@ -19,7 +19,7 @@ pub struct Known {
 }
 
 /// What goes out of a node.
-#[derive(Clone, Copy, Debug, PartialEq, Eq)]
+#[derive(Clone, Copy)]
 pub enum Packet {
     Message(Known),
     /// A part of the lender's limit is lent.
@@ -65,10 +65,10 @@ fn packet_in(message: &mut Message, bytes: &[u8]) -> Result<Option<Packet>, Allo
 /// What the bytes are that go a way: a grant goes over links alone.
 pub(crate) fn sent_in(
     message: &mut Message,
-    way: Way,
+    way: &Way,
     bytes: &[u8],
 ) -> Result<Option<Packet>, AllocError>
-    ensures { IfOk result (λ packet. packet ≡ sent_in way bytes.now) }
+    ensures { IfOk result (λ packet. packet ≡ sent_in way.now bytes.now) }
 {
     match way {
         Way::Put { .. } => packet_in(message, bytes),

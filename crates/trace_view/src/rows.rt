@@ -47,8 +47,8 @@ pub(crate) fn heading(alloc: Global) -> Result<Vec<u8>, AllocError>
 }
 
 /// Adds the number of a line and its node.
-pub(crate) fn add_front(text: &mut Vec<u8>, tables: &Tables, step: Step) -> Result<(), AllocError>
-    ensures { OnOk result (text.new.items ≡ text.old.items ++ front tables.now step) }
+pub(crate) fn add_front(text: &mut Vec<u8>, tables: &Tables, step: &Step) -> Result<(), AllocError>
+    ensures { OnOk result (text.new.items ≡ text.old.items ++ front tables.now step.now) }
 {
     let mut buffer = Buffer::new();
     let number = buffer.format(step.number).as_bytes();
@@ -60,38 +60,38 @@ pub(crate) fn add_front(text: &mut Vec<u8>, tables: &Tables, step: Step) -> Resu
 pub(crate) fn add_step_row(
     text: &mut Vec<u8>,
     tables: &Tables,
-    step: Step,
+    step: &Step,
 ) -> Result<(), AllocError>
-    ensures { OnOk result (text.new.items ≡ text.old.items ++ step_row tables.now step) }
+    ensures { OnOk result (text.new.items ≡ text.old.items ++ step_row tables.now step.now) }
 {
     add_front(text, tables, step)?;
     text.extend_from_slice(b"in\n")
 }
 
 /// Adds where something goes.
-fn add_way(text: &mut Vec<u8>, tables: &Tables, way: Way) -> Result<(), AllocError>
-    ensures { OnOk result (text.new.items ≡ text.old.items ++ way_text tables.now way) }
+fn add_way(text: &mut Vec<u8>, tables: &Tables, way: &Way) -> Result<(), AllocError>
+    ensures { OnOk result (text.new.items ≡ text.old.items ++ way_text tables.now way.now) }
 {
     let mut buffer = Buffer::new();
     match way {
         Way::Put { link, serial } => {
             text.extend_from_slice(b"put ")?;
-            text.extend_from_slice(link_name(tables, link))?;
+            text.extend_from_slice(link_name(tables, *link))?;
             text.push(b' ')?;
-            text.extend_from_slice(buffer.format(serial).as_bytes())
+            text.extend_from_slice(buffer.format(*serial).as_bytes())
         }
         Way::Answer => text.extend_from_slice(b"answer"),
         Way::Ask(number) => {
             text.extend_from_slice(b"ask ")?;
-            text.extend_from_slice(buffer.format(number).as_bytes())
+            text.extend_from_slice(buffer.format(*number).as_bytes())
         }
         Way::Post => text.extend_from_slice(b"post"),
     }
 }
 
 /// Adds the cell of where something goes.
-fn add_way_cell(text: &mut Vec<u8>, tables: &Tables, way: Way) -> Result<(), AllocError>
-    ensures { OnOk result (text.new.items ≡ text.old.items ++ cell 23 (way_text tables.now way)) }
+fn add_way_cell(text: &mut Vec<u8>, tables: &Tables, way: &Way) -> Result<(), AllocError>
+    ensures { OnOk result (text.new.items ≡ text.old.items ++ cell 23 (way_text tables.now way.now)) }
 {
     let start = text.len();
     add_way(text, tables, way)?;
@@ -109,8 +109,8 @@ fn add_kind_cells(text: &mut Vec<u8>, kind: Kind) -> Result<(), AllocError>
 }
 
 /// Adds the cells of a key, each with a hyphen where there is none.
-fn add_key_cells(text: &mut Vec<u8>, key: Option<Key>) -> Result<(), AllocError>
-    ensures { OnOk result (text.new.items ≡ text.old.items ++ key_cells key) }
+fn add_key_cells(text: &mut Vec<u8>, key: &Option<Key>) -> Result<(), AllocError>
+    ensures { OnOk result (text.new.items ≡ text.old.items ++ key_cells key.now) }
 {
     match key {
         Some(key) => {
@@ -127,8 +127,8 @@ fn add_key_cells(text: &mut Vec<u8>, key: Option<Key>) -> Result<(), AllocError>
 }
 
 /// Adds a response code and its words, or a hyphen where there is none.
-fn add_code(text: &mut Vec<u8>, code: Option<Code>) -> Result<(), AllocError>
-    ensures { OnOk result (text.new.items ≡ text.old.items ++ code_text code) }
+fn add_code(text: &mut Vec<u8>, code: &Option<Code>) -> Result<(), AllocError>
+    ensures { OnOk result (text.new.items ≡ text.old.items ++ code_text code.now) }
 {
     match code {
         Some(code) => {
@@ -140,12 +140,12 @@ fn add_code(text: &mut Vec<u8>, code: Option<Code>) -> Result<(), AllocError>
 }
 
 /// Adds what is shown of a message.
-fn add_known(text: &mut Vec<u8>, known: Known) -> Result<(), AllocError>
-    ensures { OnOk result (text.new.items ≡ text.old.items ++ known_text known) }
+fn add_known(text: &mut Vec<u8>, known: &Known) -> Result<(), AllocError>
+    ensures { OnOk result (text.new.items ≡ text.old.items ++ known_text known.now) }
 {
     add_kind_cells(text, known.kind)?;
-    add_key_cells(text, known.key)?;
-    add_code(text, known.code)
+    add_key_cells(text, &known.key)?;
+    add_code(text, &known.code)
 }
 
 /// Adds the cells of what is no message.
@@ -157,8 +157,8 @@ fn add_other(text: &mut Vec<u8>, words: &[u8]) -> Result<(), AllocError>
 }
 
 /// Adds what is shown of what goes out.
-pub(crate) fn add_packet(text: &mut Vec<u8>, packet: Packet) -> Result<(), AllocError>
-    ensures { OnOk result (text.new.items ≡ text.old.items ++ packet_text packet) }
+pub(crate) fn add_packet(text: &mut Vec<u8>, packet: &Packet) -> Result<(), AllocError>
+    ensures { OnOk result (text.new.items ≡ text.old.items ++ packet_text packet.now) }
 {
     match packet {
         Packet::Message(known) => add_known(text, known),
@@ -171,11 +171,11 @@ pub(crate) fn add_packet(text: &mut Vec<u8>, packet: Packet) -> Result<(), Alloc
 pub(crate) fn add_output_row(
     text: &mut Vec<u8>,
     tables: &Tables,
-    step: Step,
-    way: Way,
-    packet: Packet,
+    step: &Step,
+    way: &Way,
+    packet: &Packet,
 ) -> Result<(), AllocError>
-    ensures { OnOk result (text.new.items ≡ text.old.items ++ output_row tables.now step way packet) }
+    ensures { OnOk result (text.new.items ≡ text.old.items ++ output_row tables.now step.now way.now packet.now) }
 {
     add_front(text, tables, step)?;
     add_way_cell(text, tables, way)?;

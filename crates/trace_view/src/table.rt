@@ -4,11 +4,11 @@ ghost use Rattle.card_digits.specs.Attempts.{Gives};
 ghost use Rattle.card_digits.specs.Lines.{lines};
 ghost use Rattle.trace_view.specs.Faults.{is_memory, names_memory};
 ghost use Rattle.trace_view.specs.Inputs.{lines_now};
-ghost use Rattle.trace_view.specs.Table.{line_onto, output_onto, rows_onto, step_onto};
+ghost use Rattle.trace_view.specs.Table.{line_onto, output_onto, rows_onto, sent_onto, step_onto};
 
 use crate::fault::{LineFault, TraceFault};
 use crate::inputs::add_input;
-use crate::line::{Step, read_output, read_step};
+use crate::line::{Step, Way, read_output, read_step};
 use crate::packet::sent_in;
 use crate::rows::add_output_row;
 use card_digits::first_line;
@@ -17,39 +17,56 @@ use message_elements::Kind;
 use net_rows::Tables;
 use std::alloc::Global;
 
-/// Adds the row of an input. Gives the step that the lines behind may belong to.
+/// Adds the row of an input, and keeps it as the step that the lines behind may belong to.
 #[tactic(auto, using(card_digits::proofs::Attempts::fails_from, card_digits::proofs::Attempts::fails_bind))]
 fn add_step(
     text: &mut Vec<u8>,
     message: &mut Message,
     tables: &Tables,
     script: Option<&[&[u8]]>,
+    above: &mut Option<Step>,
     line: &[u8],
-) -> Result<Step, LineFault>
-    ensures { Gives is_memory (λ step. (step, text.new.items)) result (step_onto tables.now (lines_now script) text.old.items line.now) }
+) -> Result<(), LineFault>
+    ensures { Gives is_memory (λ _. (above.new, text.new.items)) result (step_onto tables.now (lines_now script.entry) text.old.items line.now) }
 {
     let step = read_step(tables, line)?;
-    add_input(text, message, tables, script, step)?;
-    Ok(step)
+    add_input(text, message, tables, script, &step)?;
+    *above = Some(step);
+    Ok(())
 }
 
-/// Adds the row of what went out, at the step above.
+/// Adds the row of bytes that went out.
+#[tactic(auto, using(card_digits::proofs::Attempts::fails_from))]
+fn add_sent(
+    text: &mut Vec<u8>,
+    message: &mut Message,
+    tables: &Tables,
+    step: &Step,
+    way: &Way,
+    bytes: &[u8],
+) -> Result<(), LineFault>
+    ensures { Gives is_memory (λ _. text.new.items) result (sent_onto tables.now text.old.items step.now (way.now, bytes.now)) }
+{
+    let packet = sent_in(message, way, bytes)?;
+    let packet = packet.ok_or(LineFault::NoMessage)?;
+    Ok(add_output_row(text, tables, step, way, &packet)?)
+}
+
+/// Adds the row of what went out at a step.
 #[tactic(auto, using(card_digits::proofs::Attempts::fails_from))]
 fn add_output(
     text: &mut Vec<u8>,
     message: &mut Message,
     tables: &Tables,
-    above: Option<Step>,
+    step: &Step,
     line: &[u8],
-) -> Result<Step, LineFault>
-    ensures { Gives is_memory (λ step. (step, text.new.items)) result (output_onto tables.now text.old.items above line.now) }
+) -> Result<(), LineFault>
+    ensures { Gives is_memory (λ _. text.new.items) result (output_onto tables.now text.old.items step.now line.now) }
 {
-    let step = above.ok_or(LineFault::NoNode)?;
-    let (way, bytes) = read_output(tables, step.node, line)?;
-    let packet = sent_in(message, way, bytes)?;
-    let packet = packet.ok_or(LineFault::NoMessage)?;
-    add_output_row(text, tables, step, way, packet)?;
-    Ok(step)
+    match read_output(tables, step.node, line) {
+        Ok((way, bytes)) => add_sent(text, message, tables, step, &way, bytes),
+        Err(fault) => Err(fault),
+    }
 }
 
 /// Adds the row of a line below a step.
@@ -58,14 +75,17 @@ fn add_line(
     message: &mut Message,
     tables: &Tables,
     script: Option<&[&[u8]]>,
-    above: Option<Step>,
+    above: &mut Option<Step>,
     line: &[u8],
-) -> Result<Step, LineFault>
-    ensures { Gives is_memory (λ step. (step, text.new.items)) result (line_onto tables.now (lines_now script) text.old.items above line.now) }
+) -> Result<(), LineFault>
+    ensures { Gives is_memory (λ _. (above.new, text.new.items)) result (line_onto tables.now (lines_now script.entry) text.old.items above.old line.now) }
 {
-    match line.strip_prefix(b"  ") {
-        Some(output) => add_output(text, message, tables, above, output),
-        None => add_step(text, message, tables, script, line),
+    let Some(output) = line.strip_prefix(b"  ") else {
+        return add_step(text, message, tables, script, above, line);
+    };
+    match above {
+        Some(step) => add_output(text, message, tables, step, output),
+        None => Err(LineFault::NoNode),
     }
 }
 
@@ -77,15 +97,15 @@ pub(crate) fn add_rows(
     script: Option<&[&[u8]]>,
     trace: &[u8],
 ) -> Result<(), TraceFault>
-    ensures { Gives names_memory (λ _. text.new.items) result (rows_onto tables.now (lines_now script) text.old.items 1 None (lines trace.now)) }
+    ensures { Gives names_memory (λ _. text.new.items) result (rows_onto tables.now (lines_now script.entry) text.old.items 1 None (lines trace.now)) }
 {
     let mut message = Message::new(alloc, Kind::K0100);
     let mut above = None;
     let mut number = 1;
     let mut rest = trace;
     while let Some((line, behind)) = first_line(rest) {
-        match add_line(text, &mut message, tables, script, above, line) {
-            Ok(step) => above = Some(step),
+        match add_line(text, &mut message, tables, script, &mut above, line) {
+            Ok(()) => {}
             Err(fault) => return Err(TraceFault {
                 fault,
                 line: number,
