@@ -31,19 +31,26 @@ of_node n s = if s.node == n then Some s else None
 abbrev pub said_at : Network → ℕ → List ℕ → Option Said
 said_at t n line = option_and_then (of_node n) (read_line t line)
 
--- a line of the script, and more words
+-- a line of the script came in; and more words
+abbrev pub said_text : List ℕ → Text → Text
+said_text line words = codes "in " ++ line ++ words ++ line_feed
+
 abbrev pub said_row : Network → Step → List ℕ → Text → Text
-said_row t s line words = front t s ++ codes "in " ++ line ++ words ++ line_feed
+said_row t s line words = front t s ++ said_text line words
 
 -- a message was entered
 abbrev pub entered_row : Network → Step → Packet → Text
 entered_row t s packet = front t s ++ cell 23 (codes "in enter") ++ packet_text packet ++ line_feed
 
--- behind rows, that of an event: a message that is entered is shown as one that goes out, and behind a host's code stand its words
-abbrev pub event_onto : Network → Text → Step → List ℕ → Event → Result Text LineFault
-event_onto t text s line (Enter bytes) = do
+-- behind rows, that of bytes that were entered
+abbrev pub entered_onto : Network → Text → Step → List ℕ → Result Text LineFault
+entered_onto t text s bytes = do
   packet ← ok_or (message_in bytes) NoMessage
   Ok (text ++ entered_row t s packet)
+
+-- behind rows, that of an event: a message that is entered is shown as one that goes out, and behind a host's code stand its words
+abbrev pub event_onto : Network → Text → Step → List ℕ → Event → Result Text LineFault
+event_onto t text s line (Enter bytes) = entered_onto t text s bytes
 event_onto t text s line (HostAnswer ask code) = Ok (text ++ said_row t s line (code_words code))
 event_onto t text s line event = Ok (text ++ said_row t s line (codes ""))
 

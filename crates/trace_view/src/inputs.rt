@@ -5,7 +5,7 @@ ghost use Rattle.card_digits.specs.Attempts.{Gives};
 ghost use Rattle.card_digits.specs.Lines.{lines};
 ghost use Rattle.replay_script.specs.Lines.{event_of, said};
 ghost use Rattle.trace_view.specs.Faults.{is_memory};
-ghost use Rattle.trace_view.specs.Inputs.{entered_row, event_onto, input_onto, line_at, lines_now, said_at, said_row};
+ghost use Rattle.trace_view.specs.Inputs.{entered_onto, entered_row, event_onto, input_onto, line_at, lines_now, said_at, said_row, said_text};
 
 use crate::cells::add_cell;
 use crate::fault::LineFault;
@@ -52,6 +52,16 @@ fn said_at<'s>(tables: &Tables, node: NodeNo, line: &'s [u8]) -> Option<ScriptLi
     }
 }
 
+/// Adds a line of the script as what came in, with more words behind it.
+fn add_said(text: &mut Vec<u8>, line: &[u8], words: &[u8]) -> Result<(), AllocError>
+    ensures { OnOk result (text.new.items ≡ text.old.items ++ said_text line.now words.now) }
+{
+    text.extend_from_slice(b"in ")?;
+    text.extend_from_slice(line)?;
+    text.extend_from_slice(words)?;
+    text.extend_from_slice(b"\n")
+}
+
 /// Adds the row of a line of the script, with more words behind it.
 fn add_said_row(
     text: &mut Vec<u8>,
@@ -63,10 +73,7 @@ fn add_said_row(
     ensures { OnOk result (text.new.items ≡ text.old.items ++ said_row tables.now step.now line.now words.now) }
 {
     add_front(text, tables, step)?;
-    text.extend_from_slice(b"in ")?;
-    text.extend_from_slice(line)?;
-    text.extend_from_slice(words)?;
-    text.extend_from_slice(b"\n")
+    add_said(text, line, words)
 }
 
 /// Adds the row of what an acquirer entered.
@@ -84,6 +91,23 @@ fn add_entered_row(
     text.extend_from_slice(b"\n")
 }
 
+/// Adds the row of bytes that an acquirer entered.
+fn add_entered(
+    text: &mut Vec<u8>,
+    message: &mut Message,
+    tables: &Tables,
+    step: &Step,
+    bytes: &[u8],
+) -> Result<(), LineFault>
+    ensures { Gives is_memory (λ _. text.new.items) result (entered_onto tables.now text.old.items step.now bytes.now) }
+{
+    match message_in(message, bytes) {
+        Ok(Some(packet)) => Ok(add_entered_row(text, tables, step, &packet)?),
+        Ok(None) => Err(LineFault::NoMessage),
+        Err(_) => Err(LineFault::Memory),
+    }
+}
+
 /// Adds the row of what a line of the script says. A message that is entered is shown as one that goes out, and behind a host's response code
 /// stand its words.
 fn add_event(
@@ -97,11 +121,7 @@ fn add_event(
     ensures { Gives is_memory (λ _. text.new.items) result (event_onto tables.now text.old.items step.now line.now (event_of command.now)) }
 {
     match command {
-        Command::Enter(bytes) => {
-            let packet = message_in(message, bytes)?;
-            let packet = packet.ok_or(LineFault::NoMessage)?;
-            Ok(add_entered_row(text, tables, step, &packet)?)
-        }
+        Command::Enter(bytes) => add_entered(text, message, tables, step, bytes),
         Command::HostAnswer { code, .. } => {
             let words = code_words(code.as_slice());
             Ok(add_said_row(text, tables, step, line, words)?)

@@ -47,9 +47,11 @@ fn add_sent(
 ) -> Result<(), LineFault>
     ensures { Gives is_memory (λ _. text.new.items) result (sent_onto tables.now text.old.items step.now (way.now, bytes.now)) }
 {
-    let packet = sent_in(message, way, bytes)?;
-    let packet = packet.ok_or(LineFault::NoMessage)?;
-    Ok(add_output_row(text, tables, step, way, &packet)?)
+    match sent_in(message, way, bytes) {
+        Ok(Some(packet)) => Ok(add_output_row(text, tables, step, way, &packet)?),
+        Ok(None) => Err(LineFault::NoMessage),
+        Err(_) => Err(LineFault::Memory),
+    }
 }
 
 /// Adds the row of what went out at a step.
