@@ -1,5 +1,5 @@
 -- What came in, as the lines of a script say.
-use Rattle.std.specs.Prelude.{ℕ, ◌-◌, ◌==◌, List, ◌++◌, map, codes, slice_get, if◌then◌else◌, Option, Some, None, option_and_then, Result, Ok, Err}
+use Rattle.std.specs.Prelude.{ℕ, ◌-◌, ◌==◌, List, ◌++◌, map, codes, slice_get, if◌then◌else◌, Option, Some, None, option_and_then, Result, Ok}
 use Rattle.std.specs.Borrow.{Bor}
 use Rattle.card_digits.specs.Attempts.{◌>>=◌}
 use Rattle.net_rows.specs.Network.{Network}

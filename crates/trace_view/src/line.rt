@@ -31,7 +31,6 @@ pub enum Way {
 }
 
 /// The bytes before the first space, and those behind it. None where there is no space.
-#[tactic(auto, using(replay_script::proofs::Spaces::cut_is))]
 fn word_and_rest(text: &[u8]) -> Option<(&[u8], &[u8])>
     ensures { MatchOption result (word_and_rest text.now ≡ None) (λ p. word_and_rest text.now ≡ Some (p.0.now, p.1.now)) }
 {
