@@ -29,37 +29,41 @@ def accepted(job, status, data, out, err):
     return None if (status, out, err) == (0, b"accepted\n", b"") else f"status {status}: {out[:60]}"
 
 
-def deep_tables():
-    """Tables that nest, and tables with very many keys or very long ones."""
-    size = 1 << 20
+def deep_tables(size=1 << 20):
+    """Tables of about so many bytes, by name, that nest, or have very many keys or very long ones."""
     network = b'[network]\ncurrency = "840"\ndate = "0314"\nhost_ticks = 100\nadvice_ticks = 50\n'
-    yield b"x = " + b"[" * size
-    yield b"x = " + b"[" * size + b"]" * size
-    yield b"x = " + b"{x = " * (size // 5)
-    yield b"x = " + b"{x = " * (size // 8) + b"1" + b"}" * (size // 8)
-    yield b"x" + b".x" * (size // 2) + b" = 1"
-    yield b"[x" + b".x" * (size // 2) + b"]"
-    yield b"[[x" + b".x" * (size // 2) + b"]]"
-    yield b'x = "' + b"a" * size
-    yield b'x = "' + b"\\u0041" * (size // 6) + b'"'
-    yield b"x = " + b"9" * size
-    yield b"x = 0." + b"9" * size
-    yield b"x = 1e" + b"9" * size
-    yield b"x = [" + b"1," * (size // 2) + b"]"
-    yield b"[[node]]\n" * (size // 9)
-    yield network + b"".join(b'[[node]]\nname = "N%d"\nid = "%d"\n' % (number, number + 1) for number in range(20000))
-    yield b"".join(b"k%d = 1\n" % number for number in range(size // 12))
-    yield b"".join(b"[k%d]\n" % number for number in range(size // 10))
-    yield b"".join(b"a.k%d = 1\n" % number for number in range(size // 12))
-    yield network + b"node = [" + b"{}," * (size // 3) + b"]"
-    yield network + b"issuer = [{named = [" + b'"A",' * (size // 4) + b"]}]"
-    yield b'x = """' + b"\n" * size + b'"""'
-    yield b"'" * size
-    yield b"\xef\xbb\xbf" * (size // 3)
+    yield "brackets without an end", b"x = " + b"[" * size
+    yield "brackets", b"x = " + b"[" * size + b"]" * size
+    yield "inline tables without an end", b"x = " + b"{x = " * (size // 5)
+    yield "inline tables", b"x = " + b"{x = " * (size // 8) + b"1" + b"}" * (size // 8)
+    yield "a dotted key", b"x" + b".x" * (size // 2) + b" = 1"
+    yield "a dotted header", b"[x" + b".x" * (size // 2) + b"]"
+    yield "a dotted header of a row", b"[[x" + b".x" * (size // 2) + b"]]"
+    yield "a string without an end", b'x = "' + b"a" * size
+    yield "a string", b'x = "' + b"a" * size + b'"'
+    yield "escapes", b'x = "' + b"\\u0041" * (size // 6) + b'"'
+    yield "digits", b"x = " + b"9" * size
+    yield "digits behind a point", b"x = 0." + b"9" * size
+    yield "digits of an exponent", b"x = 1e" + b"9" * size
+    yield "a list", b"x = [" + b"1," * (size // 2) + b"]"
+    yield "headers of rows", b"[[node]]\n" * (size // 9)
+    yield "rows of nodes", network + b"".join(b'[[node]]\nname = "N%d"\nid = "%d"\n' % (n, n + 1) for n in range(size // 52))
+    yield "keys", b"".join(b"k%d = 1\n" % number for number in range(size // 12))
+    yield "headers", b"".join(b"[k%d]\n" % number for number in range(size // 10))
+    yield "keys of a table", b"".join(b"a.k%d = 1\n" % number for number in range(size // 12))
+    yield "keys of a row", network + b"[[node]]\n" + b"".join(b"k%d = 1\n" % number for number in range(size // 12))
+    yield "headers below a row", network + b"[[node]]\n" + b"".join(b"[node.k%d]\n" % number for number in range(size // 14))
+    yield "a list of rows", network + b"node = [" + b"{}," * (size // 3) + b"]"
+    yield "a list of names", network + b"issuer = [{named = [" + b'"A",' * (size // 4) + b"]}]"
+    yield "a string of lines", b'x = """' + b"\n" * size + b'"""'
+    yield "quotes", b"'" * size
+    yield "byte order marks", b"\xef\xbb\xbf" * (size // 3)
+    yield "a comment", b"#" + b"x" * size
+    yield "comments", b"#x\n" * (size // 3)
 
 
 def deep_cases():
-    for tables in deep_tables():
+    for _, tables in deep_tables():
         yield "make", tables, answers.problem_of
         yield "check", tables + b"\n%%\nRANKS 1\nEND\n", answers.problem_of
 
@@ -79,12 +83,18 @@ def many_lines():
     yield "run", bundle + b"PLAN 1\nturns 10\ntick_every 1\nsession 400001\n" + sends + b"send x\nEND\n", answers.problem_of
 
 
+def longest_bundles():
+    """The longest input that is read, and one a byte longer."""
+    for size in (MOST, MOST + 1):
+        yield "check", system.long_bundle(size), accepted
+
+
 def cases(seed):
     rng = random.Random(seed)
     noise = rng.randbytes(MOST + 1)
     message = changes.REQUEST + b"\n"
+    yield from longest_bundles()
     for size in (MOST, MOST + 1):
-        yield "check", system.long_bundle(size), accepted
         for job in ("check", "make", "replay", "run", "decode", "frames"):
             for piece in (b"\x00", b"[", b"%%\n", b"\r\n", b"[[node]]\n", noise):
                 yield job, filled(piece, size), short_answer
