@@ -5,4 +5,4 @@ mod job;
 #[cfg(test)]
 mod tests;
 
-pub use job::{Job, job_of};
+pub use job::{Command, Job, command_of, job_of};

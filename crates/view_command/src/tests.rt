@@ -1,5 +1,5 @@
 //! Words that name a job, and others.
-use crate::{Job, job_of};
+use crate::{Command, Job, command_of, job_of};
 use card_digits::Card;
 use std::test::Fail;
 
@@ -30,5 +30,18 @@ fn other_words(rt: HostRuntime) -> Result<(), Fail> {
     assert_eq!(rt; job_of(&["card", "41111111x1111111"]), None);
     assert_eq!(rt; job_of(&["card", "41111111111111111111"]), None);
     assert_eq!(rt; job_of(&["card", "4111111111111111", "--"]), None);
+    Ok(())
+}
+
+#[test]
+fn a_printed_trace(rt: HostRuntime) -> Result<(), Fail> {
+    assert_eq!(rt; command_of(&["trace"]), Some(Command::Trace));
+    assert_eq!(rt;
+        command_of(&["refusals"]),
+        Some(Command::View(Job::Refusals))
+    );
+    assert_eq!(rt; command_of(&["trace", "trace"]), None);
+    assert_eq!(rt; command_of(&["traces"]), None);
+    assert_eq!(rt; command_of(&[]), None);
     Ok(())
 }
