@@ -1,0 +1,6 @@
+use Rattle.std.proofs.Common.{rules}
+use Rattle.network_picture.proofs.Pictured.{refused_is}
+use Rattle.network_picture.proofs.answer.refused.Goals as goal
+
+pub returns : goal.returns
+returns c = refused_is c.args.job.now c.args.tables.now c.args.cert.now c.in_ok-found.found.items c.args.refusal.now c.new.result c.requires c.in_ok-found.ensures.all (search rules)

@@ -1,0 +1,9 @@
+use Rattle.std.proofs.Common.{rules}
+use Rattle.std.proofs.lemmas.Grind.{put_two}
+use Rattle.picture_text.specs.Dot.{node_text}
+use Rattle.picture_text.proofs.Pieces.{piece_more}
+use Rattle.picture_text.proofs.dot.NodesDisplay.fmt.Goals as goal
+
+pub loop-node-preserved : goal.loop-node-preserved
+loop-node-preserved g c =
+    λ plain. put_two _ _ _ _ _ _ _ (c.loop-node.invariant plain) (search rules) (piece_more node_text c.args.self.now.boxes.now c.loop-node.node-index c.node-item.result c.loop-node-test.true c.node-item.is)
