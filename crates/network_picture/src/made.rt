@@ -12,7 +12,6 @@ use rank_cert::Cert;
 use std::alloc::{AllocError, Global};
 
 /// The picture of a network at a class, with the rows that these refusals speak of in red.
-#[tactic(auto, using(crate::proofs::Corners::boxes_apart))]
 pub fn picture_of(
     alloc: Global,
     tables: &Tables,

@@ -211,7 +211,7 @@ fn two_columns_in_svg(rt: HostRuntime) -> Result<(), Fail> {
     let alloc = rt.alloc();
     let input = bundle(alloc, TWO_NODES, "RANKS 1\nA 4 1\nH 4 0\nEND\n")?;
     let head = "\
-<svg xmlns='http://www.w3.org/2000/svg' width='500' height='260'
+<svg xmlns='http://www.w3.org/2000/svg' width='500' height='200'
 font-family='sans-serif' font-size='11'>
 <rect width='100%' height='100%' fill='white'/>
 <text x='20' y='22' font-size='14'>accepted
@@ -220,13 +220,13 @@ font-family='sans-serif' font-size='11'>
 ";
     let body = "\
 <g fill='none' stroke='#aaa'>
-<path d='M150 101L160 101 280 141 290 141'><title>AH 3</title></path>
+<path d='M150 96L160 96 280 136 290 136'><title>AH 3</title></path>
 </g>
 <g fill='none' stroke='#06c' stroke-width='1.5' marker-end='url(#tip)'>
-<path d='M150 101L160 101 280 141 290 141'/>
+<path d='M150 96L160 96 280 136 290 136'/>
 </g>
 <g text-anchor='middle' fill='#555' stroke='white' stroke-width='3' paint-order='stroke'>
-<text x='190' y='111'>AH 3</text>
+<text x='190' y='106'>AH 3</text>
 </g>
 <g fill='white' stroke='black'>
 <rect x='40' y='70' width='110' height='62'/>
@@ -252,7 +252,7 @@ fn one_column_in_svg(rt: HostRuntime) -> Result<(), Fail> {
     let alloc = rt.alloc();
     let input = bundle(alloc, TWO_NODES, "RANKS 1\nA 4 0\nH 4 0\nEND\n")?;
     let head = "\
-<svg xmlns='http://www.w3.org/2000/svg' width='250' height='340'
+<svg xmlns='http://www.w3.org/2000/svg' width='250' height='280'
 font-family='sans-serif' font-size='11'>
 <rect width='100%' height='100%' fill='white'/>
 <text x='20' y='22' font-size='14'>refused 2 not less: node A prefix 4 link AH
@@ -261,13 +261,13 @@ font-family='sans-serif' font-size='11'>
 ";
     let body = "\
 <g fill='none' stroke='#aaa'>
-<path d='M150 101L210 101 210 181 150 181'><title>AH 3</title></path>
+<path d='M150 96L210 96 210 186 150 186'><title>AH 3</title></path>
 </g>
 <g fill='none' stroke='#06c' stroke-width='1.5' marker-end='url(#tip)'>
-<path d='M150 101L210 101 210 181 150 181' stroke='#d00' marker-end='url(#refused)'/>
+<path d='M150 96L210 96 210 186 150 186' stroke='#d00' marker-end='url(#refused)'/>
 </g>
 <g text-anchor='middle' fill='#555' stroke='white' stroke-width='3' paint-order='stroke'>
-<text x='210' y='121'>AH 3</text>
+<text x='210' y='118'>AH 3</text>
 </g>
 <g fill='white' stroke='black'>
 <rect x='40' y='70' width='110' height='62'/>

@@ -7,23 +7,23 @@ use Rattle.picture_text.specs.declared.parts.NodeBox.{NodeBox}
 use Rattle.picture_text.specs.declared.curve.Point.{Point}
 use Rattle.picture_text.specs.declared.curve.Curve.{Curve}
 
--- the middles of a box's sides
-abbrev pub left_side : Corner → Point
-left_side c = record { left = c.left; top = c.top + 31 }
+-- a place on a box's left or right side, so far below its upper side
+abbrev pub left_side : Corner → ℕ → Point
+left_side c below = record { left = c.left; top = c.top + below }
 
-abbrev pub right_side : Corner → Point
-right_side c = record { left = c.left + 110; top = c.top + 31 }
+abbrev pub right_side : Corner → ℕ → Point
+right_side c below = record { left = c.left + 110; top = c.top + below }
 
--- to a box further right or left, with 10 pixels straight out of each box
+-- to a box further right or left, with 10 pixels straight out of each box; those to the left lie lower
 abbrev pub rightwards : Corner → Corner → Curve
-rightwards a b = record { start = right_side a; out = a.left + 120; back = b.left - 10; end = left_side b }
+rightwards a b = record { start = right_side a 26; out = a.left + 120; back = b.left - 10; end = left_side b 26 }
 
 abbrev pub leftwards : Corner → Corner → Curve
-leftwards a b = record { start = left_side a; out = a.left - 10; back = b.left + 120; end = right_side b }
+leftwards a b = record { start = left_side a 36; out = a.left - 10; back = b.left + 120; end = right_side b 36 }
 
 -- between boxes in one column, out on the right and back
 abbrev pub around : Corner → Corner → Curve
-around a b = record { start = right_side a; out = a.left + 170; back = a.left + 170; end = right_side b }
+around a b = record { start = right_side a 26; out = a.left + 170; back = a.left + 170; end = right_side b 36 }
 
 abbrev pub curve : Corner → Corner → Curve
 curve a b =

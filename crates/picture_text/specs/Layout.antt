@@ -50,7 +50,7 @@ abbrev pub node_corners : List (Option ℕ) → List Corner
 node_corners ranks = corners_in (columns ranks)
 
 abbrev pub picture_size : List (Option ℕ) → Size
-picture_size ranks = record { width = 250 + 250 * last_column ranks; height = 180 + 80 * tallest (columns ranks) }
+picture_size ranks = record { width = 250 + 250 * last_column ranks; height = 120 + 80 * tallest (columns ranks) }
 
 -- boxes of 110 by 62 pixels don't meet
 abbrev pub AreApart : Corner → Corner → Type 0

@@ -1,5 +1,5 @@
 //! The ways of links and arrows between boxes.
-ghost use Rattle.std.specs.Prelude.{◌≡◌, Some};
+ghost use Rattle.std.specs.Prelude.{◌≡◌, ◌<◌, ◌^◌, Some};
 ghost use Rattle.picture_text.specs.Curve.{left_side, right_side, rightwards, leftwards, around, curve, curve_between, curve_text, part, label};
 
 use crate::parts::{Corner, NodeBox};
@@ -8,7 +8,10 @@ use std::fmt;
 
 const BOX_WIDTH: u32 = 110;
 
-const HALF_HEIGHT: u32 = 31;
+/// How far below a box's upper side lines to the right meet it, and those to the left: two arrows between two boxes stand apart.
+const TO_RIGHT: u32 = 26;
+
+const TO_LEFT: u32 = 36;
 /// How far a line leaves a box sideways.
 const STUB: u32 = 10;
 /// How far it goes out where both boxes stand in one column.
@@ -30,23 +33,25 @@ pub struct Curve {
     pub end: Point,
 }
 
-/// The middle of a box's left side.
-fn left_side(corner: Corner) -> Point
-    ensures { result ≡ left_side corner }
+/// A place on a box's left side, so far below its upper side.
+fn left_side(corner: Corner, below: u32) -> Point
+    requires { below < 2 ^ 16 }
+    ensures { result ≡ left_side corner below }
 {
     Point {
         left: corner.left as u32,
-        top: corner.top as u32 + HALF_HEIGHT,
+        top: corner.top as u32 + below,
     }
 }
 
-/// The middle of a box's right side.
-fn right_side(corner: Corner) -> Point
-    ensures { result ≡ right_side corner }
+/// The same on its right side.
+fn right_side(corner: Corner, below: u32) -> Point
+    requires { below < 2 ^ 16 }
+    ensures { result ≡ right_side corner below }
 {
     Point {
         left: corner.left as u32 + BOX_WIDTH,
-        top: corner.top as u32 + HALF_HEIGHT,
+        top: corner.top as u32 + below,
     }
 }
 
@@ -55,10 +60,10 @@ fn rightwards(from: Corner, to: Corner) -> Curve
     ensures { result ≡ rightwards from to }
 {
     Curve {
-        start: right_side(from),
+        start: right_side(from, TO_RIGHT),
         out: from.left as u32 + BOX_WIDTH + STUB,
         back: (to.left as u32).saturating_sub(STUB),
-        end: left_side(to),
+        end: left_side(to, TO_RIGHT),
     }
 }
 
@@ -67,10 +72,10 @@ fn leftwards(from: Corner, to: Corner) -> Curve
     ensures { result ≡ leftwards from to }
 {
     Curve {
-        start: left_side(from),
+        start: left_side(from, TO_LEFT),
         out: (from.left as u32).saturating_sub(STUB),
         back: to.left as u32 + BOX_WIDTH + STUB,
-        end: right_side(to),
+        end: right_side(to, TO_LEFT),
     }
 }
 
@@ -80,10 +85,10 @@ fn around(from: Corner, to: Corner) -> Curve
 {
     let aside = from.left as u32 + BOX_WIDTH + ASIDE;
     Curve {
-        start: right_side(from),
+        start: right_side(from, TO_RIGHT),
         out: aside,
         back: aside,
-        end: right_side(to),
+        end: right_side(to, TO_LEFT),
     }
 }
 

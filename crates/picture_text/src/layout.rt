@@ -166,7 +166,7 @@ pub fn layout_of(alloc: Global, ranks: &[Option<u16>]) -> Result<Layout, AllocEr
     let corners = corners(alloc, &columns)?;
     let size = Size {
         width: 250 + 250 * last as u16,
-        height: 180 + 80 * tallest(&columns) as u16,
+        height: 120 + 80 * tallest(&columns) as u16,
     };
     Ok(Layout { corners, size })
 }
