@@ -50,12 +50,12 @@ all_apart all cs is i j a b lt first second =
     apart all i j p.0 q.0 a b lt p.1 p.2 q.2
 
 -- a corner more
-pub corner_more : (cols : List ℕ) (done new : List Corner) (n c : ℕ) (x : Corner) (all : List Corner) → n < length cols → c ≡ get_or cols n c → x ≡ corner_at cols n c → new ≡ done ++ x ∷ []
+pub corner_more : (cols : List ℕ) (done new : List Corner) (n : ℕ) (x : Corner) (all : List Corner) → n < length cols → x ≡ corner_at cols n (get_or cols n 0) → new ≡ done ++ x ∷ []
     → done ++ corners_from cols n (drop n cols) ≡ all → new ++ corners_from cols (n + 1) (drop (n + 1) cols) ≡ all
-corner_more cols done new n c x all lt is here added so_far =
-    let step : drop n cols ≡ c ∷ drop (n + 1) cols = rw (drop_more cols n c, ← is) refl in
-    let before : done ++ (corner_at cols n c ∷ corners_from cols (n + 1) (drop (n + 1) cols)) ≡ all = rw step at so_far in
-    rw (added, here, append_assoc done (corner_at cols n c ∷ []) (corners_from cols (n + 1) (drop (n + 1) cols))) before
+corner_more cols done new n x all lt here added so_far =
+    let step : drop n cols ≡ get_or cols n 0 ∷ drop (n + 1) cols = drop_more cols n 0 lt in
+    let before : done ++ (corner_at cols n (get_or cols n 0) ∷ corners_from cols (n + 1) (drop (n + 1) cols)) ≡ all = rw step at so_far in
+    rw (added, here, append_assoc done (corner_at cols n (get_or cols n 0) ∷ []) (corners_from cols (n + 1) (drop (n + 1) cols))) before
 
 count_from : (all : List ℕ) (n : ℕ) (cs : List ℕ) → length (corners_from all n cs) ≡ length cs
 count_from all n [] = refl

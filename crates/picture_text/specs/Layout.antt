@@ -1,8 +1,8 @@
 -- Where the nodes of a picture stand: in columns by their ranks, the least rank on the right, those without a rank on the left.
-use Rattle.std.specs.Prelude.{ℕ, ◌+◌, ◌-◌, ◌*◌, ◌%◌, ◌==◌, ◌≤◌, ◌<◌, ◌≡◌, List, [], ◌∷◌, ◌⊎◌, slice_get, Some, map, fold, length, take, min, max, Option, is_none, option_and_then, unwrap_or, if◌then◌else◌, position, count_by}
+use Rattle.std.specs.Prelude.{ℕ, ◌+◌, ◌-◌, ◌*◌, ◌%◌, ◌==◌, ◌≤◌, ◌<◌, ◌≡◌, List, [], ◌∷◌, ◌⊎◌, slice_get, Some, map, fold, length, take, min, max, Option, is_none, nat_lt, if◌then◌else◌, count_by}
 use Rattle.std.specs.Ordering.{nat_cmp}
 use Rattle.std.specs.List.{flat_map, list_any}
-use Rattle.std.specs.Option.{option_to_list}
+use Rattle.std.specs.Option.{option_to_list, option_map_or}
 use Rattle.std.specs.BTreeSet.{insert_key}
 use Rattle.picture_text.specs.declared.parts.Corner.{Corner}
 use Rattle.picture_text.specs.declared.parts.Size.{Size}
@@ -13,7 +13,7 @@ each_rank ranks = fold (insert_key nat_cmp) [] (flat_map option_to_list ranks)
 
 -- how many ranks are less, where the node has a rank, and otherwise how many there are
 abbrev pub from_right : List ℕ → Option ℕ → ℕ
-from_right each rank = unwrap_or (option_and_then (λ r. position (λ k. k == r) each) rank) (length each)
+from_right each rank = option_map_or (λ r. count_by (λ k. nat_lt k r) each) rank (length each)
 
 -- the greatest of these
 abbrev pub last_column : List (Option ℕ) → ℕ

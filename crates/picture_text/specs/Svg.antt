@@ -97,9 +97,17 @@ frames boxes = flat_map frame boxes
 abbrev pub box_texts : List NodeBox → Text
 box_texts boxes = flat_map box_text boxes
 
+-- how large the picture is
+abbrev pub opening : Size → Text
+opening s = concat (codes "<svg xmlns='http://www.w3.org/2000/svg'" ∷ codes " width='" ∷ decimal s.width ∷ codes "' height='" ∷ decimal s.height ∷ codes "'\n" ∷ [])
+
+-- the letters, the ground, and the beginning of the verdict's line
+abbrev pub page : Text
+page = concat (codes "font-family='sans-serif' font-size='11'>\n" ∷ codes "<rect width='100%' height='100%' fill='white'/>\n" ∷ codes "<text x='20' y='22' font-size='14'>" ∷ [])
+
 -- what stands before the verdict
 abbrev pub svg_head : Size → Text
-svg_head s = concat (codes "<svg xmlns='http://www.w3.org/2000/svg' width='" ∷ decimal s.width ∷ codes "' height='" ∷ decimal s.height ∷ codes "'\n" ∷ codes "font-family='sans-serif' font-size='11'>\n" ∷ codes "<rect width='100%' height='100%' fill='white'/>\n" ∷ codes "<text x='20' y='22' font-size='14'>" ∷ [])
+svg_head s = opening s ++ page
 
 abbrev pub class_text : Option (List ℕ) → Text
 class_text None = codes "no class"

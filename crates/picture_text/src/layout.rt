@@ -1,5 +1,5 @@
 //! Where the nodes of a picture stand.
-ghost use Rattle.std.specs.Prelude.{◌≡◌, ℕ, ◌<◌, ◌≤◌, ◌+◌, ◌-◌, ◌==◌, length, map, fold, count_by, position, unwrap_or, option_and_then, take, is_none, max, IfOk, OnOk};
+ghost use Rattle.std.specs.Prelude.{◌≡◌, ℕ, ◌<◌, ◌≤◌, ◌+◌, ◌-◌, ◌==◌, length, map, fold, count_by, nat_lt, slice_get, unwrap_or, None, take, is_none, max, if◌then◌else◌, IfOk, OnOk};
 ghost use Rattle.std.specs.List.{list_any, flat_map};
 ghost use Rattle.std.specs.Option.{option_to_list};
 ghost use Rattle.std.specs.BTreeSet.{insert_key};
@@ -22,14 +22,23 @@ fn add(set: &mut BTreeSet<u16>, rank: Option<u16>) -> Result<(), AllocError>
     Ok(())
 }
 
+/// The rank of the node at a place.
+fn rank_at(ranks: &[Option<u16>], place: usize) -> Option<u16>
+    requires { place < length ranks.now }
+    ensures { result ≡ unwrap_or (slice_get ranks.now place) None }
+{
+    ranks[place]
+}
+
 /// The ranks of nodes, each once, in ascending order.
 fn each_rank(alloc: Global, ranks: &[Option<u16>]) -> Result<Vec<u16>, AllocError>
     ensures all { IfOk result (λ v. v.items ≡ each_rank ranks.now) }
     ensures few { IfOk result (λ v. length v.items ≤ length ranks.now) }
 {
     let mut set = BTreeSet::new(alloc);
-    for rank in ranks {
-        add(&mut set, *rank)?;
+    for place in 0..ranks.len() {
+        let rank = rank_at(ranks, place);
+        add(&mut set, rank)?;
     }
     listed(alloc, &set)
 }
@@ -40,12 +49,19 @@ fn listed(alloc: Global, set: &BTreeSet<u16>) -> Result<Vec<u16>, AllocError>
     set.iter().copied().collect(alloc)
 }
 
+/// How many of the ranks are less.
+fn less(each: &[u16], rank: u16) -> usize
+    ensures { result ≡ count_by (λ k. nat_lt k rank) each.now }
+{
+    each.iter().filter(|k| **k < rank).count()
+}
+
 /// How far a rank's column is from the right.
 fn from_right(each: &[u16], rank: Option<u16>) -> usize
     ensures { result ≡ from_right each.now rank }
 {
     match rank {
-        Some(rank) => each.iter().position(|k| *k == rank).unwrap_or(each.len()),
+        Some(rank) => less(each, rank),
         None => each.len(),
     }
 }
@@ -59,19 +75,33 @@ fn column(each: &[u16], last: u8, rank: Option<u16>) -> u8
     last.saturating_sub(from_right) as u8
 }
 
-/// The last column from the left, which is the first from the right.
-fn last_column(ranks: &[Option<u16>], each: &[u16]) -> u8
-    requires each { each.now ≡ each_rank ranks.now }
-    requires few { length each.now ≤ 64 }
-    ensures last { result ≡ last_column ranks.now }
-    ensures few { result ≤ 64 }
+/// Whether a node has no rank.
+fn has_unranked(ranks: &[Option<u16>]) -> bool
+    ensures { result ≡ list_any is_none ranks.now }
 {
-    let count = each.len() as u8;
-    if ranks.iter().any(|rank| rank.is_none()) {
+    ranks.iter().any(|rank| rank.is_none())
+}
+
+/// The last column, where so many ranks have one, and nodes without a rank another.
+fn last_of(count: u8, has_unranked: bool) -> u8
+    ensures { result ≡ (if has_unranked then count else count - 1) }
+{
+    if has_unranked {
         count
     } else {
         count.saturating_sub(1)
     }
+}
+
+/// The last column from the left, which is the first from the right.
+fn last_column(ranks: &[Option<u16>], each: &[u16]) -> u8
+    requires each { each.now ≡ each_rank ranks.now }
+    requires few { length each.now ≤ 64 }
+    ensures { result ≡ last_column ranks.now }
+{
+    let count = each.len() as u8;
+    let has_unranked = has_unranked(ranks);
+    last_of(count, has_unranked)
 }
 
 /// How many nodes stand in a column.

@@ -1,6 +1,6 @@
 //! A picture as SVG.
 ghost use Rattle.std.specs.Prelude.{◌≡◌, Some};
-ghost use Rattle.picture_text.specs.Svg.{svg_head, class_text, class_line, legend, marker_shape, markers, svg_links, svg_arrows, svg_boxes, svg_labels, svg_body};
+ghost use Rattle.picture_text.specs.Svg.{opening, page, svg_head, class_text, class_line, legend, marker_shape, markers, svg_links, svg_arrows, svg_boxes, svg_labels, svg_body};
 
 use crate::parts::Size;
 use crate::picture::Picture;
@@ -8,6 +8,36 @@ use crate::svg_boxes::{BoxTexts, Frames};
 use crate::svg_lines::{Labels, Links, Routes};
 use card_digits::Prefix;
 use std::fmt;
+
+/// How large the picture is.
+#[derive(Clone, Copy)]
+struct Opening {
+    size: Size,
+}
+
+impl fmt::Display for Opening {
+    ghost output = { λ o. Some (opening o.size) };
+
+    fn fmt<W: fmt::Write>(&self, f: &mut fmt::Formatter<W>) -> fmt::Result {
+        let (width, height) = (self.size.width, self.size.height);
+        f.write_str("<svg xmlns='http://www.w3.org/2000/svg'")?;
+        write!(f, " width='{width}' height='{height}'\n")
+    }
+}
+
+/// The letters, the ground, and the beginning of the verdict's line.
+#[derive(Clone, Copy)]
+struct Page;
+
+impl fmt::Display for Page {
+    ghost output = { λ _. Some page };
+
+    fn fmt<W: fmt::Write>(&self, f: &mut fmt::Formatter<W>) -> fmt::Result {
+        f.write_str("font-family='sans-serif' font-size='11'>\n")?;
+        f.write_str("<rect width='100%' height='100%' fill='white'/>\n")?;
+        f.write_str("<text x='20' y='22' font-size='14'>")
+    }
+}
 
 /// What stands before the verdict.
 #[derive(Clone, Copy)]
@@ -19,14 +49,9 @@ impl fmt::Display for SvgHead {
     ghost output = { λ h. Some (svg_head h.size) };
 
     fn fmt<W: fmt::Write>(&self, f: &mut fmt::Formatter<W>) -> fmt::Result {
-        let (width, height) = (self.size.width, self.size.height);
-        write!(
-            f,
-            "<svg xmlns='http://www.w3.org/2000/svg' width='{width}' height='{height}'\n"
-        )?;
-        f.write_str("font-family='sans-serif' font-size='11'>\n")?;
-        f.write_str("<rect width='100%' height='100%' fill='white'/>\n")?;
-        f.write_str("<text x='20' y='22' font-size='14'>")
+        let opening = Opening { size: self.size };
+        let page = Page;
+        write!(f, "{opening}{page}")
     }
 }
 
