@@ -1,5 +1,5 @@
 -- Where the nodes of a picture stand: in columns by their ranks, the least rank on the right, those without a rank on the left.
-use Rattle.std.specs.Prelude.{ℕ, ◌+◌, ◌-◌, ◌*◌, ◌%◌, ◌==◌, ◌≤◌, ◌<◌, ◌≡◌, List, [], ◌∷◌, ◌⊎◌, slice_get, Some, map, fold, length, take, min, max, Option, is_none, nat_lt, if◌then◌else◌, count_by}
+use Rattle.std.specs.Prelude.{ℕ, ◌+◌, ◌-◌, ◌*◌, ◌%◌, ◌==◌, ◌≤◌, ◌<◌, ◌≡◌, List, [], ◌∷◌, ◌⊎◌, slice_get, Some, map, fold, length, take, max, Option, is_none, nat_lt, if◌then◌else◌, count_by}
 use Rattle.std.specs.Ordering.{nat_cmp}
 use Rattle.std.specs.List.{flat_map, list_any}
 use Rattle.std.specs.Option.{option_to_list, option_map_or}

@@ -1,12 +1,11 @@
 -- A picture as SVG. Names are letters and digits, so nothing has to be escaped.
-use Rattle.std.specs.Prelude.{ℕ, ◌+◌, Bool, true, false, List, [], ◌∷◌, ◌++◌, codes, Option, Some, None, if◌then◌else◌}
+use Rattle.std.specs.Prelude.{ℕ, ◌+◌, Bool, false, List, [], ◌∷◌, ◌++◌, codes, Option, Some, None, if◌then◌else◌}
 use Rattle.std.specs.Fmt.{decimal}
 use Rattle.std.specs.List.{concat, flat_map}
 use Rattle.std.specs.Option.{option_map_or}
 use Rattle.card_digits.specs.Digits.{digits_text}
 use Rattle.picture_text.specs.Picture.{Drawn}
 use Rattle.picture_text.specs.Curve.{curve_between, curve_text, label}
-use Rattle.picture_text.specs.declared.curve.Curve.{Curve}
 use Rattle.picture_text.specs.declared.parts.NodeBox.{NodeBox}
 use Rattle.picture_text.specs.declared.parts.Size.{Size}
 use Rattle.picture_text.specs.declared.parts.StandInMark.{StandInMark}

@@ -149,7 +149,6 @@ pub struct Layout {
 }
 
 /// The corners of nodes in these columns.
-#[tactic(auto, using(crate::proofs::Apart::all_apart))]
 fn corners(alloc: Global, columns: &[u8]) -> Result<Vec<Corner>, AllocError>
     requires { length columns.now ≤ 64 }
     ensures corners { IfOk result (λ v. v.items ≡ corners_in columns.now) }
@@ -180,7 +179,6 @@ fn columns(
 }
 
 /// Nodes with these ranks in columns: the least rank on the right, those without a rank on the left. There are at most 64.
-#[tactic(auto, using(crate::proofs::Apart::corners_count))]
 pub fn layout_of(alloc: Global, ranks: &[Option<u16>]) -> Result<Layout, AllocError>
     requires { length ranks.now ≤ 64 }
     ensures corners { IfOk result (λ l. l.corners.items ≡ node_corners ranks.now) }
