@@ -1,5 +1,5 @@
 -- The corners of boxes are those of the layout.
-use Rattle.std.proofs.Common.{◌≡◌, ◌∙◌, ℕ, suc, ◌+◌, List, [], ◌∷◌, ◌++◌, map, length, Option, slice_get, unwrap_or, refl, ap, sym, append_assoc, arith}
+use Rattle.std.proofs.Common.{◌≡◌, ◌∙◌, ℕ, suc, ◌+◌, List, [], ◌∷◌, ◌++◌, map, length, length-append, Option, slice_get, unwrap_or, refl, ap, sym, subst, append_assoc, arith}
 use Rattle.net_rows.specs.Network.{Network}
 use Rattle.net_rows.specs.declared.row.Node.{Node}
 use Rattle.rank_cert.specs.declared.cert.Rank.{Rank}
@@ -13,21 +13,32 @@ at_place : (before rest : List Corner) (c : Corner) → unwrap_or (slice_get (be
 at_place [] rest c = refl
 at_place (b ∷ before) rest c = at_place before rest c
 
-one_longer : (before : List Corner) (c : Corner) → length (before ++ c ∷ []) ≡ length before + 1
-one_longer [] c = refl
-one_longer (b ∷ before) c = ap suc (one_longer before c)
+-- the corner behind the first ones
+corner_behind : (all before rest : List Corner) (c : Corner) (k : ℕ) → before ++ c ∷ rest ≡ all → k ≡ length before → unwrap_or (slice_get all k) no_corner ≡ c
+corner_behind all before rest c k parts place = rw (← parts, place) (at_place before rest c)
+
+one_longer : (before : List Corner) (c : Corner) (k : ℕ) → k ≡ length before → k + 1 ≡ length (before ++ c ∷ [])
+one_longer before c k place = ap (λ (n : ℕ). n + 1) place ∙ sym (length-append before (c ∷ []))
+
+one_less : (a b : ℕ) → suc a ≡ suc b → a ≡ b
+one_less a b same = omega (arith, same)
+
+both_same : (a b : Corner) (xs ys : List Corner) → a ≡ b → xs ≡ ys → a ∷ xs ≡ b ∷ ys
+both_same a b xs ys head tail = rw (head, tail) refl
 
 module _ (t : Network) (cert : List Rank) (class : Option (List ℕ)) (found : List RowRefusal) where
-  corners_from : (before cs : List Corner) (nodes : List Node) → length nodes ≡ length cs → map (λ (b : NodeBox). b.corner) (by_place (node_box t cert class found (before ++ cs)) (length before) nodes) ≡ cs
-  corners_from before [] [] same = refl
-  corners_from before [] (n ∷ nodes) same = absurd (omega arith)
-  corners_from before (c ∷ cs) [] same = absurd (omega arith)
-  corners_from before (c ∷ cs) (n ∷ nodes) same =
-      let here = at_place before cs c in
-      let rest = corners_from (before ++ c ∷ []) cs nodes (omega arith) in
-      let tail : map (λ (b : NodeBox). b.corner) (by_place (node_box t cert class found (before ++ c ∷ cs)) (length before + 1) nodes) ≡ cs = rw (append_assoc before (c ∷ []) cs, one_longer before c) at rest in
-      rw (here, tail) refl
+  corners_of : (all before cs : List Corner) (k : ℕ) (nodes : List Node) → before ++ cs ≡ all → k ≡ length before → length nodes ≡ length cs
+      → map (λ (b : NodeBox). b.corner) (by_place (node_box t cert class found all) k nodes) ≡ cs
+  corners_of all before [] k [] parts place same = refl
+  corners_of all before [] k (n ∷ nodes) parts place same = absurd (omega (arith, same))
+  corners_of all before (c ∷ cs) k [] parts place same = absurd (omega (arith, same))
+  corners_of all before (c ∷ cs) k (n ∷ nodes) parts place same =
+      let rest = corners_of all (before ++ c ∷ []) cs (k + 1) nodes (append_assoc before (c ∷ []) cs ∙ parts) (one_longer before c k place) (one_less (length nodes) (length cs) same) in
+      both_same (unwrap_or (slice_get all k) no_corner) c (map (λ (b : NodeBox). b.corner) (by_place (node_box t cert class found all) (k + 1) nodes)) cs (corner_behind all before cs c k parts place) rest
 
   -- boxes at the corners of a layout are apart
-  pub boxes_apart : (cs : List Corner) → length t.nodes ≡ length cs → AreAllApart cs → AreAllApart (map (λ (b : NodeBox). b.corner) (boxes_at t cert class found cs))
-  boxes_apart cs same apart = rw (corners_from [] cs t.nodes same) apart
+  pub boxes_apart : (cs : List Corner) (boxes : List NodeBox) → length t.nodes ≡ length cs → boxes ≡ boxes_at t cert class found cs → AreAllApart cs → AreAllApart (map (λ (b : NodeBox). b.corner) boxes)
+  boxes_apart cs boxes same is apart =
+      let corners : map (λ (b : NodeBox). b.corner) boxes ≡ cs = ap (λ (bs : List NodeBox). map (λ (b : NodeBox). b.corner) bs) is ∙ corners_of cs [] cs 0 t.nodes refl refl same in
+      let Apart : List Corner → Type 0 = λ xs. AreAllApart xs in
+      subst Apart (sym corners) apart

@@ -19,6 +19,7 @@ use Rattle.picture_text.specs.declared.parts.Corner.{Corner}
 use Rattle.picture_text.specs.declared.parts.StandInMark.{StandInMark}
 use Rattle.picture_text.specs.Layout.{node_corners, picture_size}
 use Rattle.picture_text.specs.Picture.{Drawn}
+use Rattle.network_picture.specs.declared.nodes.NumberedNode.{NumberedNode}
 use Rattle.network_picture.specs.Refused.{speaks_of, is_route, is_stand_in, is_node, is_link}
 
 -- a node's rank at the class
@@ -42,6 +43,10 @@ is_home_of home n = option_map_or (λ h. h == n) home false
 abbrev pub by_place : {A B : Type 0} → (ℕ → A → B) → ℕ → List A → List B
 by_place f place [] = []
 by_place f place (x ∷ xs) = f place x ∷ by_place f (place + 1) xs
+
+-- a node's row with its place
+abbrev pub numbered : ℕ → Node → NumberedNode
+numbered n row = record { node = n; row = row }
 
 -- a stand-in row as a mark
 abbrev pub mark : Network → List RowRefusal → StandIn → StandInMark

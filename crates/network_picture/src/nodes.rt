@@ -1,6 +1,6 @@
 //! The nodes of a picture.
 ghost use Rattle.std.specs.Prelude.{◌≡◌, ◌≤◌, ◌<◌, length, map, unwrap_or, slice_get, option_map, IfOk};
-ghost use Rattle.network_picture.specs.Made.{rank_in, ranks_in, stand_in_in, home_in, is_home_of, mark, node_box, boxes_at, no_corner};
+ghost use Rattle.network_picture.specs.Made.{rank_in, ranks_in, stand_in_in, home_in, is_home_of, mark, by_place, numbered, node_box, boxes_at, no_corner};
 
 use crate::marks::{has_node, has_stand_in};
 use all_refusals::RowRefusal;
@@ -45,6 +45,37 @@ pub(crate) fn ranks_in(
         .iter()
         .map(|node| rank_in(cert, class, node))
         .collect(alloc)
+}
+
+/// A row of the nodes' table, with its place.
+#[derive(Clone, Copy)]
+pub struct NumberedNode {
+    pub node: NodeNo,
+    pub row: Node,
+}
+
+/// The row at a place.
+fn numbered(place: usize, row: &Node) -> NumberedNode
+    requires { place < 64 }
+    ensures { result ≡ numbered place row.now }
+{
+    NumberedNode {
+        node: NodeNo::new(place),
+        row: *row,
+    }
+}
+
+/// All nodes, in the order of the tables.
+fn numbered_nodes(alloc: Global, tables: &Tables) -> Result<Vec<NumberedNode>, AllocError>
+    ensures { IfOk result (λ v. v.items ≡ by_place numbered 0 tables.now.nodes) }
+{
+    let mut nodes = Vec::new(alloc);
+    let rows = tables.nodes();
+    for (place, row) in rows.iter().enumerate() {
+        let next = numbered(place, row);
+        nodes.push(next)?;
+    }
+    Ok(nodes)
 }
 
 /// A stand-in row as a mark.
@@ -95,33 +126,43 @@ impl AtClass<'_> {
     }
 
     /// A node in the layer of its rank.
-    fn node_box(&self, corners: &[Corner], place: usize, row: &Node) -> NodeBox
-        requires { place < 64 }
-        ensures { result ≡ node_box self.now.tables.now self.now.cert.now self.now.class.now self.now.found.now corners.now place row.now }
+    fn node_box(&self, corners: &[Corner], entry: &NumberedNode) -> NodeBox
+        ensures { result ≡ node_box self.now.tables.now self.now.cert.now self.now.class.now self.now.found.now corners.now entry.now.node entry.now.row }
     {
-        let node = NodeNo::new(place);
+        let node = entry.node;
+        let row = entry.row;
         NodeBox {
             node,
             name: row.name,
             id: row.id,
-            rank: rank_in(self.cert, self.class, row),
+            rank: rank_in(self.cert, self.class, &row),
             is_home: self.is_home(node),
             stand_in: self.stand_in(node),
-            is_refused: has_node(self.found, place),
-            corner: corner_at(corners, place),
+            is_refused: has_node(self.found, node.place()),
+            corner: corner_at(corners, node.place()),
         }
+    }
+
+    /// These nodes in their layers.
+    fn boxes_of(
+        &self,
+        alloc: Global,
+        corners: &[Corner],
+        nodes: &[NumberedNode],
+    ) -> Result<Vec<NodeBox>, AllocError>
+        ensures { IfOk result (λ v. v.items ≡ map (λ n. node_box self.now.tables.now self.now.cert.now self.now.class.now self.now.found.now corners.now n.node n.row) nodes.now) }
+    {
+        nodes
+            .iter()
+            .map(|node| self.node_box(corners, node))
+            .collect(alloc)
     }
 
     /// All nodes, in the order of the tables.
     pub fn boxes(&self, alloc: Global, corners: &[Corner]) -> Result<Vec<NodeBox>, AllocError>
         ensures { IfOk result (λ v. v.items ≡ boxes_at self.now.tables.now self.now.cert.now self.now.class.now self.now.found.now corners.now) }
     {
-        let mut boxes = Vec::new(alloc);
-        let nodes = self.tables.nodes();
-        for (place, row) in nodes.iter().enumerate() {
-            let next = self.node_box(corners, place, row);
-            boxes.push(next)?;
-        }
-        Ok(boxes)
+        let nodes = numbered_nodes(alloc, self.tables)?;
+        self.boxes_of(alloc, corners, &nodes)
     }
 }

@@ -12,4 +12,4 @@ returns-clause-apart c =
     let cs = c.in_ok-layout.layout.corners.items in
     let same : length t.nodes ≡ length cs = search rules in
     let boxes : c.new.result.boxes ≡ boxes_at t cert class found cs = search rules in
-    rw boxes (boxes_apart t cert class found cs same c.in_ok-layout.ensures.apart)
+    boxes_apart t cert class found cs c.new.result.boxes same boxes c.in_ok-layout.ensures.apart

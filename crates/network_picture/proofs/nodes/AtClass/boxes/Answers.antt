@@ -1,8 +1,14 @@
-use Rattle.std.proofs.Common.{rules}
-use Rattle.network_picture.specs.Made.{node_box}
-use Rattle.network_picture.proofs.Places.{place_more}
+use Rattle.std.proofs.Common.{rules, ◌≡◌}
+use Rattle.std.proofs.lemmas.Result.{IfOk-weaker}
+use Rattle.network_picture.specs.Made.{by_place, numbered, node_box}
+use Rattle.network_picture.specs.declared.nodes.NumberedNode.{NumberedNode}
+use Rattle.network_picture.proofs.Places.{made_of}
 use Rattle.network_picture.proofs.nodes.AtClass.boxes.Goals as goal
 
-pub loop-place-preserved : goal.loop-place-preserved
-loop-place-preserved c =
-    place_more (node_box c.args.self.now.tables.now c.args.self.now.cert.now c.args.self.now.class.now c.args.self.now.found.now c.args.corners.now) c.loop-place.boxes.items _ c.nodes-nodes.result.now c.loop-place.place c.index-nodes-place.result c.node_box-next.result _ c.loop-place-test.true c.index-nodes-place.is c.node_box-next.ensures (search rules) c.loop-place.invariant
+pub returns : goal.returns
+returns c =
+    let at = c.args.self.now in
+    let placed : c.deref.result.now ≡ by_place numbered 0 at.tables.now.nodes = search rules in
+    IfOk-weaker c.boxes_of.result _ _
+    (λ v is. made_of numbered (λ (n : NumberedNode). node_box at.tables.now at.cert.now at.class.now at.found.now c.args.corners.now n.node n.row) c.deref.result.now at.tables.now.nodes v.items placed is)
+    c.boxes_of.ensures

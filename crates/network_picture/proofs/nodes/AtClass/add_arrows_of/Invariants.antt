@@ -1,6 +1,6 @@
 use Rattle.std.proofs.Common.{◌≡◌, ◌++◌, drop}
 use Rattle.network_picture.specs.Made.{by_place, arrow, arrows_of}
-use Rattle.network_picture.proofs.arrows.AtClass.add_arrows_of.Given as goal
+use Rattle.network_picture.proofs.nodes.AtClass.add_arrows_of.Given as goal
 
 -- the links so far, and those that follow
 abbrev pub invariant-loop-place : goal.invariant-loop-place
