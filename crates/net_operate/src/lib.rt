@@ -2,6 +2,7 @@
 #![tactic(auto)]
 
 mod acquirers;
+mod desk;
 mod fitting;
 mod hearing;
 mod news;
