@@ -342,9 +342,12 @@ impl<'s, 't, 'p> Acquirer<'s, 't, 'p> {
             }
             worker.listen();
             let left = self.go_round(rt, hosts, desks, calls);
-            if let Progress::Waits(due) = left {
-                let turns = due.saturating_sub(clock.turns());
-                let _ = worker.rest(rt, hosts, turns, calls);
+            match left {
+                Progress::Waits(due) if !self.has_ended(own, desks) => {
+                    let turns = due.saturating_sub(clock.turns());
+                    let _ = worker.rest(rt, hosts, turns, calls);
+                }
+                _ => {}
             }
         }
     }
