@@ -2,12 +2,21 @@
 #![tactic(auto)]
 
 use card_digits::Counted;
-use card_view::run_view;
+use card_view::{Asked, run_view};
 use std::alloc::{AllocError, Global};
 use std::process::ExitCode;
 use std::rt::Env;
 use std::{env, io};
-use view_command::{Job, job_of};
+use view_command::{Format, Job, help_of, job_of};
+
+/// What the words ask for.
+#[derive(Debug, Drop)]
+enum Request {
+    View(Asked),
+    Help(String),
+    /// Nothing that is printed.
+    Other,
+}
 
 /// The words behind the program's name.
 fn words(rt: &(impl Env + AllocGlobal)) -> io::Result<Vec<String>> {
@@ -18,34 +27,52 @@ fn words(rt: &(impl Env + AllocGlobal)) -> io::Result<Vec<String>> {
     Ok(words)
 }
 
-fn job_of_words(alloc: Global, words: &[String]) -> Result<Option<Job>, AllocError> {
+fn request_of_job(job: Job) -> Request {
+    match job {
+        Job::Card(card, Format::Text) => Request::View(Asked::Card(card)),
+        Job::Refusals(Format::Text) => Request::View(Asked::Refusals),
+        _ => Request::Other,
+    }
+}
+
+fn request_of_words(alloc: Global, words: &[String]) -> Result<Request, AllocError> {
     let mut texts = Vec::new(alloc);
     for word in words {
         texts.push(word.as_str())?;
     }
-    Ok(job_of(&texts))
+    if let Some(job) = job_of(alloc, &texts)? {
+        return Ok(request_of_job(job));
+    }
+    match help_of(alloc, &texts)? {
+        Some(help) => Ok(Request::Help(help)),
+        None => Ok(Request::Other),
+    }
 }
 
-fn job_of_arguments(rt: &(impl Env + AllocGlobal)) -> Result<Option<Job>, AllocError> {
+fn request(rt: &(impl Env + AllocGlobal)) -> Result<Request, AllocError> {
     match words(rt) {
-        Ok(words) => job_of_words(rt.alloc(), &words),
-        // Words that are no text stand on no line of the usage.
-        Err(fault) if fault.kind() == io::ErrorKind::InvalidData => Ok(None),
+        Ok(words) => request_of_words(rt.alloc(), &words),
+        // Words that are no text ask for nothing.
+        Err(fault) if fault.kind() == io::ErrorKind::InvalidData => Ok(Request::Other),
         Err(_) => Err(AllocError),
     }
 }
 
 fn main(rt: HostRuntime) -> ExitCode {
-    let status = match job_of_arguments(&rt) {
-        Ok(Some(job)) => {
+    let status = match request(&rt) {
+        Ok(Request::View(asked)) => {
             let mut reader = Counted::reader(rt.stdin());
             let mut writer = Counted::writer(rt.stdout());
-            match run_view(rt.alloc(), &job, &mut reader, &mut writer) {
+            match run_view(rt.alloc(), &asked, &mut reader, &mut writer) {
                 Ok(status) => status,
                 Err(_) => 2,
             }
         }
-        Ok(None) => {
+        Ok(Request::Help(help)) => match print!(rt; "{help}") {
+            Ok(()) => 0,
+            Err(_) => 2,
+        },
+        Ok(Request::Other) => {
             let _ = eprintln!(rt; "usage: network_view card N\n       network_view refusals");
             2
         }
