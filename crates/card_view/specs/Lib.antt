@@ -1,3 +1,5 @@
 pub mod View
 pub mod Listed
+pub mod Json
+pub mod ListedJson
 pub mod Answers

@@ -27,10 +27,18 @@ fn words(rt: &(impl Env + AllocGlobal)) -> io::Result<Vec<String>> {
     Ok(words)
 }
 
+/// How refusals are written, as the words say.
+fn written(format: Format) -> card_view::Format {
+    match format {
+        Format::Text => card_view::Format::Text,
+        Format::Json => card_view::Format::Json,
+    }
+}
+
 fn request_of_job(job: Job) -> Request {
     match job {
         Job::Card(card, Format::Text) => Request::View(Asked::Card(card)),
-        Job::Refusals(Format::Text) => Request::View(Asked::Refusals),
+        Job::Refusals(format) => Request::View(Asked::Refusals(written(format))),
         _ => Request::Other,
     }
 }
@@ -73,7 +81,9 @@ fn main(rt: HostRuntime) -> ExitCode {
             Err(_) => 2,
         },
         Ok(Request::Other) => {
-            let _ = eprintln!(rt; "usage: network_view card N\n       network_view refusals");
+            let _ = eprintln!(rt;
+                "usage: network_view card N\n       network_view refusals [--json]"
+            );
             2
         }
         Err(_) => {

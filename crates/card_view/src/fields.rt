@@ -1,0 +1,79 @@
+//! Fields of JSON objects.
+ghost use Rattle.std.specs.Prelude.{◌≡◌, ◌++◌, false, IfOk, OnOk, string_bytes};
+ghost use Rattle.card_digits.specs.Digits.{digits_text};
+ghost use Rattle.serde_json.specs.Data.{put as with_field};
+ghost use Rattle.serde_json.specs.View.{members_view, view};
+ghost use Rattle.serde_json.specs.Written.{has_float};
+ghost use Rattle.bundle_text.specs.Lines.{link_name, node_name};
+ghost use Rattle.card_view.specs.Json as json;
+
+use crate::names::{LinkName, NodeName};
+use card_digits::{LinkNo, NodeNo, Prefix};
+use net_rows::Tables;
+use serde_json::{Map, Value, put};
+use std::alloc::{AllocError, Global};
+
+/// The fields of an object.
+pub(crate) type Fields = Map<String, Value>;
+
+/// Adds a field with a text.
+pub(crate) fn add_text(
+    alloc: Global,
+    fields: &mut Fields,
+    key: &str,
+    text: String,
+) -> Result<(), AllocError>
+    ensures { OnOk result (members_view fields.new.entries ≡ with_field key.now (json.text (string_bytes text)) (members_view fields.old.entries)) }
+{
+    put(fields, alloc, key, Value::String(text))
+}
+
+/// Adds a field with a number.
+pub(crate) fn add_count(
+    alloc: Global,
+    fields: &mut Fields,
+    key: &str,
+    count: u64,
+) -> Result<(), AllocError>
+    ensures { OnOk result (members_view fields.new.entries ≡ with_field key.now (json.count count) (members_view fields.old.entries)) }
+{
+    put(fields, alloc, key, Value::from(count))
+}
+
+/// The name of a node, empty where the tables have no such node.
+pub(crate) fn node_text(alloc: Global, tables: &Tables, node: NodeNo) -> Result<String, AllocError>
+    ensures { IfOk result (λ s. string_bytes s ≡ node_name tables.now node) }
+{
+    let node = NodeName { tables, node };
+    format!(in alloc; "{node}")
+}
+
+/// The name of a link, empty where the tables have no such link.
+pub(crate) fn link_text(alloc: Global, tables: &Tables, link: LinkNo) -> Result<String, AllocError>
+    ensures { IfOk result (λ s. string_bytes s ≡ link_name tables.now link) }
+{
+    let link = LinkName { tables, link };
+    format!(in alloc; "{link}")
+}
+
+/// The digits of a prefix.
+pub(crate) fn prefix_text(alloc: Global, prefix: &Prefix) -> Result<String, AllocError>
+    ensures { IfOk result (λ s. string_bytes s ≡ digits_text prefix.now) }
+{
+    format!(in alloc; "{prefix}")
+}
+
+/// Adds a line with a value.
+pub(crate) fn add_json_line(
+    alloc: Global,
+    text: &mut Vec<u8>,
+    value: &Value,
+) -> Result<(), AllocError>
+    requires { has_float (view value.now) ≡ false }
+    ensures { IfOk result (λ _. text.new.items ≡ text.old.items ++ json.json_line (view value.now)) }
+{
+    let line = value.to_string(alloc)?;
+    text.extend_from_slice(line.as_bytes())?;
+    text.push(b'\n')?;
+    Ok(())
+}
