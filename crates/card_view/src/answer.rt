@@ -8,7 +8,7 @@ ghost use Rattle.card_view.specs.View as views;
 ghost use Rattle.card_view.specs.Answers.{ViewAnswers, IsListed, IsView, IsViewRead, IsViewParts, view_of};
 
 use crate::asked::{Asked, Format};
-use crate::listing::{accepted_answer, add_refusal_lines, refused_text};
+use crate::in_format::{accepted_answer, add_refusal_lines, refused_text};
 use crate::view::{CardView, view_text};
 use all_refusals::refusals;
 use bundle_text::{

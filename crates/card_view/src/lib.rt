@@ -1,4 +1,4 @@
-//! What each node of a network does with one card, and all refusals of its tables, as text.
+//! What each node of a network does with one card, and all refusals of its tables, as text and as JSON.
 #![tactic(auto)]
 
 mod answer;
@@ -6,11 +6,11 @@ mod asked;
 mod class;
 mod days;
 mod fields;
+mod in_format;
 mod issuer;
 mod job;
 mod listed;
 mod listed_json;
-mod listing;
 mod names;
 mod node;
 mod view;
