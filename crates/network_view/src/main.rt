@@ -1,18 +1,27 @@
-//! Prints what each node of a card network does with one card, or all refusals of its tables.
+//! Prints what each node of a card network does with one card, all refusals of its tables, or a printed trace as a table.
 #![tactic(auto)]
 
-use card_digits::Counted;
+use bundle_input::BundleFault;
+use card_digits::{Counted, Sink, Source};
 use card_view::{Asked, run_view};
 use std::alloc::{AllocError, Global};
 use std::process::ExitCode;
 use std::rt::Env;
 use std::{env, io};
+use trace_view::run_trace;
 use view_command::{Format, Job, help_of, job_of};
+
+/// What is asked of the input.
+#[derive(Clone, Copy, Debug)]
+enum Question {
+    View(Asked),
+    Trace,
+}
 
 /// What the words ask for.
 #[derive(Debug, Drop)]
 enum Request {
-    View(Asked),
+    Answer(Question),
     Help(String),
     /// Nothing that is printed.
     Other,
@@ -37,8 +46,12 @@ fn written(format: Format) -> card_view::Format {
 
 fn request_of_job(job: Job) -> Request {
     match job {
-        Job::Card(card, Format::Text) => Request::View(Asked::Card(card)),
-        Job::Refusals(format) => Request::View(Asked::Refusals(written(format))),
+        Job::Card(card, Format::Text) => Request::Answer(Question::View(Asked::Card(card))),
+        Job::Refusals(format) => {
+            let asked = Asked::Refusals(written(format));
+            Request::Answer(Question::View(asked))
+        }
+        Job::Trace => Request::Answer(Question::Trace),
         _ => Request::Other,
     }
 }
@@ -57,7 +70,7 @@ fn request_of_words(alloc: Global, words: &[String]) -> Result<Request, AllocErr
     }
 }
 
-fn request(rt: &(impl Env + AllocGlobal)) -> Result<Request, AllocError> {
+fn request_of_arguments(rt: &(impl Env + AllocGlobal)) -> Result<Request, AllocError> {
     match words(rt) {
         Ok(words) => request_of_words(rt.alloc(), &words),
         // Words that are no text ask for nothing.
@@ -66,12 +79,25 @@ fn request(rt: &(impl Env + AllocGlobal)) -> Result<Request, AllocError> {
     }
 }
 
+/// Answers the input on standard output.
+fn answer<R: Source, W: Sink>(
+    alloc: Global,
+    question: &Question,
+    reader: &mut R,
+    writer: &mut W,
+) -> Result<u8, BundleFault> {
+    match question {
+        Question::View(asked) => run_view(alloc, asked, reader, writer),
+        Question::Trace => run_trace(alloc, reader, writer),
+    }
+}
+
 fn main(rt: HostRuntime) -> ExitCode {
-    let status = match request(&rt) {
-        Ok(Request::View(asked)) => {
+    let status = match request_of_arguments(&rt) {
+        Ok(Request::Answer(question)) => {
             let mut reader = Counted::reader(rt.stdin());
             let mut writer = Counted::writer(rt.stdout());
-            match run_view(rt.alloc(), &asked, &mut reader, &mut writer) {
+            match answer(rt.alloc(), &question, &mut reader, &mut writer) {
                 Ok(status) => status,
                 Err(_) => 2,
             }
@@ -82,7 +108,7 @@ fn main(rt: HostRuntime) -> ExitCode {
         },
         Ok(Request::Other) => {
             let _ = eprintln!(rt;
-                "usage: network_view card N\n       network_view refusals [--json]"
+                "usage: network_view card N\n       network_view refusals [--json]\n       network_view trace"
             );
             2
         }
