@@ -1,5 +1,5 @@
 //! The ranks of nodes at one class.
-ghost use Rattle.std.specs.Prelude.{◌≡◌};
+ghost use Rattle.std.specs.Prelude.{◌≡◌, slice_set};
 ghost use Rattle.table_checker.specs.Ranks.{rank_at};
 ghost use Rattle.all_refusals.specs.Known.{AreRanks, IsFound, lookup_at};
 
@@ -32,6 +32,13 @@ impl Ranks {
     {
         self.found[node.place()]
     }
+
+    /// A node's rank was sought.
+    fn set(&mut self, node: NodeNo, rank: Option<u16>)
+        ensures { self.new.found ≡ slice_set self.old.found node (Lookup.Done rank) }
+    {
+        self.found[node.place()] = Lookup::Done(rank);
+    }
 }
 
 impl At<'_> {
@@ -62,11 +69,31 @@ impl At<'_> {
     }
 
     /// A node's rank, sought among the rows of the class.
-    fn rank_sought(&self, near: &mut usize, node: NodeNo) -> Option<u16>
+    fn rank_sought(&self, near: usize, node: NodeNo) -> Option<u16>
         ensures { result ≡ rank_at self.now.tables.now self.now.cert.now node self.now.class }
     {
         let row = self.tables.nodes().get(node.place())?;
-        self.cert.rank_near(near, &row.name, &self.class)
+        let mut near = near;
+        self.cert.rank_near(&mut near, &row.name, &self.class)
+    }
+
+    /// A node's rank, sought where nothing is known of it.
+    fn rank_by(&self, lookup: Lookup, near: usize, node: NodeNo) -> Option<u16>
+        requires { IsFound (rank_at self.now.tables.now self.now.cert.now node self.now.class) lookup }
+        ensures { result ≡ rank_at self.now.tables.now self.now.cert.now node self.now.class }
+    {
+        match lookup {
+            Lookup::Done(rank) => rank,
+            Lookup::Open => self.rank_sought(near, node),
+        }
+    }
+
+    /// The rank of a node.
+    pub fn rank(&self, ranks: &Ranks, node: NodeNo) -> Option<u16>
+        requires { AreRanks self.now ranks.now }
+        ensures { result ≡ rank_at self.now.tables.now self.now.cert.now node self.now.class }
+    {
+        self.rank_by(ranks.at(node), ranks.near, node)
     }
 
     /// Looks a node's rank up, where it wasn't sought yet.
@@ -74,10 +101,8 @@ impl At<'_> {
         requires { AreRanks self.now ranks.old }
         ensures { AreRanks self.now ranks.new }
     {
-        if let Lookup::Open = ranks.at(node) {
-            let rank = self.rank_sought(&mut ranks.near, node);
-            ranks.found[node.place()] = Lookup::Done(rank);
-        }
+        let rank = self.rank(ranks, node);
+        ranks.set(node, rank);
     }
 
     /// Looks up the ranks of a node and of the other ends of its links, where it has a route in force.
@@ -103,16 +128,5 @@ impl At<'_> {
             self.look_up_along(&mut ranks, NodeNo::new(i));
         }
         ranks
-    }
-
-    /// The rank of a node.
-    pub fn rank(&self, ranks: &Ranks, node: NodeNo) -> Option<u16>
-        requires { AreRanks self.now ranks.now }
-        ensures { result ≡ rank_at self.now.tables.now self.now.cert.now node self.now.class }
-    {
-        match ranks.at(node) {
-            Lookup::Done(rank) => rank,
-            Lookup::Open => self.rank_sought(&mut 0, node),
-        }
     }
 }
