@@ -7,8 +7,8 @@ ghost use Rattle.table_checker.specs.Rules.{first_refusal};
 ghost use Rattle.card_view.specs.View as views;
 ghost use Rattle.card_view.specs.Answers.{ViewAnswers, IsListed, IsView, IsViewRead, IsViewParts, view_of};
 
-use crate::asked::{Asked, Format};
-use crate::in_format::{accepted_answer, add_refusal_lines, refused_text};
+use crate::asked::Asked;
+use crate::listed::add_lines;
 use crate::view::{CardView, view_text};
 use all_refusals::refusals;
 use bundle_text::{
@@ -56,28 +56,30 @@ fn viewed(alloc: Global, view: &CardView<'_>) -> Result<Answer, AllocError>
 /// A refusal's line, and a line for each of all refusals behind it.
 fn with_refusals(
     alloc: Global,
-    format: Format,
     tables: &Tables,
     cert: &Cert,
     refusal: &Refusal,
 ) -> Result<Answer, AllocError>
     requires { first_refusal tables.now cert.now ≡ Some refusal.now }
-    ensures { IfOk result (λ a. IsListed format tables.now cert.now a) }
+    ensures { IfOk result (λ a. IsListed tables.now cert.now a) }
 {
-    let mut text = refused_text(alloc, format, tables, refusal)?;
+    let mut text = refusal_line(alloc, tables, refusal)?;
     let found = refusals(alloc, tables, cert)?;
-    add_refusal_lines(alloc, format, &mut text, tables, &found)?;
+    add_lines(alloc, &mut text, tables, &found)?;
     Ok(Answer::new(text, Status::Refused))
 }
 
 /// The verdict on tables, and all refusals.
-fn listed(alloc: Global, format: Format, tables: &Tables, cert: &Cert) -> Result<Answer, AllocError>
-    ensures { IfOk result (λ a. IsListed format tables.now cert.now a ⊎ NamesMemory a) }
+fn listed(alloc: Global, tables: &Tables, cert: &Cert) -> Result<Answer, AllocError>
+    ensures { IfOk result (λ a. IsListed tables.now cert.now a ⊎ NamesMemory a) }
 {
     match check(alloc, tables, cert) {
-        Ok(_) => accepted_answer(alloc, format),
+        Ok(_) => {
+            let line = String::from_str(alloc, "accepted\n")?;
+            Ok(Answer::new(line.into_bytes(), Status::Done))
+        }
         Err(Refusal::Memory) => check_memory_answer(alloc),
-        Err(refusal) => with_refusals(alloc, format, tables, cert, &refusal),
+        Err(refusal) => with_refusals(alloc, tables, cert, &refusal),
     }
 }
 
@@ -92,7 +94,7 @@ fn view_of_tables(
 {
     match asked {
         Asked::Card(card) => viewed(alloc, &CardView { tables, cert, card }),
-        Asked::Refusals(format) => listed(alloc, *format, tables, cert),
+        Asked::Refusals => listed(alloc, tables, cert),
     }
 }
 

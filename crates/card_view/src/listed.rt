@@ -56,7 +56,7 @@ impl fmt::Display for NumberedRow {
 }
 
 /// The words of a line, which ends with a line feed.
-pub(crate) fn words(line: &[u8]) -> &[u8]
+fn words(line: &[u8]) -> &[u8]
     ensures { (text : List ℕ) → line.now ≡ text ++ line_feed → result.now ≡ text }
 {
     match line.split_last() {

@@ -36,21 +36,10 @@ fn words(rt: &(impl Env + AllocGlobal)) -> io::Result<Vec<String>> {
     Ok(words)
 }
 
-/// How refusals are written, as the words say.
-fn written(format: Format) -> card_view::Format {
-    match format {
-        Format::Text => card_view::Format::Text,
-        Format::Json => card_view::Format::Json,
-    }
-}
-
 fn request_of_job(job: Job) -> Request {
     match job {
         Job::Card(card, Format::Text) => Request::Answer(Question::View(Asked::Card(card))),
-        Job::Refusals(format) => {
-            let asked = Asked::Refusals(written(format));
-            Request::Answer(Question::View(asked))
-        }
+        Job::Refusals(Format::Text) => Request::Answer(Question::View(Asked::Refusals)),
         Job::Trace => Request::Answer(Question::Trace),
         _ => Request::Other,
     }
@@ -108,7 +97,7 @@ fn main(rt: HostRuntime) -> ExitCode {
         },
         Ok(Request::Other) => {
             let _ = eprintln!(rt;
-                "usage: network_view card N\n       network_view refusals [--json]\n       network_view trace"
+                "usage: network_view card N\n       network_view refusals\n       network_view trace"
             );
             2
         }
