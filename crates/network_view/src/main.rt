@@ -1,20 +1,22 @@
-//! Prints what each node of a card network does with one card, all refusals of its tables, or a printed trace as a table.
+//! Prints what each node of a card network does with one card, all refusals of its tables, a picture of it, or a printed trace as a table.
 #![tactic(auto)]
 
 use bundle_input::BundleFault;
 use card_digits::{Counted, Sink, Source};
 use card_view::{Asked, run_view};
+use network_picture::{PictureJob, run_picture};
 use std::alloc::{AllocError, Global};
 use std::process::ExitCode;
 use std::rt::Env;
 use std::{env, io};
 use trace_view::run_trace;
-use view_command::{Format, Job, help_of, job_of};
+use view_command::{Drawing, Format, Job, help_of, job_of};
 
 /// What is asked of the input.
 #[derive(Clone, Copy, Debug)]
 enum Question {
     View(Asked),
+    Picture(PictureJob),
     Trace,
 }
 
@@ -36,10 +38,22 @@ fn words(rt: &(impl Env + AllocGlobal)) -> io::Result<Vec<String>> {
     Ok(words)
 }
 
+/// What a picture is written in, as the words say.
+fn drawn(drawing: Drawing) -> network_picture::Drawing {
+    match drawing {
+        Drawing::Svg => network_picture::Drawing::Svg,
+        Drawing::Dot => network_picture::Drawing::Dot,
+    }
+}
+
 fn request_of_job(job: Job) -> Request {
     match job {
         Job::Card(card, Format::Text) => Request::Answer(Question::View(Asked::Card(card))),
         Job::Refusals(Format::Text) => Request::Answer(Question::View(Asked::Refusals)),
+        Job::Picture(prefix, drawing) => {
+            let drawing = drawn(drawing);
+            Request::Answer(Question::Picture(PictureJob { prefix, drawing }))
+        }
         Job::Trace => Request::Answer(Question::Trace),
         _ => Request::Other,
     }
@@ -77,6 +91,7 @@ fn answer<R: Source, W: Sink>(
 ) -> Result<u8, BundleFault> {
     match question {
         Question::View(asked) => run_view(alloc, asked, reader, writer),
+        Question::Picture(job) => run_picture(alloc, job, reader, writer),
         Question::Trace => run_trace(alloc, reader, writer),
     }
 }
@@ -97,7 +112,7 @@ fn main(rt: HostRuntime) -> ExitCode {
         },
         Ok(Request::Other) => {
             let _ = eprintln!(rt;
-                "usage: network_view card N\n       network_view refusals\n       network_view trace"
+                "usage: network_view card N\n       network_view refusals\n       network_view picture [--prefix P] [--dot]\n       network_view trace"
             );
             2
         }

@@ -1,0 +1,5 @@
+pub mod Pairs
+pub mod Prefixes
+pub mod Places
+pub mod Corners
+pub mod Pictured

@@ -1,0 +1,61 @@
+-- What is answered to an input.
+use Rattle.std.specs.Prelude.{◌≡◌, ℕ, List, [], ◌∷◌, ◌++◌, ◌⊎◌, map, Option, Result, Ok, Err}
+use Rattle.net_rows.specs.Network.{Network}
+use Rattle.net_tables.specs.Reading.{tables_in}
+use Rattle.table_fields.specs.declared.fault.TableFault.{TableFault}
+use Rattle.rank_cert.specs.Reading.{cert_in}
+use Rattle.rank_cert.specs.declared.cert.Rank.{Rank}
+use Rattle.rank_cert.specs.declared.fault.CertFault.{CertFault}
+use Rattle.table_checker.specs.Rules.{first_refusal}
+use Rattle.all_refusals.specs.declared.row.RowRefusal.{RowRefusal}
+use Rattle.all_refusals.specs.Rows.{shown}
+use Rattle.all_refusals.specs.Found.{all_refusals}
+use Rattle.bundle_text.specs.Answers.{Said, NamesMemory, fault, parts_fault, verdict}
+use Rattle.bundle_text.specs.Lines.{Text, table_fault_line, cert_fault_line}
+use Rattle.bundle_text.specs.Parts.{parts_of}
+use Rattle.picture_text.specs.Picture.{Drawn}
+use Rattle.picture_text.specs.Svg.{svg_head, svg_body}
+use Rattle.picture_text.specs.Dot.{dot_head, dot_body}
+use Rattle.network_picture.specs.declared.asked.Drawing.{Drawing}
+use Rattle.network_picture.specs.declared.asked.Drawing.TheVariants.{Svg, Dot}
+use Rattle.network_picture.specs.declared.asked.PictureJob.{PictureJob}
+use Rattle.network_picture.specs.Shown.{shown_class}
+use Rattle.network_picture.specs.Refused.{here}
+use Rattle.network_picture.specs.Made.{drawn_at}
+
+-- a picture as text, with a verdict above it
+abbrev pub head_text : Drawing → Drawn → Text
+head_text Svg p = svg_head p.size
+head_text Dot p = dot_head
+
+abbrev pub body_text : Drawing → Drawn → Text
+body_text Svg p = svg_body p
+body_text Dot p = dot_body p
+
+-- and the status of the verdict
+abbrev pub answered : Drawing → Said → Drawn → Said
+answered drawing said p = record { text = head_text drawing p ++ said.text ++ body_text drawing p; status = said.status }
+
+-- the picture at a class, with the refusals that belong there
+abbrev pub picture_at : Network → List Rank → List RowRefusal → Option (List ℕ) → Drawn
+picture_at t cert found class = drawn_at t cert class (here class found)
+
+-- the verdict on tables with their picture, in which the rows are red that any refusal speaks of at the class
+pub record IsPictured (job : PictureJob) (t : Network) (cert : List Rank) (said : Said) : Type 0 where
+  pub found : List RowRefusal
+  pub all : map (shown t) found ≡ all_refusals t cert
+  pub printed : said ≡ answered job.drawing (verdict t (first_refusal t cert)) (picture_at t cert found (shown_class t (first_refusal t cert) job.prefix))
+
+-- the first fault of tables and ranks, or such an answer
+abbrev pub IsPictureRead : PictureJob → Result Network TableFault → Result (List Rank) CertFault → Said → Type 0
+IsPictureRead job (Err e) ranks said = said ≡ fault (table_fault_line e)
+IsPictureRead job (Ok t) (Err e) said = said ≡ fault (cert_fault_line e)
+IsPictureRead job (Ok t) (Ok cert) said = IsPictured job t cert said
+
+abbrev pub IsPictureParts : PictureJob → List (List ℕ) → Said → Type 0
+IsPictureParts job (tables ∷ ranks ∷ []) said = IsPictureRead job (tables_in tables) (cert_in ranks) said
+IsPictureParts job _ said = said ≡ parts_fault
+
+-- an answer to an input, unless memory was refused
+abbrev pub PictureAnswers : PictureJob → List ℕ → Said → Type 0
+PictureAnswers job input said = IsPictureParts job (parts_of input) said ⊎ NamesMemory said

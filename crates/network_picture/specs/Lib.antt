@@ -1,0 +1,4 @@
+pub mod Shown
+pub mod Refused
+pub mod Made
+pub mod Answers

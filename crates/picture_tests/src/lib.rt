@@ -1,0 +1,5 @@
+//! Tests of pictures of whole inputs.
+#![tactic(auto)]
+
+#[cfg(test)]
+mod tests;
