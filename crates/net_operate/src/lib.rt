@@ -2,7 +2,6 @@
 #![tactic(auto)]
 
 mod acquirers;
-mod desk;
 mod fitting;
 mod hearing;
 mod news;

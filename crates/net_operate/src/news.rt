@@ -4,13 +4,12 @@ ghost use Rattle.std.specs.Prelude.{◌≡◌, nat_lt};
 #[cfg(test)]
 mod tests;
 
-use crate::desk::Desk;
 use crate::fitting::key_in;
 use crate::hearing::{Hearer, who_hears};
 use crate::serving::Service;
 use card_digits::{Key, NodeNo};
 use net_threads::Station;
-use plan_threads::{Calls, Pump, Queue, Shelf, ThreadNumbers};
+use plan_threads::{Calls, Pump, Queue, Shelf, Standing, ThreadNumbers};
 use run_plan::Plan;
 use std::alloc::{AllocError, Global};
 use std::sync::atomic::{AtomicBool, AtomicU64, Ordering};
@@ -69,8 +68,6 @@ struct News {
     sessions: Vec<usize>,
     /// Whose turn it is among these.
     queue: Mutex<Queue>,
-    /// Where it lies how far these have come, in the same order, while it is nobody's turn.
-    desks: Mutex<Shelf<Vec<Desk>>>,
     /// Where what its pump keeps lies while nobody pumps.
     pump: Mutex<Shelf<Pump>>,
     /// Where what is kept of its host lies while nobody asks it.
@@ -147,23 +144,12 @@ fn sessions_of(
     Ok(sessions)
 }
 
-fn desks_of(alloc: Global, sessions: usize) -> Result<Shelf<Vec<Desk>>, AllocError> {
-    let mut desks = Vec::with_capacity(alloc, sessions)?;
-    for _ in 0..sessions {
-        desks.push(Desk::new(alloc))?;
-    }
-    let mut shelf = Shelf::empty();
-    let _ = shelf.put(desks);
-    Ok(shelf)
-}
-
 fn news_of(alloc: Global, sessions: Vec<usize>) -> Result<News, AllocError> {
     Ok(News {
         working: AtomicU64::new(0),
         told: AtomicU64::new(0),
         asked: AtomicU64::new(0),
         queue: Mutex::new(Queue::new(alloc, sessions.len())?),
-        desks: Mutex::new(desks_of(alloc, sessions.len())?),
         sessions,
         pump: Mutex::new(Shelf::empty()),
         service: Mutex::new(Shelf::empty()),
@@ -290,8 +276,7 @@ impl Shared {
         }
     }
 
-    /// Whether it is the turn of the session at a place of the plan. Otherwise it is told once it is: the thread of one session of a node works
-    /// at a time, for all of them.
+    /// Whether it is the turn of the session at a place of the plan. Otherwise it is told once it is: one session of a node goes on at a time.
     pub(crate) fn take_turn<R: Wait>(&self, rt: &R, session: usize) -> bool {
         let Some(seat) = self.seats.get(session) else {
             return true;
@@ -302,66 +287,46 @@ impl Shared {
         }
     }
 
-    /// The session at a place of the plan goes on no more. If it was its turn, the next of its node is told.
-    pub(crate) fn leave_turn<R: Wait>(&self, rt: &R, session: usize) {
+    /// The session at a place of the plan goes on, whether or not it is its turn: from here on it is told of its answers at once.
+    pub(crate) fn go_on<R: Wait>(&self, rt: &R, session: usize) {
+        let Some(seat) = self.seats.get(session) else {
+            return;
+        };
+        if let Some(news) = self.nodes.get(seat.node) {
+            news.queue.lock(rt).go_on(seat.place);
+        }
+    }
+
+    /// The session at a place of the plan goes on no more, and stands so from now on. If it was its turn, the next of its node is told.
+    pub(crate) fn leave_turn<R: Wait>(&self, rt: &R, session: usize, standing: Standing) {
         let Some(seat) = self.seats.get(session) else {
             return;
         };
         let Some(news) = self.nodes.get(seat.node) else {
             return;
         };
-        let next = news.queue.lock(rt).leave(seat.place);
+        let next = news.queue.lock(rt).leave(seat.place, standing);
         if let Some(place) = next {
-            self.tell_session_at(news, place);
-        }
-    }
-
-    /// Tells of an answer for a session, which has this number on the clock: the one of its node whose turn it is, if it is anybody's.
-    pub(crate) fn recall<R: Wait>(&self, rt: &R, thread: usize) {
-        let Some(seat) = self.seats.get(self.threads.place_of_session(thread)) else {
-            self.clock.tell(thread);
-            return;
-        };
-        if let Some(news) = self.nodes.get(seat.node) {
-            let turn = news.queue.lock(rt).turn();
-            if let Some(place) = turn {
-                self.tell_session_at(news, place);
+            if let Some(next) = news.sessions.get(place) {
+                self.clock.tell(self.threads.session(*next));
             }
         }
     }
 
-    /// Tells the session at a place among those of a node.
-    fn tell_session_at(&self, news: &News, place: usize) {
-        if let Some(session) = news.sessions.get(place) {
-            self.clock.tell(self.threads.session(*session));
+    /// Tells a session that there is an answer, by its number on the clock: at once, or as soon as it is its turn.
+    pub(crate) fn recall<R: Wait>(&self, rt: &R, thread: usize) {
+        if self.is_told(rt, self.threads.place_of_session(thread)) {
+            self.clock.tell(thread);
         }
     }
 
-    /// The places in the plan of the sessions of a node.
-    pub(crate) fn sessions_at(&self, n: usize) -> &[usize] {
-        match self.nodes.get(n) {
-            Some(news) => news.sessions.as_slice(),
-            None => &[],
-        }
-    }
-
-    /// The place of a session of the plan among those of its node.
-    pub(crate) fn place_at_node(&self, session: usize) -> usize {
-        match self.seats.get(session) {
-            Some(seat) => seat.place,
-            None => 0,
-        }
-    }
-
-    /// Takes out how far the sessions of a node have come, where it is the caller's turn.
-    pub(crate) fn take_desks<R: Wait>(&self, rt: &R, n: usize) -> Option<Vec<Desk>> {
-        self.nodes.get(n)?.desks.lock(rt).take()
-    }
-
-    /// Puts it back for the next whose turn it is.
-    pub(crate) fn put_desks<R: Wait>(&self, rt: &R, n: usize, desks: Vec<Desk>) {
-        if let Some(news) = self.nodes.get(n) {
-            let _ = news.desks.lock(rt).put(desks);
+    fn is_told<R: Wait>(&self, rt: &R, session: usize) -> bool {
+        let Some(seat) = self.seats.get(session) else {
+            return true;
+        };
+        match self.nodes.get(seat.node) {
+            Some(news) => news.queue.lock(rt).recall(seat.place),
+            None => true,
         }
     }
 

@@ -188,7 +188,7 @@ fn run_all<H: Host + Sync, R: Threads + Wait + Sync>(
             for (place, session) in plan.sessions.iter().enumerate() {
                 let acquirer = acquirer_of(alloc, stations, plan, shared, place, session);
                 let Ok(child) = scope.spawn(move || {
-                    run_session(rt, alloc, hosts, acquirer, shared)
+                    run_session(rt, alloc, hosts, acquirer, session, shared)
                 }) else {
                     shared.stop();
                     return Err(OperateFault::Thread);
@@ -221,8 +221,7 @@ fn run_all<H: Host + Sync, R: Threads + Wait + Sync>(
 ///
 /// A thread that has nothing to do sleeps. Whoever makes a step carries on what comes of it: he pumps at the other end of a link, and puts
 /// requests to hosts that answer at once, where no other does at that moment; he tells the sessions that have an answer, and the threads of
-/// other hosts. A thread that has more to do for itself leaves that to the threads that are there for it. Of the sessions of one node the thread
-/// of one works at a time: it goes on with all of them, each in its turn, until its own has ended, and the next takes over. While anybody works, no turn
+/// other hosts. A thread that has more to do for itself leaves that to the threads that are there for it. While anybody works, no turn
 /// passes for those who sleep; one in which a pump works counts for it alone. Where all sleep, as many turns pass at once as the first of
 /// them waits for: those until a tick, until a packet that was held back is taken, or until a wait or the plan is over. Steps that others
 /// make by `step_at`, `pump_once` and `pump_with` of the network wake its node's pump. Another plan on the same network is not told of what

@@ -102,9 +102,10 @@ impl<'s, 't, 'p> Worker<'s, 't, 'p> {
         clock.turns().saturating_sub(before).min(turns)
     }
 
-    /// Sleeps until it is told of something, however many turns pass.
+    /// Sleeps until it is told of something, and no longer than anybody works.
     pub(crate) fn nap<H: Host, R: Wait>(&self, rt: &R, hosts: &[H], calls: &mut Calls) {
-        self.shared.clock().set_due(self.thread, u64::MAX);
+        let clock = self.shared.clock();
+        clock.set_due(self.thread, clock.turns());
         self.sleep(rt, hosts, calls);
     }
 
@@ -147,7 +148,7 @@ impl<'s, 't, 'p> Worker<'s, 't, 'p> {
         self.tell(rt, calls);
     }
 
-    /// Whoever works for the sessions that have an answer is told of it.
+    /// Sessions that have an answer go on, each once no other of its node does.
     fn recall_sessions<R: Wait>(&self, rt: &R, calls: &mut Calls) {
         for _ in 0..calls.count_sessions() {
             if let Some(session) = calls.next_session() {

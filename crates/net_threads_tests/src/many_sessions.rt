@@ -77,35 +77,14 @@ fn plan_text(alloc: Global, sessions: u32) -> Result<String, AllocError> {
     Ok(text)
 }
 
-/// A session of an acquirer with so many requests.
-fn push_long_session(
-    alloc: Global,
-    text: &mut String,
-    acquirer: u32,
-    requests: u32,
-) -> Result<(), AllocError> {
-    text.push_str(format!(in alloc; "session {acquirer}\n")?.as_str())?;
-    for trace in 0..requests {
-        push_request(alloc, text, acquirer, trace)?;
-    }
-    Ok(())
-}
-
 /// Three sessions with so many requests each.
 fn long_text(alloc: Global, requests: u32) -> Result<String, AllocError> {
     let mut text = String::from_str(alloc, "PLAN 1\nturns 50000000\ntick_every 0\n")?;
     for session in 0..3 {
-        push_long_session(alloc, &mut text, acquirer(session), requests)?;
-    }
-    text.push_str("END\n")?;
-    Ok(text)
-}
-
-/// Three sessions at the first node, each with so many requests, and one at the home with as many.
-fn text_of_both(alloc: Global, requests: u32) -> Result<String, AllocError> {
-    let mut text = String::from_str(alloc, "PLAN 1\nturns 50000000\ntick_every 0\n")?;
-    for acquirer in [acquirer(0), AT_HOME, acquirer(1), acquirer(2)] {
-        push_long_session(alloc, &mut text, acquirer, requests)?;
+        text.push_str(format!(in alloc; "session {}\n", acquirer(session))?.as_str())?;
+        for trace in 0..requests {
+            push_request(alloc, &mut text, acquirer(session), trace)?;
+        }
     }
     text.push_str("END\n")?;
     Ok(text)
@@ -261,7 +240,7 @@ fn twenty_sessions(rt: HostRuntime) -> Result<(), Fail> {
     Ok(())
 }
 
-/// Sessions of a node go on one after the other, and each has more lines than are gone on with at a time.
+/// Sessions of a node go on by turns, and each has more lines than it enters in a turn of its own.
 #[test]
 fn sessions_of_many_lines(rt: HostRuntime) -> Result<(), Fail> {
     let alloc = rt.alloc();
@@ -271,20 +250,6 @@ fn sessions_of_many_lines(rt: HostRuntime) -> Result<(), Fail> {
         let way = Way::Once;
         let seen = ran_on_text(&rt, alloc, 3, plan.as_str(), Trial { way, host })?;
         assert_eq!(rt; seen, Some((1_800, Verdict::Linked)));
-    }
-    Ok(())
-}
-
-/// The sessions of two nodes want the station of one of them.
-#[test]
-fn sessions_at_both_nodes(rt: HostRuntime) -> Result<(), Fail> {
-    let alloc = rt.alloc();
-    let plan = text_of_both(alloc, 200)?;
-    for n in 0..10 {
-        let host = APPROVING[n % 2];
-        let way = Way::Once;
-        let seen = ran_on_text(&rt, alloc, 3, plan.as_str(), Trial { way, host })?;
-        assert_eq!(rt; seen, Some((800, Verdict::Linked)));
     }
     Ok(())
 }

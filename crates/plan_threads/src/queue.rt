@@ -1,7 +1,7 @@
 //! Whose turn it is among the sessions of a node.
 ghost use Rattle.std.specs.Prelude.{◌≡◌, ◌==◌, replicate, slice_set, Some, None, IfOk, if◌then◌else◌};
 ghost use Rattle.std.specs.List.{position};
-ghost use Rattle.plan_threads.specs.Queues.{is_queued, whose_turn, has_turn, next_queued, out};
+ghost use Rattle.plan_threads.specs.Queues.{is_queued, whose_turn, has_turn, is_away, is_told, next_queued, out, recalled};
 ghost use Rattle.plan_threads.specs.declared.queue.Standing.TheVariants.{Out, Queued};
 
 use std::alloc::{AllocError, Global};
@@ -10,13 +10,15 @@ use std::marker::Model;
 /// How a session stands.
 #[derive(Clone, Copy, Debug, PartialEq, Eq)]
 pub enum Standing {
-    /// It doesn't wait for its turn.
+    /// It waits neither for its turn nor for an answer.
     Out,
     /// It waits for its turn.
     Queued,
+    /// It waits for an answer, and for its turn once it is told of one.
+    Away,
 }
 
-/// The sessions of a node, by their places among them. The thread of one works at a time, for all of them.
+/// The sessions of a node, by their places among them. One goes on at a time, so that none waits for a step of another.
 #[derive(Drop)]
 pub struct Queue {
     /// Whose turn it is.
@@ -42,7 +44,7 @@ fn place_queued(standings: &[Standing]) -> Option<usize>
 }
 
 impl Queue {
-    /// So many sessions, none of which waits.
+    /// So many sessions, all of which are out.
     pub fn new(alloc: Global, sessions: usize) -> Result<Queue, AllocError>
         ensures { IfOk result (λ q. q ≡ record { turn = None; standings = replicate sessions Out }) }
     {
@@ -54,13 +56,6 @@ impl Queue {
             turn: None,
             standings,
         })
-    }
-
-    /// Whose turn it is.
-    pub fn turn(&self) -> Option<usize>
-        ensures { result ≡ self.now.turn }
-    {
-        self.turn
     }
 
     fn stand(&mut self, session: usize, standing: Standing)
@@ -92,6 +87,14 @@ impl Queue {
         taken
     }
 
+    /// The session goes on, whether or not it is its turn, and waits for nothing.
+    pub fn go_on(&mut self, session: usize)
+        ensures turn { self.new.turn ≡ self.old.turn }
+        ensures standings { self.new.standings ≡ slice_set self.old.standings session Out }
+    {
+        self.stand(session, Standing::Out);
+    }
+
     /// The one whose turn it is next: one behind the session, where one waits there.
     fn next(&self, session: usize) -> Option<usize>
         ensures { result ≡ next_queued session self.now.standings }
@@ -105,13 +108,13 @@ impl Queue {
         place_queued(self.standings.as_slice())
     }
 
-    /// The session goes on no more. If it was its turn, it is that of another who waits, which is the result.
-    pub fn leave(&mut self, session: usize) -> Option<usize>
-        ensures next { result ≡ (if has_turn session self.old then next_queued session (slice_set self.old.standings session Out) else None) }
+    /// The session goes on no more, and stands so from now on. If it was its turn, it is that of another who waits, which is the result.
+    pub fn leave(&mut self, session: usize, standing: Standing) -> Option<usize>
+        ensures next { result ≡ (if has_turn session self.old then next_queued session (slice_set self.old.standings session standing) else None) }
         ensures turn { self.new.turn ≡ (if has_turn session self.old then result else self.old.turn) }
-        ensures standings { self.new.standings ≡ out result (slice_set self.old.standings session Out) }
+        ensures standings { self.new.standings ≡ out result (slice_set self.old.standings session standing) }
     {
-        self.stand(session, Standing::Out);
+        self.stand(session, standing);
         if self.turn != Some(session) {
             return None;
         }
@@ -121,5 +124,18 @@ impl Queue {
         }
         self.turn = next;
         next
+    }
+
+    /// There is an answer for the session. Whether it is to be told: not as long as it waits for its turn.
+    pub fn recall(&mut self, session: usize) -> bool
+        ensures told { result ≡ is_told session self.old }
+        ensures turn { self.new.turn ≡ (if is_away session self.old then Some (whose_turn session self.old) else self.old.turn) }
+        ensures standings { self.new.standings ≡ recalled session self.old }
+    {
+        match self.standings.get(session) {
+            Some(Standing::Away) => self.take(session),
+            Some(Standing::Queued) => false,
+            _ => true,
+        }
     }
 }

@@ -1,2 +1,1 @@
-pub mod App
 pub mod Line

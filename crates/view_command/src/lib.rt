@@ -1,11 +1,8 @@
-//! What the words of `network_view` ask for, as `clap` parses them.
+//! What the words of `network_view` ask for.
 #![tactic(auto)]
 
-mod app;
 mod job;
-mod parse;
 #[cfg(test)]
 mod tests;
 
-pub use job::{Drawing, Format, Job};
-pub use parse::{help_of, job_of};
+pub use job::{Command, Job, command_of, job_of};
