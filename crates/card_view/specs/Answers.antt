@@ -1,4 +1,4 @@
--- What is answered to an input and a job.
+-- What is answered to an input.
 use Rattle.std.specs.Prelude.{◌≡◌, ℕ, List, [], ◌∷◌, ◌++◌, ◌⊎◌, map, Result, Ok, Err}
 use Rattle.net_rows.specs.Network.{Network}
 use Rattle.net_tables.specs.Reading.{tables_in}
@@ -13,8 +13,8 @@ use Rattle.all_refusals.specs.Found.{all_refusals}
 use Rattle.bundle_text.specs.Answers.{Said, NamesMemory, fault, parts_fault, verdict}
 use Rattle.bundle_text.specs.Lines.{Text, table_fault_line, cert_fault_line}
 use Rattle.bundle_text.specs.Parts.{parts_of}
-use Rattle.view_command.specs.declared.job.Job.{Job}
-use Rattle.view_command.specs.declared.job.Job.TheVariants as jobs
+use Rattle.card_view.specs.declared.asked.Asked.{Asked}
+use Rattle.card_view.specs.declared.asked.Asked.TheVariants as asks
 use Rattle.card_view.specs.View.{view_text}
 use Rattle.card_view.specs.Listed.{refusals_text}
 
@@ -32,21 +32,21 @@ pub record IsListed (t : Network) (cert : List Rank) (said : Said) : Type 0 wher
   pub all : map (shown t) found ≡ all_refusals t cert
   pub printed : said ≡ followed (verdict t (first_refusal t cert)) (refusals_text t found)
 
--- an answer of a job to tables and ranks
-abbrev pub IsView : Job → Network → List Rank → Said → Type 0
-IsView (jobs.Card card) t cert said = said ≡ view_of card t cert
-IsView jobs.Refusals t cert said = IsListed t cert said
+-- an answer to tables and ranks
+abbrev pub IsView : Asked → Network → List Rank → Said → Type 0
+IsView (asks.Card card) t cert said = said ≡ view_of card t cert
+IsView asks.Refusals t cert said = IsListed t cert said
 
 -- the first fault of tables and ranks, or such an answer
-abbrev pub IsViewRead : Job → Result Network TableFault → Result (List Rank) CertFault → Said → Type 0
-IsViewRead job (Err e) ranks said = said ≡ fault (table_fault_line e)
-IsViewRead job (Ok t) (Err e) said = said ≡ fault (cert_fault_line e)
-IsViewRead job (Ok t) (Ok cert) said = IsView job t cert said
+abbrev pub IsViewRead : Asked → Result Network TableFault → Result (List Rank) CertFault → Said → Type 0
+IsViewRead asked (Err e) ranks said = said ≡ fault (table_fault_line e)
+IsViewRead asked (Ok t) (Err e) said = said ≡ fault (cert_fault_line e)
+IsViewRead asked (Ok t) (Ok cert) said = IsView asked t cert said
 
-abbrev pub IsViewParts : Job → List (List ℕ) → Said → Type 0
-IsViewParts job (tables ∷ ranks ∷ []) said = IsViewRead job (tables_in tables) (cert_in ranks) said
-IsViewParts job _ said = said ≡ parts_fault
+abbrev pub IsViewParts : Asked → List (List ℕ) → Said → Type 0
+IsViewParts asked (tables ∷ ranks ∷ []) said = IsViewRead asked (tables_in tables) (cert_in ranks) said
+IsViewParts asked _ said = said ≡ parts_fault
 
--- an answer of a job to an input, unless memory was refused
-abbrev pub ViewAnswers : Job → List ℕ → Said → Type 0
-ViewAnswers job input said = IsViewParts job (parts_of input) said ⊎ NamesMemory said
+-- an answer to an input, unless memory was refused
+abbrev pub ViewAnswers : Asked → List ℕ → Said → Type 0
+ViewAnswers asked input said = IsViewParts asked (parts_of input) said ⊎ NamesMemory said

@@ -1,4 +1,4 @@
-//! The answer to an input and a job.
+//! The answer to an input.
 ghost use Rattle.std.specs.Prelude.{◌≡◌, ◌++◌, ◌⊎◌, IfOk, map, Ok, Some};
 ghost use Rattle.net_tables.specs.Reading.{tables_in};
 ghost use Rattle.rank_cert.specs.Reading.{cert_in};
@@ -7,6 +7,7 @@ ghost use Rattle.table_checker.specs.Rules.{first_refusal};
 ghost use Rattle.card_view.specs.View as views;
 ghost use Rattle.card_view.specs.Answers.{ViewAnswers, IsListed, IsView, IsViewRead, IsViewParts, view_of};
 
+use crate::asked::Asked;
 use crate::listed::add_lines;
 use crate::view::{CardView, view_text};
 use all_refusals::refusals;
@@ -19,7 +20,6 @@ use net_tables::read_tables;
 use rank_cert::{Cert, read_cert};
 use std::alloc::{AllocError, Global};
 use table_checker::{Refusal, check};
-use view_command::Job;
 
 /// A verdict's line and status, and the lines of the view behind it.
 fn with_view(
@@ -83,57 +83,67 @@ fn listed(alloc: Global, tables: &Tables, cert: &Cert) -> Result<Answer, AllocEr
     }
 }
 
-/// The answer of a job to tables and ranks.
+/// What is asked of tables and ranks.
 fn view_of_tables(
     alloc: Global,
-    job: &Job,
+    asked: &Asked,
     tables: &Tables,
     cert: &Cert,
 ) -> Result<Answer, AllocError>
-    ensures { IfOk result (λ a. IsView job.now tables.now cert.now a ⊎ NamesMemory a) }
+    ensures { IfOk result (λ a. IsView asked.now tables.now cert.now a ⊎ NamesMemory a) }
 {
-    match job {
-        Job::Card(card) => viewed(alloc, &CardView { tables, cert, card }),
-        Job::Refusals => listed(alloc, tables, cert),
+    match asked {
+        Asked::Card(card) => viewed(alloc, &CardView { tables, cert, card }),
+        Asked::Refusals => listed(alloc, tables, cert),
     }
 }
 
 /// The first fault of the ranks, or the view.
-fn view_ranks(alloc: Global, job: &Job, tables: &Tables, ranks: &[u8]) -> Result<Answer, AllocError>
-    ensures { IfOk result (λ a. IsViewRead job.now (Ok tables.now) (cert_in ranks.now) a ⊎ NamesMemory a) }
+fn view_ranks(
+    alloc: Global,
+    asked: &Asked,
+    tables: &Tables,
+    ranks: &[u8],
+) -> Result<Answer, AllocError>
+    ensures { IfOk result (λ a. IsViewRead asked.now (Ok tables.now) (cert_in ranks.now) a ⊎ NamesMemory a) }
 {
     match read_cert(alloc, ranks) {
-        Ok(cert) => view_of_tables(alloc, job, tables, &cert),
+        Ok(cert) => view_of_tables(alloc, asked, tables, &cert),
         Err(e) => Ok(fault_answer(cert_fault_line(alloc, e)?)),
     }
 }
 
 /// The first fault of tables and ranks, or the view.
-fn view_both(alloc: Global, job: &Job, tables: &[u8], ranks: &[u8]) -> Result<Answer, AllocError>
-    ensures { IfOk result (λ a. IsViewRead job.now (tables_in tables.now) (cert_in ranks.now) a ⊎ NamesMemory a) }
+fn view_both(
+    alloc: Global,
+    asked: &Asked,
+    tables: &[u8],
+    ranks: &[u8],
+) -> Result<Answer, AllocError>
+    ensures { IfOk result (λ a. IsViewRead asked.now (tables_in tables.now) (cert_in ranks.now) a ⊎ NamesMemory a) }
 {
     match read_tables(alloc, tables) {
-        Ok(tables) => view_ranks(alloc, job, &tables, ranks),
+        Ok(tables) => view_ranks(alloc, asked, &tables, ranks),
         Err(e) => Ok(fault_answer(table_fault_line(alloc, e)?)),
     }
 }
 
 #[tactic(auto, using(crate::proofs::Pairs::not_two, bundle_text::proofs::Pairs::two))]
-fn view_of_parts(alloc: Global, job: &Job, parts: &[&[u8]]) -> Result<Answer, AllocError>
-    ensures { IfOk result (λ a. IsViewParts job.now (map (λ p. p.now) parts.now) a ⊎ NamesMemory a) }
+fn view_of_parts(alloc: Global, asked: &Asked, parts: &[&[u8]]) -> Result<Answer, AllocError>
+    ensures { IfOk result (λ a. IsViewParts asked.now (map (λ p. p.now) parts.now) a ⊎ NamesMemory a) }
 {
     if parts.len() != 2 {
         return parts_fault(alloc);
     }
-    view_both(alloc, job, parts[0], parts[1])
+    view_both(alloc, asked, parts[0], parts[1])
 }
 
 /// The answer to an input of two parts, the tables and the ranks: the verdict of `check` with what each node does with the card or
 /// all refusals behind it, or the first fault.
-pub fn view_answer(alloc: Global, job: &Job, input: &[u8]) -> Result<Answer, AllocError>
-    ensures { IfOk result (ViewAnswers job.now input.now) }
+pub fn view_answer(alloc: Global, asked: &Asked, input: &[u8]) -> Result<Answer, AllocError>
+    ensures { IfOk result (ViewAnswers asked.now input.now) }
 {
     let text = without_carriage_returns(alloc, input)?;
     let parts = parts(alloc, &text)?;
-    view_of_parts(alloc, job, &parts)
+    view_of_parts(alloc, asked, &parts)
 }

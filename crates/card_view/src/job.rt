@@ -5,24 +5,24 @@ ghost use Rattle.bundle_input.specs.Input.{AnswersOrMemory, IsOutput, WroteWithC
 ghost use Rattle.card_view.specs.Answers.{ViewAnswers};
 
 use crate::answer::view_answer;
+use crate::asked::Asked;
 use bundle_input::{BundleFault, InputFault, read_all, write_cause};
 use bundle_text::Status;
 use card_digits::{Sink, Source, write_all};
 use std::alloc::Global;
-use view_command::Job;
 
 /// Writes the answer to an input, or that there is no memory.
 fn print_input<W: Sink>(
     alloc: Global,
-    job: &Job,
+    asked: &Asked,
     input: &[u8],
     writer: &mut W,
 ) -> Result<Status, BundleFault>
-    ensures ok { IfOk result (Wrote (AnswersOrMemory (ViewAnswers job.now) input.now) (W.written writer.old) (W.written writer.new)) }
-    ensures err { OnErr result (WroteFront (AnswersOrMemory (ViewAnswers job.now) input.now) (W.written writer.old) (W.written writer.new)) }
+    ensures ok { IfOk result (Wrote (AnswersOrMemory (ViewAnswers asked.now) input.now) (W.written writer.old) (W.written writer.new)) }
+    ensures err { OnErr result (WroteFront (AnswersOrMemory (ViewAnswers asked.now) input.now) (W.written writer.old) (W.written writer.new)) }
     ensures failed { OnErr result (0 < W.failures writer.new) }
 {
-    let Ok(answer) = view_answer(alloc, job, input) else {
+    let Ok(answer) = view_answer(alloc, asked, input) else {
         return write_cause(writer, InputFault::Memory);
     };
     match write_all(writer, answer.text()) {
@@ -34,32 +34,32 @@ fn print_input<W: Sink>(
 /// Writes the answer to all that a reader gives.
 fn print_output<R: Source, W: Sink>(
     alloc: Global,
-    job: &Job,
+    asked: &Asked,
     reader: &mut R,
     writer: &mut W,
 ) -> Result<Status, BundleFault>
-    ensures ok { IfOk result (Wrote (IsOutput (ViewAnswers job.now) (R.remaining reader.old) (R.failures reader.new) (R.turns reader.old) (R.turns reader.new)) (W.written writer.old) (W.written writer.new)) }
-    ensures err { OnErr result (WroteFront (IsOutput (ViewAnswers job.now) (R.remaining reader.old) (R.failures reader.new) (R.turns reader.old) (R.turns reader.new)) (W.written writer.old) (W.written writer.new)) }
+    ensures ok { IfOk result (Wrote (IsOutput (ViewAnswers asked.now) (R.remaining reader.old) (R.failures reader.new) (R.turns reader.old) (R.turns reader.new)) (W.written writer.old) (W.written writer.new)) }
+    ensures err { OnErr result (WroteFront (IsOutput (ViewAnswers asked.now) (R.remaining reader.old) (R.failures reader.new) (R.turns reader.old) (R.turns reader.new)) (W.written writer.old) (W.written writer.new)) }
     ensures failed { OnErr result (0 < W.failures writer.new) }
 {
     match read_all(alloc, reader) {
-        Ok(input) => print_input(alloc, job, &input, writer),
+        Ok(input) => print_input(alloc, asked, &input, writer),
         Err(cause) => write_cause(writer, cause),
     }
 }
 
-/// Reads all there is, writes the verdict on it and what the job asks for, and nothing else, and answers the exit status.
+/// Reads all there is, writes the verdict on it and what was asked for, and nothing else, and answers the exit status.
 pub fn run_view<R: Source, W: Sink>(
     alloc: Global,
-    job: &Job,
+    asked: &Asked,
     reader: &mut R,
     writer: &mut W,
 ) -> Result<u8, BundleFault>
-    ensures ok { IfOk result (WroteWithCode (IsOutput (ViewAnswers job.now) (R.remaining reader.old) (R.failures reader.new) (R.turns reader.old) (R.turns reader.new)) (W.written writer.old) (W.written writer.new)) }
-    ensures err { OnErr result (WroteFront (IsOutput (ViewAnswers job.now) (R.remaining reader.old) (R.failures reader.new) (R.turns reader.old) (R.turns reader.new)) (W.written writer.old) (W.written writer.new)) }
+    ensures ok { IfOk result (WroteWithCode (IsOutput (ViewAnswers asked.now) (R.remaining reader.old) (R.failures reader.new) (R.turns reader.old) (R.turns reader.new)) (W.written writer.old) (W.written writer.new)) }
+    ensures err { OnErr result (WroteFront (IsOutput (ViewAnswers asked.now) (R.remaining reader.old) (R.failures reader.new) (R.turns reader.old) (R.turns reader.new)) (W.written writer.old) (W.written writer.new)) }
     ensures failed { OnErr result (0 < W.failures writer.new) }
 {
-    match print_output(alloc, job, reader, writer) {
+    match print_output(alloc, asked, reader, writer) {
         Ok(status) => Ok(status.code()),
         Err(fault) => Err(fault),
     }

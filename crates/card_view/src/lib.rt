@@ -2,6 +2,7 @@
 #![tactic(auto)]
 
 mod answer;
+mod asked;
 mod class;
 mod days;
 mod issuer;
@@ -13,6 +14,7 @@ mod view;
 mod ways;
 
 pub use answer::view_answer;
+pub use asked::Asked;
 pub use class::class_of;
 pub use job::run_view;
 pub use view::CardView;

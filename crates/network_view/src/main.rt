@@ -1,14 +1,33 @@
-//! Prints what each node of a card network does with one card, all refusals of its tables, or a printed trace as a table.
+//! Prints what each node of a card network does with one card, all refusals of its tables, a picture of it, or a printed trace as a table.
 #![tactic(auto)]
 
-use card_digits::Counted;
-use card_view::run_view;
+use bundle_input::BundleFault;
+use card_digits::{Card, Counted, Prefix, Sink, Source};
+use card_view::{Asked, run_view};
+use network_picture::{PictureJob, run_picture};
 use std::alloc::{AllocError, Global};
 use std::process::ExitCode;
 use std::rt::Env;
 use std::{env, io};
 use trace_view::run_trace;
-use view_command::{Command, command_of};
+use view_command::{Drawing, Format, Job, help_of, job_of};
+
+/// What is asked of the input.
+#[derive(Clone, Copy, Debug)]
+enum Question {
+    View(Asked),
+    Picture(PictureJob),
+    Trace,
+}
+
+/// What the words ask for.
+#[derive(Debug, Drop)]
+enum Request {
+    Answer(Question),
+    Help(String),
+    /// Nothing that is printed.
+    Other,
+}
 
 /// The words behind the program's name.
 fn words(rt: &(impl Env + AllocGlobal)) -> io::Result<Vec<String>> {
@@ -19,40 +38,98 @@ fn words(rt: &(impl Env + AllocGlobal)) -> io::Result<Vec<String>> {
     Ok(words)
 }
 
-fn command_of_words(alloc: Global, words: &[String]) -> Result<Option<Command>, AllocError> {
+/// What a picture is written in, as the words say.
+fn drawn(drawing: Drawing) -> network_picture::Drawing {
+    match drawing {
+        Drawing::Svg => network_picture::Drawing::Svg,
+        Drawing::Dot => network_picture::Drawing::Dot,
+    }
+}
+
+fn card_question(card: &Card) -> Request {
+    Request::Answer(Question::View(Asked::Card(*card)))
+}
+
+fn picture_question(prefix: &Option<Prefix>, drawing: Drawing) -> Request {
+    let drawing = drawn(drawing);
+    Request::Answer(Question::Picture(PictureJob {
+        prefix: *prefix,
+        drawing,
+    }))
+}
+
+fn request_of_job(job: &Job) -> Request {
+    match job {
+        Job::Card(card, Format::Text) => card_question(card),
+        Job::Refusals(Format::Text) => Request::Answer(Question::View(Asked::Refusals)),
+        Job::Picture(prefix, drawing) => picture_question(prefix, *drawing),
+        Job::Trace => Request::Answer(Question::Trace),
+        _ => Request::Other,
+    }
+}
+
+fn request_of_help(alloc: Global, texts: &[&str]) -> Result<Request, AllocError> {
+    match help_of(alloc, texts)? {
+        Some(help) => Ok(Request::Help(help)),
+        None => Ok(Request::Other),
+    }
+}
+
+fn request_of_texts(alloc: Global, texts: &[&str]) -> Result<Request, AllocError> {
+    match job_of(alloc, texts)? {
+        Some(job) => Ok(request_of_job(&job)),
+        None => request_of_help(alloc, texts),
+    }
+}
+
+fn request_of_words(alloc: Global, words: &[String]) -> Result<Request, AllocError> {
     let mut texts = Vec::new(alloc);
     for word in words {
         texts.push(word.as_str())?;
     }
-    Ok(command_of(&texts))
+    request_of_texts(alloc, &texts)
 }
 
-fn command_of_arguments(rt: &(impl Env + AllocGlobal)) -> Result<Option<Command>, AllocError> {
+fn request_of_arguments(rt: &(impl Env + AllocGlobal)) -> Result<Request, AllocError> {
     match words(rt) {
-        Ok(words) => command_of_words(rt.alloc(), &words),
-        // Words that are no text stand on no line of the usage.
-        Err(fault) if fault.kind() == io::ErrorKind::InvalidData => Ok(None),
+        Ok(words) => request_of_words(rt.alloc(), &words),
+        // Words that are no text ask for nothing.
+        Err(fault) if fault.kind() == io::ErrorKind::InvalidData => Ok(Request::Other),
         Err(_) => Err(AllocError),
     }
 }
 
+/// Answers the input on standard output.
+fn answer<R: Source, W: Sink>(
+    alloc: Global,
+    question: &Question,
+    reader: &mut R,
+    writer: &mut W,
+) -> Result<u8, BundleFault> {
+    match question {
+        Question::View(asked) => run_view(alloc, asked, reader, writer),
+        Question::Picture(job) => run_picture(alloc, job, reader, writer),
+        Question::Trace => run_trace(alloc, reader, writer),
+    }
+}
+
 fn main(rt: HostRuntime) -> ExitCode {
-    let status = match command_of_arguments(&rt) {
-        Ok(Some(command)) => {
+    let status = match request_of_arguments(&rt) {
+        Ok(Request::Answer(question)) => {
             let mut reader = Counted::reader(rt.stdin());
             let mut writer = Counted::writer(rt.stdout());
-            let ended = match command {
-                Command::View(job) => run_view(rt.alloc(), &job, &mut reader, &mut writer),
-                Command::Trace => run_trace(rt.alloc(), &mut reader, &mut writer),
-            };
-            match ended {
+            match answer(rt.alloc(), &question, &mut reader, &mut writer) {
                 Ok(status) => status,
                 Err(_) => 2,
             }
         }
-        Ok(None) => {
+        Ok(Request::Help(help)) => match print!(rt; "{help}") {
+            Ok(()) => 0,
+            Err(_) => 2,
+        },
+        Ok(Request::Other) => {
             let _ = eprintln!(rt;
-                "usage: network_view card N\n       network_view refusals\n       network_view trace"
+                "usage: network_view card N\n       network_view refusals\n       network_view picture [--prefix P] [--dot]\n       network_view trace"
             );
             2
         }

@@ -1,1 +1,2 @@
+pub mod App
 pub mod Line

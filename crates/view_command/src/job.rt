@@ -1,59 +1,32 @@
-//! The job that the words name.
-ghost use Rattle.std.specs.Prelude.{◌≡◌, map};
-ghost use Rattle.view_command.specs.Line.{job_asked, is_trace, command_asked};
+//! What the program prints of a network.
+use card_digits::{Card, Prefix};
 
-use card_digits::Card;
+/// How an answer is written.
+#[derive(Clone, Copy, Debug, PartialEq, Eq)]
+pub enum Format {
+    /// Lines to read.
+    Text,
+    /// JSON, an object on each line.
+    Json,
+}
+
+/// What a picture is written in.
+#[derive(Clone, Copy, Debug, PartialEq, Eq)]
+pub enum Drawing {
+    Svg,
+    /// The input of Graphviz.
+    Dot,
+}
 
 /// What to print of a network.
 #[derive(Clone, Copy, Debug, PartialEq, Eq)]
 pub enum Job {
     /// What each node does with a card.
-    Card(Card),
+    Card(Card, Format),
     /// All refusals, each with its row.
-    Refusals,
-}
-
-/// The job of the words behind the program's name, `card N` or `refusals`, or none of other words.
-pub fn job_of(words: &[&str]) -> Option<Job>
-    ensures { result ≡ job_asked (map (λ w. w.now) words.now) }
-{
-    match words {
-        [word, number] if *word == "card" => {
-            let card = Card::read(number.as_bytes()).ok()?;
-            Some(Job::Card(card))
-        }
-        [word] if *word == "refusals" => Some(Job::Refusals),
-        _ => None,
-    }
-}
-
-/// What to print.
-#[derive(Clone, Copy, Debug, PartialEq, Eq)]
-pub enum Command {
-    /// Something of a network.
-    View(Job),
-    /// What `card_switch replay` printed, as a table.
+    Refusals(Format),
+    /// The nodes, and the links between them, with the routes of a PAN prefix where one is given.
+    Picture(Option<Prefix>, Drawing),
+    /// A trace that `card_switch replay` printed, as a table.
     Trace,
-}
-
-fn is_trace(words: &[&str]) -> bool
-    ensures { result ≡ is_trace (map (λ w. w.now) words.now) }
-{
-    match words {
-        [word] => *word == "trace",
-        _ => false,
-    }
-}
-
-/// What the words behind the program's name ask for: `trace`, a job, or nothing.
-pub fn command_of(words: &[&str]) -> Option<Command>
-    ensures { result ≡ command_asked (map (λ w. w.now) words.now) }
-{
-    if is_trace(words) {
-        return Some(Command::Trace);
-    }
-    match job_of(words) {
-        Some(job) => Some(Command::View(job)),
-        None => None,
-    }
 }

@@ -1,8 +1,11 @@
-//! What the words of `network_view` ask for.
+//! What the words of `network_view` ask for, as `clap` parses them.
 #![tactic(auto)]
 
+mod app;
 mod job;
+mod parse;
 #[cfg(test)]
 mod tests;
 
-pub use job::{Command, Job, command_of, job_of};
+pub use job::{Drawing, Format, Job};
+pub use parse::{help_of, job_of};

@@ -1,7 +1,7 @@
 //! All refusals of whole inputs, each with its row.
 use crate::tests::{RANKS, TABLES, WIDE_RANKS, WIDE_TABLES, prints};
+use card_view::Asked;
 use std::test::Fail;
-use view_command::Job;
 
 /// A network whose rows break each rule.
 const BROKEN_TABLES: &str = r#"[network]
@@ -85,11 +85,11 @@ END
 #[test]
 fn no_refusal(rt: HostRuntime) -> Result<(), Fail> {
     let alloc = rt.alloc();
-    assert!(rt; prints(alloc, &Job::Refusals, TABLES, RANKS, "accepted\n", 0)?);
+    assert!(rt; prints(alloc, &Asked::Refusals, TABLES, RANKS, "accepted\n", 0)?);
     assert!(rt;
         prints(
             alloc,
-            &Job::Refusals,
+            &Asked::Refusals,
             WIDE_TABLES,
             WIDE_RANKS,
             "accepted\n",
@@ -106,7 +106,7 @@ refused 2 not less: node A prefix 4 link AH
 refused 2 not less: node A prefix 4 link AH; [[route]] 1
 ";
     let ranks = "RANKS 1\nA 4 0\nH 4 0\nEND\n";
-    assert!(rt; prints(rt.alloc(), &Job::Refusals, TABLES, ranks, want, 1)?);
+    assert!(rt; prints(rt.alloc(), &Asked::Refusals, TABLES, ranks, want, 1)?);
     Ok(())
 }
 
@@ -131,7 +131,7 @@ refused 8 timer too long: link PH; [[link]] 3
     assert!(rt;
         prints(
             rt.alloc(),
-            &Job::Refusals,
+            &Asked::Refusals,
             BROKEN_TABLES,
             BROKEN_RANKS,
             want,
@@ -152,7 +152,7 @@ refused 2 not less: node A prefix 4 link AH; [[route]] 1
     assert!(rt;
         prints(
             rt.alloc(),
-            &Job::Refusals,
+            &Asked::Refusals,
             TABLES,
             "RANKS 1\nEND\n",
             want,
@@ -165,12 +165,12 @@ refused 2 not less: node A prefix 4 link AH; [[route]] 1
 #[test]
 fn faults(rt: HostRuntime) -> Result<(), Fail> {
     let alloc = rt.alloc();
-    let job = Job::Refusals;
+    let asked = Asked::Refusals;
     let want = "fault tables 2 missing field: network 1 currency\n";
-    assert!(rt; prints(alloc, &job, "", RANKS, want, 2)?);
+    assert!(rt; prints(alloc, &asked, "", RANKS, want, 2)?);
     let want = "fault ranks 1 header\n";
-    assert!(rt; prints(alloc, &job, TABLES, "RANKS 2\n", want, 2)?);
+    assert!(rt; prints(alloc, &asked, TABLES, "RANKS 2\n", want, 2)?);
     let want = "fault bundle 1 parts\n";
-    assert!(rt; prints(alloc, &job, TABLES, "RANKS 1\nEND\n%%\n", want, 2)?);
+    assert!(rt; prints(alloc, &asked, TABLES, "RANKS 1\nEND\n%%\n", want, 2)?);
     Ok(())
 }

@@ -1,9 +1,8 @@
 //! Whole inputs and what is printed for them.
 use card_digits::{Card, Counted};
-use card_view::run_view;
+use card_view::{Asked, run_view};
 use std::alloc::{AllocError, Global};
 use std::test::Fail;
-use view_command::Job;
 
 pub(crate) const TABLES: &str = r#"[network]
 currency = "840"
@@ -37,12 +36,12 @@ links = ["AH"]
 
 pub(crate) const RANKS: &str = "RANKS 1\nA 4 1\nH 4 0\nEND\n";
 
-/// What is printed for a job and an input, and the status.
-fn view(alloc: Global, job: &Job, input: &[u8]) -> Option<(Vec<u8>, u8)> {
+/// What is printed for what is asked and an input, and the status.
+fn view(alloc: Global, asked: &Asked, input: &[u8]) -> Option<(Vec<u8>, u8)> {
     let mut text: Vec<u8> = Vec::new(alloc);
     let mut reader = Counted::reader(input);
     let mut writer = Counted::writer(&mut text);
-    match run_view(alloc, job, &mut reader, &mut writer) {
+    match run_view(alloc, asked, &mut reader, &mut writer) {
         Ok(status) => Some((text, status)),
         Err(_) => None,
     }
@@ -117,17 +116,17 @@ H 411 0
 END
 ";
 
-/// Whether this is printed for a job and two parts, with this status.
+/// Whether this is printed for what is asked and two parts, with this status.
 pub(crate) fn prints(
     alloc: Global,
-    job: &Job,
+    asked: &Asked,
     tables: &str,
     ranks: &str,
     want: &str,
     status: u8,
 ) -> Result<bool, AllocError> {
     let input = format!(in alloc; "{tables}%%\n{ranks}")?;
-    match view(alloc, job, input.as_bytes()) {
+    match view(alloc, asked, input.as_bytes()) {
         Some((text, ended)) => Ok(text.as_slice() == want.as_bytes() && ended == status),
         None => Ok(false),
     }
@@ -145,7 +144,7 @@ fn says(
     let Ok(card) = Card::read(card) else {
         return Ok(false);
     };
-    prints(alloc, &Job::Card(card), tables, ranks, want, status)
+    prints(alloc, &Asked::Card(card), tables, ranks, want, status)
 }
 
 #[test]
