@@ -18,6 +18,14 @@ fn a_card(rt: HostRuntime) -> Result<(), Fail> {
         job_of(alloc, &["card", "--json", "4111111111111111"])?,
         json
     );
+    assert_eq!(rt; job_of(alloc, &["card"])?, None);
+    assert_eq!(rt; job_of(alloc, &["card", "4111111"])?, None);
+    assert_eq!(rt; job_of(alloc, &["card", "41111111x1111111"])?, None);
+    assert_eq!(rt; job_of(alloc, &["card", "41111111111111111111"])?, None);
+    assert_eq!(rt;
+        job_of(alloc, &["card", "4111111111111111", "5111111111111111"])?,
+        None
+    );
     Ok(())
 }
 
@@ -74,35 +82,15 @@ fn a_picture(rt: HostRuntime) -> Result<(), Fail> {
 }
 
 #[test]
-fn a_trace(rt: HostRuntime) -> Result<(), Fail> {
+fn a_trace_and_other_words(rt: HostRuntime) -> Result<(), Fail> {
     let alloc = rt.alloc();
-    assert_eq!(rt; job_of(alloc, &["trace"])?, Some(Job::Trace));
+    let trace = ["trace"];
+    assert_eq!(rt; job_of(alloc, &trace)?, Some(Job::Trace));
+    assert_eq!(rt; job_of(alloc, &trace[..0])?, None);
     assert_eq!(rt; job_of(alloc, &["trace", "--json"])?, None);
-    Ok(())
-}
-
-#[test]
-fn other_words(rt: HostRuntime) -> Result<(), Fail> {
-    let alloc = rt.alloc();
-    let help = ["help"];
-    assert_eq!(rt; job_of(alloc, &help[..0])?, None);
-    assert_eq!(rt; job_of(alloc, &help)?, None);
+    assert_eq!(rt; job_of(alloc, &["help"])?, None);
     assert_eq!(rt; job_of(alloc, &["--help"])?, None);
     assert_eq!(rt; job_of(alloc, &["cards", "4111111111111111"])?, None);
-    Ok(())
-}
-
-#[test]
-fn no_card(rt: HostRuntime) -> Result<(), Fail> {
-    let alloc = rt.alloc();
-    assert_eq!(rt; job_of(alloc, &["card"])?, None);
-    assert_eq!(rt; job_of(alloc, &["card", "4111111"])?, None);
-    assert_eq!(rt; job_of(alloc, &["card", "41111111x1111111"])?, None);
-    assert_eq!(rt; job_of(alloc, &["card", "41111111111111111111"])?, None);
-    assert_eq!(rt;
-        job_of(alloc, &["card", "4111111111111111", "5111111111111111"])?,
-        None
-    );
     Ok(())
 }
 
