@@ -2,4 +2,3 @@ pub mod Prefixes
 pub mod Pieces
 pub mod WayText
 pub mod Listing
-pub mod JsonLines

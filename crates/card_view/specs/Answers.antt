@@ -14,8 +14,8 @@ use Rattle.card_view.specs.declared.asked.Asked.{Asked}
 use Rattle.card_view.specs.declared.asked.Asked.TheVariants as asks
 use Rattle.card_view.specs.View.{view_text}
 use Rattle.card_view.specs.Listed.{refusals_text}
-use Rattle.card_view.specs.Json.{json_line}
-use Rattle.card_view.specs.ListedJson.{refusals_json, accepted_data, refused_data}
+use Rattle.refusals_json.specs.Json.{json_line}
+use Rattle.refusals_json.specs.ListedJson.{refusals_json, accepted_data, refused_data}
 use Rattle.card_view.specs.declared.asked.Format.{Format}
 use Rattle.card_view.specs.declared.asked.Format.TheVariants as formats
 

@@ -4,10 +4,10 @@ ghost use Rattle.card_view.specs.Answers as lines;
 
 use crate::asked::Format;
 use crate::listed::add_lines;
-use crate::listed_json::{accepted_line, add_refusals, refused_line};
 use all_refusals::RowRefusal;
 use bundle_text::{Answer, Status, refusal_line};
 use net_rows::Tables;
+use refusals_json::{accepted_line, add_refusals, refused_line};
 use std::alloc::{AllocError, Global};
 use table_checker::Refusal;
 

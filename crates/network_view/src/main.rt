@@ -2,7 +2,8 @@
 #![tactic(auto)]
 
 use bundle_input::BundleFault;
-use card_digits::{Counted, Sink, Source};
+use card_digits::{Card, Counted, Sink, Source};
+use card_json::run_card_json;
 use card_view::{Asked, run_view};
 use std::alloc::{AllocError, Global};
 use std::process::ExitCode;
@@ -15,6 +16,8 @@ use view_command::{Format, Job, help_of, job_of};
 #[derive(Clone, Copy, Debug)]
 enum Question {
     View(Asked),
+    /// What each node does with a card, as a JSON object.
+    CardJson(Card),
     Trace,
 }
 
@@ -47,12 +50,13 @@ fn written(format: Format) -> card_view::Format {
 fn request_of_job(job: Job) -> Request {
     match job {
         Job::Card(card, Format::Text) => Request::Answer(Question::View(Asked::Card(card))),
+        Job::Card(card, Format::Json) => Request::Answer(Question::CardJson(card)),
         Job::Refusals(format) => {
             let asked = Asked::Refusals(written(format));
             Request::Answer(Question::View(asked))
         }
         Job::Trace => Request::Answer(Question::Trace),
-        _ => Request::Other,
+        Job::Picture(..) => Request::Other,
     }
 }
 
@@ -88,6 +92,7 @@ fn answer<R: Source, W: Sink>(
 ) -> Result<u8, BundleFault> {
     match question {
         Question::View(asked) => run_view(alloc, asked, reader, writer),
+        Question::CardJson(card) => run_card_json(alloc, card, reader, writer),
         Question::Trace => run_trace(alloc, reader, writer),
     }
 }
@@ -108,7 +113,7 @@ fn main(rt: HostRuntime) -> ExitCode {
         },
         Ok(Request::Other) => {
             let _ = eprintln!(rt;
-                "usage: network_view card N\n       network_view refusals [--json]\n       network_view trace"
+                "usage: network_view card N [--json]\n       network_view refusals [--json]\n       network_view trace"
             );
             2
         }

@@ -11,7 +11,7 @@ use Rattle.all_refusals.specs.declared.row.TableRow.{TableRow}
 use Rattle.all_refusals.specs.declared.row.TableRow.TheVariants as table
 use Rattle.serde_json.specs.Data.{Data, Members, object, no_members, put}
 use Rattle.bundle_text.specs.Lines.{Text, node_name, link_name, refusal_text}
-use Rattle.card_view.specs.Json.{count, json_line, text}
+use Rattle.refusals_json.specs.Json.{count, json_line, text}
 
 -- the number of a refusal's kind
 abbrev pub number_of : Refusal → ℕ

@@ -10,8 +10,8 @@ use Rattle.net_rows.specs.Network.{Network}
 use Rattle.table_checker.specs.declared.refusal.Refusal.{Refusal}
 use Rattle.table_checker.specs.declared.refusal.Refusal.TheVariants as refusals
 use Rattle.all_refusals.specs.declared.row.RowRefusal.{RowRefusal}
-use Rattle.card_view.specs.Json.{json_line}
-use Rattle.card_view.specs.ListedJson.{accepted_data, found_data, refusals_json, refused_data, told, with_subject}
+use Rattle.refusals_json.specs.Json.{json_line}
+use Rattle.refusals_json.specs.ListedJson.{accepted_data, found_data, refusals_json, refused_data, told, with_subject}
 
 -- a field that is no float leaves an object without floats
 by_order : (o : Ordering) (a b c : Members) → members_have_float a ≡ false → members_have_float b ≡ false → members_have_float c ≡ false → members_have_float (match_ordering o a b c) ≡ false

@@ -5,19 +5,18 @@ ghost use Rattle.serde_json.specs.Data.{put as with_field};
 ghost use Rattle.serde_json.specs.View.{members_view, view};
 ghost use Rattle.serde_json.specs.Written.{has_float};
 ghost use Rattle.bundle_text.specs.Lines.{link_name, node_name};
-ghost use Rattle.card_view.specs.Json as json;
+ghost use Rattle.refusals_json.specs.Json as json;
 
-use crate::names::{LinkName, NodeName};
 use card_digits::{LinkNo, NodeNo, Prefix};
 use net_rows::Tables;
 use serde_json::{Map, Value, put};
 use std::alloc::{AllocError, Global};
 
 /// The fields of an object.
-pub(crate) type Fields = Map<String, Value>;
+pub type Fields = Map<String, Value>;
 
 /// Adds a field with a text.
-pub(crate) fn add_text(
+pub fn add_text(
     alloc: Global,
     fields: &mut Fields,
     key: &str,
@@ -29,7 +28,7 @@ pub(crate) fn add_text(
 }
 
 /// Adds a field with a number.
-pub(crate) fn add_count(
+pub fn add_count(
     alloc: Global,
     fields: &mut Fields,
     key: &str,
@@ -41,34 +40,40 @@ pub(crate) fn add_count(
 }
 
 /// The name of a node, empty where the tables have no such node.
-pub(crate) fn node_text(alloc: Global, tables: &Tables, node: NodeNo) -> Result<String, AllocError>
+pub fn node_text(alloc: Global, tables: &Tables, node: NodeNo) -> Result<String, AllocError>
     ensures { IfOk result (λ s. string_bytes s ≡ node_name tables.now node) }
 {
-    let node = NodeName { tables, node };
-    format!(in alloc; "{node}")
+    match tables.nodes().get(node.place()) {
+        Some(row) => {
+            let name = row.name;
+            format!(in alloc; "{name}")
+        }
+        None => Ok(String::new(alloc)),
+    }
 }
 
 /// The name of a link, empty where the tables have no such link.
-pub(crate) fn link_text(alloc: Global, tables: &Tables, link: LinkNo) -> Result<String, AllocError>
+pub fn link_text(alloc: Global, tables: &Tables, link: LinkNo) -> Result<String, AllocError>
     ensures { IfOk result (λ s. string_bytes s ≡ link_name tables.now link) }
 {
-    let link = LinkName { tables, link };
-    format!(in alloc; "{link}")
+    match tables.links().get(link.place()) {
+        Some(row) => {
+            let name = row.name;
+            format!(in alloc; "{name}")
+        }
+        None => Ok(String::new(alloc)),
+    }
 }
 
 /// The digits of a prefix.
-pub(crate) fn prefix_text(alloc: Global, prefix: &Prefix) -> Result<String, AllocError>
+pub fn prefix_text(alloc: Global, prefix: &Prefix) -> Result<String, AllocError>
     ensures { IfOk result (λ s. string_bytes s ≡ digits_text prefix.now) }
 {
     format!(in alloc; "{prefix}")
 }
 
 /// Adds a line with a value.
-pub(crate) fn add_json_line(
-    alloc: Global,
-    text: &mut Vec<u8>,
-    value: &Value,
-) -> Result<(), AllocError>
+pub fn add_json_line(alloc: Global, text: &mut Vec<u8>, value: &Value) -> Result<(), AllocError>
     requires { has_float (view value.now) ≡ false }
     ensures { IfOk result (λ _. text.new.items ≡ text.old.items ++ json.json_line (view value.now)) }
 {

@@ -1,6 +1,6 @@
 use Rattle.std.proofs.Common.{◌≡◌, ◌++◌, take}
-use Rattle.card_view.specs.ListedJson.{refusals_json}
-use Rattle.card_view.proofs.listed_json.add_refusals.Given as goal
+use Rattle.refusals_json.specs.ListedJson.{refusals_json}
+use Rattle.refusals_json.proofs.listed_json.add_refusals.Given as goal
 
 -- the lines so far
 abbrev pub invariant-loop-refusal : goal.invariant-loop-refusal

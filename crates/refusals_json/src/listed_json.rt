@@ -3,14 +3,14 @@ ghost use Rattle.std.specs.Prelude.{◌≡◌, ◌++◌, IfOk, OnOk, codes, stri
 ghost use Rattle.serde_json.specs.View.{members_view, view};
 ghost use Rattle.serde_json.specs.Data.{put as with_field};
 ghost use Rattle.card_digits.specs.Digits.{digits_text};
-ghost use Rattle.card_view.specs.Json as texts;
-ghost use Rattle.card_view.specs.Json.{json_line};
-ghost use Rattle.card_view.specs.ListedJson as json;
+ghost use Rattle.refusals_json.specs.Json as texts;
+ghost use Rattle.refusals_json.specs.Json.{json_line};
+ghost use Rattle.refusals_json.specs.ListedJson as json;
 
 use crate::fields::{
     Fields, add_count, add_json_line, add_text, link_text, node_text, prefix_text,
 };
-use crate::listed::words;
+use crate::words::words;
 use all_refusals::{RowRefusal, TableRow};
 use bundle_text::refusal_line;
 use card_digits::{LinkNo, NodeNo, Prefix};
@@ -157,8 +157,8 @@ fn add_subject(
     }
 }
 
-/// A refusal by its number and words, and what it speaks of.
-fn told(alloc: Global, tables: &Tables, refusal: &Refusal) -> Result<Fields, AllocError>
+/// The fields of a refusal: its number and words, and what it speaks of.
+pub fn told(alloc: Global, tables: &Tables, refusal: &Refusal) -> Result<Fields, AllocError>
     ensures { IfOk result (λ fields. members_view fields.entries ≡ json.told tables.now refusal.now) }
 {
     let words = words_of(alloc, tables, refusal)?;
@@ -181,7 +181,7 @@ fn found_value(alloc: Global, tables: &Tables, found: &RowRefusal) -> Result<Val
 
 /// Adds an object for each refusal.
 #[tactic(auto, using(crate::proofs::JsonLines::json_more, crate::proofs::JsonLines::found_plain))]
-pub(crate) fn add_refusals(
+pub fn add_refusals(
     alloc: Global,
     text: &mut Vec<u8>,
     tables: &Tables,
@@ -198,7 +198,7 @@ pub(crate) fn add_refusals(
 
 /// The line that accepts tables.
 #[tactic(auto, using(crate::proofs::JsonLines::accepted_plain))]
-pub(crate) fn accepted_line(alloc: Global) -> Result<Vec<u8>, AllocError>
+pub fn accepted_line(alloc: Global) -> Result<Vec<u8>, AllocError>
     ensures { IfOk result (λ line. line.items ≡ json_line json.accepted_data) }
 {
     let value = accepted_value(alloc)?;
@@ -218,7 +218,7 @@ fn accepted_value(alloc: Global) -> Result<Value, AllocError>
 
 /// The line that refuses them.
 #[tactic(auto, using(crate::proofs::JsonLines::refused_plain))]
-pub(crate) fn refused_line(
+pub fn refused_line(
     alloc: Global,
     tables: &Tables,
     refusal: &Refusal,

@@ -1,0 +1,10 @@
+//! Fields of JSON objects, and all refusals of tables as JSON.
+#![tactic(auto)]
+
+mod fields;
+mod listed_json;
+mod words;
+
+pub use fields::{Fields, add_json_line, add_text, link_text, node_text, prefix_text};
+pub use listed_json::{accepted_line, add_refusals, refused_line, told};
+pub use words::words;
