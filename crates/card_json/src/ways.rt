@@ -26,6 +26,7 @@ fn hop_value(
 }
 
 /// Adds the hops of a card's way from a node, over so many nodes at most, and says how the way ends.
+#[tactic(auto, using(crate::proofs::Ways::hops_home, crate::proofs::Ways::end_home, crate::proofs::Ways::hops_stop, crate::proofs::Ways::end_stops, crate::proofs::Ways::hops_go, crate::proofs::Ways::end_goes))]
 fn add_hops(
     alloc: Global,
     hops: &mut Vec<Value>,

@@ -19,7 +19,7 @@ by_order Less a b c ha hb hc = ha
 by_order Equal a b c ha hb hc = hb
 by_order Greater a b c ha hb hc = hc
 
-or_false : (a b : Bool) → (a || b) ≡ false → (a ≡ false) × (b ≡ false)
+pub or_false : (a b : Bool) → (a || b) ≡ false → (a ≡ false) × (b ≡ false)
 or_false false b h = (refl, h)
 or_false true b h = absurd cc
 
@@ -40,7 +40,7 @@ subject_plain t (refusals.NodeIdTwice id) fields plain = put_plain _ _ _ refl pl
 subject_plain t (refusals.TimerTooLong l) fields plain = put_plain _ _ _ refl plain
 subject_plain t refusals.Memory fields plain = plain
 
-told_plain : (t : Network) (r : Refusal) → members_have_float (told t r) ≡ false
+pub told_plain : (t : Network) (r : Refusal) → members_have_float (told t r) ≡ false
 told_plain t r = subject_plain t r _ refl
 
 pub found_plain : (t : Network) (r : RowRefusal) → has_float (found_data t r) ≡ false
