@@ -85,17 +85,21 @@ pub(crate) fn card_value(
     ensures { IfOk result (λ v. view v ≡ card_data asked.now.tables.now asked.now.cert.now asked.now.card.now (option_copied refusal.entry)) }
 {
     let (tables, card) = (asked.tables, asked.card);
+    let verdict = verdict_word(refusal);
     let class = class_of(tables, card);
     let acquirers = acquirer_values(alloc, tables, card)?;
     let nodes = node_values(alloc, asked, &class)?;
+    let class = class_value(alloc, &class)?;
+    let issuer = issuer_value(alloc, tables, card)?;
+    let refusal = refusal_value(alloc, tables, refusal)?;
     let parts = Parts {
         acquirers: Value::Array(acquirers),
-        class: class_value(alloc, &class)?,
-        issuer: issuer_value(alloc, tables, card)?,
+        class,
+        issuer,
         nodes: Value::Array(nodes),
-        refusal: refusal_value(alloc, tables, refusal)?,
+        refusal,
         days: days_sum(tables, card),
-        verdict: verdict_word(refusal),
+        verdict,
     };
     object_of(alloc, parts)
 }
