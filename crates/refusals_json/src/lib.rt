@@ -2,9 +2,9 @@
 #![tactic(auto)]
 
 mod fields;
+mod line_words;
 mod listed_json;
-mod words;
 
 pub use fields::{Fields, add_json_line, add_text, link_text, node_text, prefix_text};
+pub use line_words::words;
 pub use listed_json::{accepted_line, add_refusals, refused_line, told};
-pub use words::words;

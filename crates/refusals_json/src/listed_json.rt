@@ -10,7 +10,7 @@ ghost use Rattle.refusals_json.specs.ListedJson as json;
 use crate::fields::{
     Fields, add_count, add_json_line, add_text, link_text, node_text, prefix_text,
 };
-use crate::words::words;
+use crate::line_words::words;
 use all_refusals::{RowRefusal, TableRow};
 use bundle_text::refusal_line;
 use card_digits::{LinkNo, NodeNo, Prefix};
