@@ -13,12 +13,11 @@ use card_digits::Card;
 use card_view::CardView;
 use net_rows::Tables;
 use rank_cert::Cert;
-use refusals_json::add_json_line;
+use refusals_json::json_line;
 use std::alloc::{AllocError, Global};
 use table_checker::{Refusal, check};
 
 /// The line of what is said of a card.
-#[tactic(auto, using(crate::proofs::Plain::card_plain))]
 fn card_line(
     alloc: Global,
     asked: &CardView<'_>,
@@ -27,9 +26,7 @@ fn card_line(
     ensures { IfOk result (λ line. line.items ≡ json_line (card_data asked.now.tables.now asked.now.cert.now asked.now.card.now (option_copied refusal.entry))) }
 {
     let value = card_value(alloc, asked, refusal)?;
-    let mut line = Vec::new(alloc);
-    add_json_line(alloc, &mut line, &value)?;
-    Ok(line)
+    json_line(alloc, &value)
 }
 
 /// The same with the status of the verdict.

@@ -72,13 +72,23 @@ pub fn prefix_text(alloc: Global, prefix: &Prefix) -> Result<String, AllocError>
     format!(in alloc; "{prefix}")
 }
 
+/// A value on a line of its own.
+pub fn json_line(alloc: Global, value: &Value) -> Result<Vec<u8>, AllocError>
+    requires { has_float (view value.now) ≡ false }
+    ensures { IfOk result (λ line. line.items ≡ json.json_line (view value.now)) }
+{
+    let text = value.to_string(alloc)?;
+    let mut line = text.into_bytes();
+    line.push(b'\n')?;
+    Ok(line)
+}
+
 /// Adds a line with a value.
 pub fn add_json_line(alloc: Global, text: &mut Vec<u8>, value: &Value) -> Result<(), AllocError>
     requires { has_float (view value.now) ≡ false }
     ensures { IfOk result (λ _. text.new.items ≡ text.old.items ++ json.json_line (view value.now)) }
 {
-    let line = value.to_string(alloc)?;
-    text.extend_from_slice(line.as_bytes())?;
-    text.push(b'\n')?;
+    let line = json_line(alloc, value)?;
+    text.extend_from_slice(&line)?;
     Ok(())
 }

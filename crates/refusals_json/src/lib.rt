@@ -5,6 +5,6 @@ mod fields;
 mod line_words;
 mod listed_json;
 
-pub use fields::{Fields, add_json_line, add_text, link_text, node_text, prefix_text};
+pub use fields::{json_line, link_text, node_text, prefix_text};
 pub use line_words::words;
 pub use listed_json::{accepted_line, add_refusals, refused_line, told};

@@ -8,7 +8,7 @@ ghost use Rattle.refusals_json.specs.Json.{json_line};
 ghost use Rattle.refusals_json.specs.ListedJson as json;
 
 use crate::fields::{
-    Fields, add_count, add_json_line, add_text, link_text, node_text, prefix_text,
+    Fields, add_count, add_json_line, add_text, json_line, link_text, node_text, prefix_text,
 };
 use crate::line_words::words;
 use all_refusals::{RowRefusal, TableRow};
@@ -197,14 +197,11 @@ pub fn add_refusals(
 }
 
 /// The line that accepts tables.
-#[tactic(auto, using(crate::proofs::JsonLines::accepted_plain))]
 pub fn accepted_line(alloc: Global) -> Result<Vec<u8>, AllocError>
     ensures { IfOk result (λ line. line.items ≡ json_line json.accepted_data) }
 {
     let value = accepted_value(alloc)?;
-    let mut text = Vec::new(alloc);
-    add_json_line(alloc, &mut text, &value)?;
-    Ok(text)
+    json_line(alloc, &value)
 }
 
 fn accepted_value(alloc: Global) -> Result<Value, AllocError>
@@ -217,7 +214,6 @@ fn accepted_value(alloc: Global) -> Result<Value, AllocError>
 }
 
 /// The line that refuses them.
-#[tactic(auto, using(crate::proofs::JsonLines::refused_plain))]
 pub fn refused_line(
     alloc: Global,
     tables: &Tables,
@@ -226,9 +222,7 @@ pub fn refused_line(
     ensures { IfOk result (λ line. line.items ≡ json_line (json.refused_data tables.now refusal.now)) }
 {
     let value = refused_value(alloc, tables, refusal)?;
-    let mut text = Vec::new(alloc);
-    add_json_line(alloc, &mut text, &value)?;
-    Ok(text)
+    json_line(alloc, &value)
 }
 
 fn refused_value(alloc: Global, tables: &Tables, refusal: &Refusal) -> Result<Value, AllocError>
