@@ -1,94 +1,49 @@
-//! The jobs.
-ghost use Rattle.std.specs.Prelude.{◌≡◌, Ok};
+//! The jobs. The text that the program prints for an input is made in memory, and then put at the front of the caller's buffer.
+ghost use Rattle.std.specs.Prelude.{◌≡◌, ℕ, Err, IfOk, OnErr, length};
 ghost use Rattle.bundle_text.specs.Answers.{MakeAnswers, DecodeAnswers};
-ghost use Rattle.bundle_input.specs.Input.{input_fault};
-ghost use Rattle.buffer_jobs.specs.Filled.{Filled, IsText, IsChecked, IsReplayed};
+ghost use Rattle.buffer_jobs.specs.Buffer.{Fills, IsTooSmall, IsPrinted, CheckAnswers, ReplayedAnswers};
 
-use crate::filling::{Gathered, fill, without_memory};
-use crate::outcome::Outcome;
-use bundle_input::{InputFault, write_cause};
-use bundle_text::{Answer, check_answer, make_answer, write_decoded};
-use replay_text::write_replayed;
-use std::alloc::{AllocError, Global};
+use crate::answers::{check_printed, decode_printed, make_printed, replay_printed};
+use crate::filled::{FillFault, Filled, fill};
+use std::alloc::Global;
 
-/// The most bytes of an input.
-const MOST_BYTES: usize = 16_777_216;
-
-/// What the program writes where an input is too long.
-fn too_long(alloc: Global, output: &mut [u8], told: &mut usize) -> Outcome
-    ensures { Filled (λ said. said ≡ input_fault InputFault.TooLong) output.old output.new told.new result }
+/// Puts the verdict on tables and their ranks into a buffer.
+pub fn check_into(alloc: Global, input: &[u8], output: &mut [u8]) -> Result<Filled, FillFault>
+    ensures ok { IfOk result (Fills (IsPrinted CheckAnswers input.now) output.old output.new) }
+    ensures err { OnErr result (output.new ≡ output.old) }
+    ensures small { (wanted : ℕ) → result ≡ Err (FillFault.TooSmall wanted) → IsTooSmall (IsPrinted CheckAnswers input.now) (length output.old) wanted }
 {
-    let mut gathered = Gathered::new(alloc);
-    match write_cause(&mut gathered, InputFault::TooLong) {
-        Ok(status) => fill(&gathered.text, status, output, told),
-        Err(_) => without_memory(told),
-    }
+    fill(check_printed(alloc, input), output)
 }
 
-/// An answer that was made, or that there was no memory.
-fn fill_answer(made: Result<Answer, AllocError>, output: &mut [u8], told: &mut usize) -> Outcome
-    ensures { Filled (λ said. made ≡ Ok said) output.old output.new told.new result }
+/// Puts ranks for tables into a buffer, or a circle.
+pub fn make_into(alloc: Global, input: &[u8], output: &mut [u8]) -> Result<Filled, FillFault>
+    ensures ok { IfOk result (Fills (IsPrinted MakeAnswers input.now) output.old output.new) }
+    ensures err { OnErr result (output.new ≡ output.old) }
+    ensures small { (wanted : ℕ) → result ≡ Err (FillFault.TooSmall wanted) → IsTooSmall (IsPrinted MakeAnswers input.now) (length output.old) wanted }
 {
-    match made {
-        Ok(answer) => fill(answer.text(), answer.status(), output, told),
-        Err(_) => without_memory(told),
-    }
+    fill(make_printed(alloc, input), output)
 }
 
-/// Writes the verdict on tables and their ranks into a buffer, as `check` prints it, and tells its length.
-pub fn check_into(alloc: Global, input: &[u8], output: &mut [u8], told: &mut usize) -> Outcome
-    ensures { Filled (IsText IsChecked input.now) output.old output.new told.new result }
+/// Puts what the nodes of accepted tables put out for the lines of a script into a buffer.
+pub fn replay_into(alloc: Global, input: &[u8], output: &mut [u8]) -> Result<Filled, FillFault>
+    ensures ok { IfOk result (Fills (IsPrinted ReplayedAnswers input.now) output.old output.new) }
+    ensures err { OnErr result (output.new ≡ output.old) }
+    ensures small { (wanted : ℕ) → result ≡ Err (FillFault.TooSmall wanted) → IsTooSmall (IsPrinted ReplayedAnswers input.now) (length output.old) wanted }
 {
-    if input.len() > MOST_BYTES {
-        return too_long(alloc, output, told);
-    }
-    fill_answer(check_answer(alloc, input), output, told)
+    fill(replay_printed(alloc, input), output)
 }
 
-/// Writes ranks for tables into a buffer, as `make` prints them, and tells how long they are.
-pub fn make_into(alloc: Global, input: &[u8], output: &mut [u8], told: &mut usize) -> Outcome
-    ensures { Filled (IsText MakeAnswers input.now) output.old output.new told.new result }
-{
-    if input.len() > MOST_BYTES {
-        return too_long(alloc, output, told);
-    }
-    fill_answer(make_answer(alloc, input), output, told)
-}
-
-/// Writes what the nodes of accepted tables put out for the lines of a script into a buffer, as `replay` prints it, and tells its length. The
-/// input is copied once.
-pub fn replay_into(alloc: Global, input: &[u8], output: &mut [u8], told: &mut usize) -> Outcome
-    ensures { Filled (IsText IsReplayed input.now) output.old output.new told.new result }
-{
-    if input.len() > MOST_BYTES {
-        return too_long(alloc, output, told);
-    }
-    let Ok(input) = Vec::from_slice(alloc, input) else {
-        return without_memory(told);
-    };
-    let mut gathered = Gathered::new(alloc);
-    match write_replayed(alloc, input, &mut gathered) {
-        Ok(status) => fill(&gathered.text, status, output, told),
-        Err(_) => without_memory(told),
-    }
-}
-
-/// Writes the elements of messages into a buffer, one message a line or in frames, as `decode` prints them, and tells their length.
+/// Puts the elements of messages, one message a line or in frames, into a buffer.
 pub fn decode_into(
     alloc: Global,
     frames: bool,
     input: &[u8],
     output: &mut [u8],
-    told: &mut usize,
-) -> Outcome
-    ensures { Filled (IsText (DecodeAnswers frames) input.now) output.old output.new told.new result }
+) -> Result<Filled, FillFault>
+    ensures ok { IfOk result (Fills (IsPrinted (DecodeAnswers frames) input.now) output.old output.new) }
+    ensures err { OnErr result (output.new ≡ output.old) }
+    ensures small { (wanted : ℕ) → result ≡ Err (FillFault.TooSmall wanted) → IsTooSmall (IsPrinted (DecodeAnswers frames) input.now) (length output.old) wanted }
 {
-    if input.len() > MOST_BYTES {
-        return too_long(alloc, output, told);
-    }
-    let mut gathered = Gathered::new(alloc);
-    match write_decoded(alloc, frames, input, &mut gathered) {
-        Ok(status) => fill(&gathered.text, status, output, told),
-        Err(_) => without_memory(told),
-    }
+    fill(decode_printed(alloc, frames, input), output)
 }

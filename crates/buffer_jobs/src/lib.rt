@@ -1,9 +1,11 @@
 //! The jobs of the program that need no threads, from a buffer of bytes into another.
 #![tactic(auto)]
 
-mod filling;
+mod answers;
+mod filled;
+mod gathered;
 mod jobs;
-mod outcome;
 
+pub use bundle_text::Status;
+pub use filled::{FillFault, Filled};
 pub use jobs::{check_into, decode_into, make_into, replay_into};
-pub use outcome::Outcome;

@@ -1,5 +1,5 @@
-//! What a buffer holds after a job, and what was told.
-use buffer_jobs::{Outcome, check_into, decode_into, make_into, replay_into};
+//! What a buffer holds after a job.
+use buffer_jobs::{FillFault, Filled, Status, check_into, decode_into, make_into, replay_into};
 use std::alloc::{AllocError, Global};
 use std::test::Fail;
 
@@ -38,28 +38,25 @@ const RANKS: &str = "RANKS 1\nA 4 1\nH 4 0\nEND\n";
 /// The byte that stands in a buffer before a job.
 const BLANK: u8 = b'.';
 
-/// What a buffer of so many bytes holds after a job, what was told, and how the job ended.
+/// What a buffer of so many bytes holds after a job, and how the job ended.
 #[derive(Drop)]
 struct Left {
     output: Vec<u8>,
-    told: usize,
-    outcome: Outcome,
+    ended: Result<Filled, FillFault>,
 }
 
 impl Left {
-    /// Whether the buffer holds this text and blanks behind it, and the text's length was told.
-    fn is_text(&self, text: &str, outcome: Outcome) -> bool {
+    /// Whether the buffer holds this text and blanks behind it.
+    fn is_text(&self, text: &str, status: Status) -> bool {
         let len = text.len();
-        self.told == len
-            && self.outcome == outcome
+        self.ended == Ok(Filled { len, status })
             && self.output.starts_with(text.as_bytes())
             && self.output[len..].iter().all(|byte| *byte == BLANK)
     }
 
-    /// Whether nothing was written, and this was told.
-    fn is_untouched(&self, told: usize, outcome: Outcome) -> bool {
-        self.told == told
-            && self.outcome == outcome
+    /// Whether nothing was put there, for want of so many bytes.
+    fn is_too_small(&self, wanted: usize) -> bool {
+        self.ended == Err(FillFault::TooSmall(wanted))
             && self.output.iter().all(|byte| *byte == BLANK)
     }
 }
@@ -68,16 +65,11 @@ impl Left {
 fn run_job(
     alloc: Global,
     size: usize,
-    job: impl Fn(&mut [u8], &mut usize) -> Outcome,
+    job: impl Fn(&mut [u8]) -> Result<Filled, FillFault>,
 ) -> Result<Left, AllocError> {
     let mut output = Vec::from_elem(alloc, BLANK, size)?;
-    let mut told = 0;
-    let outcome = job(output.as_mut_slice(), &mut told);
-    Ok(Left {
-        output,
-        told,
-        outcome,
-    })
+    let ended = job(output.as_mut_slice());
+    Ok(Left { output, ended })
 }
 
 #[test]
@@ -85,10 +77,10 @@ fn accepted_tables(rt: HostRuntime) -> Result<(), Fail> {
     let alloc = rt.alloc();
     let input = format!(in alloc; "{TABLES}%%\n{RANKS}")?;
     for size in [9, 10, 4096] {
-        let left = run_job(alloc, size, |output, told| {
-            check_into(alloc, input.as_bytes(), output, told)
+        let left = run_job(alloc, size, |output| {
+            check_into(alloc, input.as_bytes(), output)
         })?;
-        assert!(rt; left.is_text("accepted\n", Outcome::Done));
+        assert!(rt; left.is_text("accepted\n", Status::Done));
     }
     Ok(())
 }
@@ -98,10 +90,10 @@ fn a_buffer_that_is_too_small_is_left_as_it_was(rt: HostRuntime) -> Result<(), F
     let alloc = rt.alloc();
     let input = format!(in alloc; "{TABLES}%%\n{RANKS}")?;
     for size in [0, 1, 8] {
-        let left = run_job(alloc, size, |output, told| {
-            check_into(alloc, input.as_bytes(), output, told)
+        let left = run_job(alloc, size, |output| {
+            check_into(alloc, input.as_bytes(), output)
         })?;
-        assert!(rt; left.is_untouched(9, Outcome::TooSmall));
+        assert!(rt; left.is_too_small(9));
     }
     Ok(())
 }
@@ -110,20 +102,25 @@ fn a_buffer_that_is_too_small_is_left_as_it_was(rt: HostRuntime) -> Result<(), F
 fn refused_tables(rt: HostRuntime) -> Result<(), Fail> {
     let alloc = rt.alloc();
     let input = format!(in alloc; "{TABLES}%%\nRANKS 1\nA 4 0\nH 4 0\nEND\n")?;
-    let left = run_job(alloc, 100, |output, told| {
-        check_into(alloc, input.as_bytes(), output, told)
+    let left = run_job(alloc, 100, |output| {
+        check_into(alloc, input.as_bytes(), output)
     })?;
-    assert!(rt; left.is_text("refused 2 not less: node A prefix 4 link AH\n", Outcome::Refused));
+    assert!(rt;
+        left.is_text(
+            "refused 2 not less: node A prefix 4 link AH\n",
+            Status::Refused
+        )
+    );
     Ok(())
 }
 
 #[test]
 fn ranks_that_were_made(rt: HostRuntime) -> Result<(), Fail> {
     let alloc = rt.alloc();
-    let left = run_job(alloc, 100, |output, told| {
-        make_into(alloc, TABLES.as_bytes(), output, told)
+    let left = run_job(alloc, 100, |output| {
+        make_into(alloc, TABLES.as_bytes(), output)
     })?;
-    assert!(rt; left.is_text(RANKS, Outcome::Done));
+    assert!(rt; left.is_text(RANKS, Status::Done));
     Ok(())
 }
 
@@ -131,10 +128,10 @@ fn ranks_that_were_made(rt: HostRuntime) -> Result<(), Fail> {
 fn a_script(rt: HostRuntime) -> Result<(), Fail> {
     let alloc = rt.alloc();
     let input = format!(in alloc; "{TABLES}%%\n{RANKS}%%\ntick A\n")?;
-    let left = run_job(alloc, 100, |output, told| {
-        replay_into(alloc, input.as_bytes(), output, told)
+    let left = run_job(alloc, 100, |output| {
+        replay_into(alloc, input.as_bytes(), output)
     })?;
-    assert!(rt; left.is_text("1 A\n", Outcome::Done));
+    assert!(rt; left.is_text("1 A\n", Status::Done));
     Ok(())
 }
 
@@ -142,14 +139,14 @@ fn a_script(rt: HostRuntime) -> Result<(), Fail> {
 fn messages_by_lines_and_in_frames(rt: HostRuntime) -> Result<(), Fail> {
     let alloc = rt.alloc();
     let want = "message 1\nfault message 1 short\n";
-    let lines = run_job(alloc, 100, |output, told| {
-        decode_into(alloc, false, b"0100\n", output, told)
+    let lines = run_job(alloc, 100, |output| {
+        decode_into(alloc, false, b"0100\n", output)
     })?;
-    assert!(rt; lines.is_text(want, Outcome::Fault));
-    let frames = run_job(alloc, 100, |output, told| {
-        decode_into(alloc, true, b"\x00\x040100", output, told)
+    assert!(rt; lines.is_text(want, Status::Fault));
+    let frames = run_job(alloc, 100, |output| {
+        decode_into(alloc, true, b"\x00\x040100", output)
     })?;
-    assert!(rt; frames.is_text(want, Outcome::Fault));
+    assert!(rt; frames.is_text(want, Status::Fault));
     Ok(())
 }
 
@@ -157,9 +154,7 @@ fn messages_by_lines_and_in_frames(rt: HostRuntime) -> Result<(), Fail> {
 fn an_input_that_is_too_long(rt: HostRuntime) -> Result<(), Fail> {
     let alloc = rt.alloc();
     let input = Vec::from_elem(alloc, b'\n', 16_777_217)?;
-    let left = run_job(alloc, 100, |output, told| {
-        check_into(alloc, &input, output, told)
-    })?;
-    assert!(rt; left.is_text("fault bundle 2 too long\n", Outcome::Fault));
+    let left = run_job(alloc, 100, |output| check_into(alloc, &input, output))?;
+    assert!(rt; left.is_text("fault bundle 2 too long\n", Status::Fault));
     Ok(())
 }

@@ -1,13 +1,36 @@
-//! The jobs of `card_switch` for programs in C.
+//! The jobs of `card_switch` for programs in C, as `include/card_switch.h` declares them.
 #![tactic(auto)]
+
 ghost use Rattle.std.specs.Prelude.{◌≡◌};
 ghost use Rattle.bundle_text.specs.Answers.{MakeAnswers, DecodeAnswers};
-ghost use Rattle.buffer_jobs.specs.Filled.{Filled, IsText, IsChecked, IsReplayed};
-ghost use Rattle.card_switch_c.specs.Exports.{Gives};
+ghost use Rattle.buffer_jobs.specs.Buffer.{IsPrinted, CheckAnswers, ReplayedAnswers};
+ghost use Rattle.card_switch_c.specs.Exports.{Leaves, told_length, told_status};
 
+use buffer_jobs::{FillFault, Filled};
 use std::alloc::Global;
 
-/// `cs_check`: the verdict on tables and their ranks.
+/// Tells how long a text is, and returns the status of how a job ended.
+fn tell(ended: Result<Filled, FillFault>, output_length: &mut usize) -> u8
+    ensures length { output_length.new ≡ told_length ended }
+    ensures status { result ≡ told_status ended }
+{
+    match ended {
+        Ok(filled) => {
+            *output_length = filled.len;
+            filled.status.code()
+        }
+        Err(FillFault::TooSmall(wanted)) => {
+            *output_length = wanted;
+            3
+        }
+        Err(FillFault::Memory) => {
+            *output_length = 0;
+            4
+        }
+    }
+}
+
+/// The verdict on tables and their ranks.
 #[unsafe(no_mangle)]
 pub extern "C" fn cs_check(
     alloc: Global,
@@ -15,12 +38,12 @@ pub extern "C" fn cs_check(
     output: &mut [u8],
     output_length: &mut usize,
 ) -> u8
-    ensures { Gives (IsText IsChecked input.now) output.old output.new output_length.new result }
+    ensures { Leaves (IsPrinted CheckAnswers input.now) output.old output.new output_length.new result }
 {
-    buffer_jobs::check_into(alloc, input, output, output_length).code()
+    tell(buffer_jobs::check_into(alloc, input, output), output_length)
 }
 
-/// `cs_make`: ranks for tables.
+/// Ranks for tables, or a circle.
 #[unsafe(no_mangle)]
 pub extern "C" fn cs_make(
     alloc: Global,
@@ -28,12 +51,12 @@ pub extern "C" fn cs_make(
     output: &mut [u8],
     output_length: &mut usize,
 ) -> u8
-    ensures { Gives (IsText MakeAnswers input.now) output.old output.new output_length.new result }
+    ensures { Leaves (IsPrinted MakeAnswers input.now) output.old output.new output_length.new result }
 {
-    buffer_jobs::make_into(alloc, input, output, output_length).code()
+    tell(buffer_jobs::make_into(alloc, input, output), output_length)
 }
 
-/// `cs_replay`: what the nodes of accepted tables put out for the lines of a script.
+/// What the nodes of accepted tables put out for the lines of a script.
 #[unsafe(no_mangle)]
 pub extern "C" fn cs_replay(
     alloc: Global,
@@ -41,12 +64,15 @@ pub extern "C" fn cs_replay(
     output: &mut [u8],
     output_length: &mut usize,
 ) -> u8
-    ensures { Gives (IsText IsReplayed input.now) output.old output.new output_length.new result }
+    ensures { Leaves (IsPrinted ReplayedAnswers input.now) output.old output.new output_length.new result }
 {
-    buffer_jobs::replay_into(alloc, input, output, output_length).code()
+    tell(
+        buffer_jobs::replay_into(alloc, input, output),
+        output_length,
+    )
 }
 
-/// `cs_decode`: the elements of messages, one message a line or in frames.
+/// The elements of messages, one message a line or in frames.
 #[unsafe(no_mangle)]
 pub extern "C" fn cs_decode(
     alloc: Global,
@@ -55,7 +81,10 @@ pub extern "C" fn cs_decode(
     output: &mut [u8],
     output_length: &mut usize,
 ) -> u8
-    ensures { Gives (IsText (DecodeAnswers frames) input.now) output.old output.new output_length.new result }
+    ensures { Leaves (IsPrinted (DecodeAnswers frames) input.now) output.old output.new output_length.new result }
 {
-    buffer_jobs::decode_into(alloc, frames, input, output, output_length).code()
+    tell(
+        buffer_jobs::decode_into(alloc, frames, input, output),
+        output_length,
+    )
 }
