@@ -1,9 +1,8 @@
 /*
- * card_switch.h: the jobs of the program card_switch for programs in C and C++.
+ * card_switch.h: the jobs of the program card_switch, and its codec of messages, for programs in C and C++.
  *
- * Each function takes the bytes that the program would read from standard input, and puts the text that the program would print into a buffer
- * of the caller's. docs/FORMATS.md has the formats of both. The library is proved as the program is: what a function leaves is what the
- * contract of its export says, where the caller keeps to what stands under "The caller's duties".
+ * The library is proved as the program is: what a function leaves is what the contract of its export says, where the caller keeps to what
+ * stands under "The caller's duties". docs/FORMATS.md has the formats of inputs, texts and messages.
  *
  * Link libcard_switch_c.a, and behind it the toolchain's liblibc_c.a, which calls malloc, realloc and free:
  *
@@ -11,8 +10,8 @@
  *
  * The caller's duties, which nothing checks:
  *
- *  - No pointer is null, also where a length is 0. An input, an output and a length don't overlap.
- *  - `input` has `input_length` bytes, `output` has room for `output_capacity`. Nobody changes them during the call.
+ *  - No pointer is null, also where a length is 0. What two pointers of a call point to doesn't overlap, unless both are to const.
+ *  - A pointer before a length or a capacity points to so many bytes or elements. Nobody changes them during the call.
  *  - malloc, realloc and free come from one allocator, and align a block to each power of two up to 16 that divides its size.
  *  - No function is called from a signal handler, nor from the child of a process with threads before it has executed another program.
  *
@@ -30,7 +29,7 @@
 extern "C" {
 #endif
 
-/* What a function returns. The first three are the exit statuses of the program. */
+/* What a function returns that returns a status. The first three are the exit statuses of the program. */
 enum {
     /* The job is done. */
     CS_DONE = 0,
@@ -38,20 +37,21 @@ enum {
     CS_REFUSED = 1,
     /* The input has a fault, or there was too little memory for it: the text is the line that says which. */
     CS_FAULT = 2,
-    /* The buffer is too small: nothing was put there, and *output_length is the number of bytes that the text has. */
+    /* The caller's buffer or array is too small, and what it has to have is told. */
     CS_TOO_SMALL = 3,
-    /* There was no memory: nothing was put into the buffer, and *output_length is 0. */
+    /* There was no memory. */
     CS_NO_MEMORY = 4
 };
 
+/*
+ * The jobs. Each takes the bytes that the program would read from standard input, and makes the text that the program would print. Where it
+ * returns CS_DONE, CS_REFUSED or CS_FAULT, the text stands at the front of `output`, *output_length is the number of its bytes, and the bytes of
+ * the buffer behind it are as they were. The text is ASCII but for bytes of the input that it repeats, and no zero byte ends it. CS_TOO_SMALL
+ * leaves the buffer as it was and puts the number of bytes that the text has into *output_length, CS_NO_MEMORY leaves it as it was and puts 0.
+ */
+
 /* The most bytes of an input. A longer one gets CS_FAULT and the line "fault bundle 2 too long". */
 #define CS_MOST_INPUT 16777216u
-
-/*
- * Each function puts its text at the front of `output` and its length into *output_length, where it returns CS_DONE, CS_REFUSED or CS_FAULT.
- * Bytes of the buffer behind the text stay as they were. The text is ASCII but for bytes of the input that it repeats, and is not ended by
- * a zero byte.
- */
 
 /* The verdict on tables and their ranks. The input has two parts, tables and ranks, with a line %% between them. */
 uint8_t cs_check(const uint8_t *input, size_t input_length, uint8_t *output, size_t output_capacity, size_t *output_length);
@@ -64,6 +64,59 @@ uint8_t cs_replay(const uint8_t *input, size_t input_length, uint8_t *output, si
 
 /* The elements of ISO 8583:1987 messages: one message a line, or, with `frames`, each behind its length in two bytes, the higher one first. */
 uint8_t cs_decode(bool frames, const uint8_t *input, size_t input_length, uint8_t *output, size_t output_capacity, size_t *output_length);
+
+/*
+ * Messages of ISO 8583:1987, one at a time, without memory and without copies.
+ */
+
+/* The most elements of a message. */
+#define CS_MOST_ELEMENTS 127
+
+/*
+ * Where the value of an element stands in the bytes of its message: `length` bytes from the byte `start` on, behind the digits of its length.
+ * Those of a binary element (52, 64 and 128) are the sixteen hexadecimal digits, in either case, of its eight bytes.
+ */
+typedef struct cs_element {
+    size_t start;
+    size_t length;
+    uint8_t number;
+} cs_element;
+
+/* What is wrong with a message: the first fault in the order of its bytes. The numbers are those that the program prints. */
+enum {
+    /* The bytes end too early. */
+    CS_FAULT_SHORT = 1,
+    /* No message type stands at the front. */
+    CS_FAULT_TYPE = 2,
+    /* A byte of a bit map is no hexadecimal digit. */
+    CS_FAULT_BIT_MAP = 3,
+    /* The element is not in the table of elements. */
+    CS_FAULT_ELEMENT = 4,
+    /* The element's length is no number, or above the most. */
+    CS_FAULT_LENGTH = 5,
+    /* The element has a byte that isn't of its class. */
+    CS_FAULT_CHARACTER = 6,
+    /* Bytes stand behind the last element. */
+    CS_FAULT_TRAILING = 7
+};
+
+/* What was read: how many elements the message has, or the number of its fault and that of the element that the fault names, 0 for none. */
+typedef struct cs_reading {
+    size_t count;
+    uint8_t fault;
+    uint8_t element;
+} cs_reading;
+
+/*
+ * Reads a message. CS_DONE: the message is right, and its reading->count elements stand at the front of `elements`, in ascending order of number.
+ * CS_FAULT: it is wrong, and reading->fault and reading->element say how. CS_TOO_SMALL: it is right, and has reading->count elements, which are
+ * more than `elements_capacity`. After CS_FAULT and CS_TOO_SMALL anything may stand in `elements`. The first four bytes of a right message are
+ * its type.
+ */
+uint8_t cs_message_read(const uint8_t *message, size_t message_length, cs_element *elements, size_t elements_capacity, cs_reading *reading);
+
+/* Finds an element by its number among those of a message, and copies it to *element. Returns whether it is there; if not, *element stays. */
+bool cs_message_get(const cs_element *elements, size_t elements_length, uint8_t number, cs_element *element);
 
 #ifdef __cplusplus
 }
