@@ -4,6 +4,7 @@ ghost use Rattle.bundle_text.specs.Answers.{MakeAnswers, DecodeAnswers};
 ghost use Rattle.buffer_jobs.specs.Buffer.{IsPrinted, CheckAnswers, ReplayedAnswers};
 ghost use Rattle.card_switch_c.specs.Exports.{Leaves, told_length, told_status};
 
+use crate::status::{NO_MEMORY, TOO_SMALL};
 use buffer_jobs::{FillFault, Filled, check_into, decode_into, make_into, replay_into};
 use std::alloc::Global;
 
@@ -19,11 +20,11 @@ fn tell(ended: Result<Filled, FillFault>, output_length: &mut usize) -> u8
         }
         Err(FillFault::TooSmall(wanted)) => {
             *output_length = wanted;
-            3
+            TOO_SMALL
         }
         Err(FillFault::Memory) => {
             *output_length = 0;
-            4
+            NO_MEMORY
         }
     }
 }

@@ -3,6 +3,7 @@ ghost use Rattle.std.specs.Prelude.{◌≡◌, ◌≤◌, ◌<◌, false, true, 
 ghost use Rattle.element_spans.specs.Spans.{LocatesAll, HasCount, span_of};
 ghost use Rattle.card_switch_c.specs.Messages.{fault_number, fault_element, TellsFault, IsReadStatus};
 
+use crate::status::{DONE, FAULT, TOO_SMALL};
 use element_spans::{ElementSpan, LocateFault, locate, span_of};
 use message_elements::DecodeFault;
 
@@ -65,16 +66,16 @@ pub extern "C" fn cs_message_read(
     match locate(message, elements) {
         Ok(count) => {
             reading.count = count;
-            0
+            DONE
         }
         Err(LocateFault::Message(fault)) => {
             reading.fault = fault_number(fault);
             reading.element = fault_element(fault);
-            2
+            FAULT
         }
         Err(LocateFault::TooFewPlaces(count)) => {
             reading.count = count;
-            3
+            TOO_SMALL
         }
     }
 }
