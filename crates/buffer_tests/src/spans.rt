@@ -1,6 +1,8 @@
 //! Where elements stand in messages.
-use element_spans::{ElementSpan, LocateFault, locate, span_of};
-use message_elements::DecodeFault;
+use element_spans::{ElementSpan, LocateFault, build, locate, span_of};
+use iso_message::encode;
+use message_elements::{DecodeFault, Kind};
+use std::alloc::Global;
 use std::test::Fail;
 
 /// A request with seven elements.
@@ -87,5 +89,54 @@ fn faults_of_messages(rt: HostRuntime) -> Result<(), Fail> {
     assert!(rt; length == Err(LocateFault::Message(DecodeFault::Length(2))));
     let behind = locate(b"0100400000000000000000x", &mut spans);
     assert!(rt; behind == Err(LocateFault::Message(DecodeFault::Trailing)));
+    Ok(())
+}
+
+#[test]
+fn a_message_that_is_built(rt: HostRuntime) -> Result<(), Fail> {
+    let alloc = rt.alloc();
+    let mut spans = [NOWHERE; 7];
+    assert!(rt; locate(REQUEST, &mut spans) == Ok(7));
+    spans.reverse();
+    let message = build(alloc, Kind::K0100, REQUEST, &spans)?;
+    assert!(rt; encode(alloc, &message)?.as_slice() == REQUEST);
+    Ok(())
+}
+
+/// The fault of a message with one element, whose value these bytes are.
+fn fault_of(alloc: Global, number: u8, value: &[u8]) -> Option<DecodeFault> {
+    let span = ElementSpan {
+        start: 0,
+        length: value.len(),
+        number,
+    };
+    build(alloc, Kind::K0100, value, &[span]).err()
+}
+
+#[test]
+fn values_that_an_element_does_not_take(rt: HostRuntime) -> Result<(), Fail> {
+    let alloc = rt.alloc();
+    assert!(rt; fault_of(alloc, 3, b"000000").is_none());
+    assert!(rt; fault_of(alloc, 65, b"1") == Some(DecodeFault::Element(65)));
+    assert!(rt; fault_of(alloc, 3, b"00000") == Some(DecodeFault::Length(3)));
+    assert!(rt; fault_of(alloc, 3, b"00000x") == Some(DecodeFault::Character(3)));
+    assert!(rt; fault_of(alloc, 52, b"0123456789abCDEF").is_none());
+    assert!(rt; fault_of(alloc, 52, b"0123456789abCDE") == Some(DecodeFault::Length(52)));
+    assert!(rt; fault_of(alloc, 52, b"0123456789abCDEx") == Some(DecodeFault::Character(52)));
+    Ok(())
+}
+
+#[test]
+fn a_span_behind_the_bytes(rt: HostRuntime) -> Result<(), Fail> {
+    let alloc = rt.alloc();
+    for (start, length) in [(1, 6), (7, 0), (usize::MAX, 6)] {
+        let span = ElementSpan {
+            start,
+            length,
+            number: 3,
+        };
+        let built = build(alloc, Kind::K0100, b"000000", &[span]);
+        assert!(rt; built.err() == Some(DecodeFault::Length(3)));
+    }
     Ok(())
 }
