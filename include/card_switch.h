@@ -66,7 +66,7 @@ uint8_t cs_replay(const uint8_t *input, size_t input_length, uint8_t *output, si
 uint8_t cs_decode(bool frames, const uint8_t *input, size_t input_length, uint8_t *output, size_t output_capacity, size_t *output_length);
 
 /*
- * Messages of ISO 8583:1987, one at a time, without memory and without copies.
+ * Messages of ISO 8583:1987, one at a time. Reading asks for no memory and copies nothing.
  */
 
 /* The most elements of a message. */
@@ -117,6 +117,25 @@ uint8_t cs_message_read(const uint8_t *message, size_t message_length, cs_elemen
 
 /* Finds an element by its number among those of a message, and copies it to *element. Returns whether it is there; if not, *element stays. */
 bool cs_message_get(const cs_element *elements, size_t elements_length, uint8_t number, cs_element *element);
+
+/* What was written: how many bytes the message has, or the number of the fault and that of the element that it names, 0 for none. */
+typedef struct cs_writing {
+    size_t length;
+    uint8_t fault;
+    uint8_t element;
+} cs_writing;
+
+/*
+ * Writes the message of a type, given as its four digits, and of elements whose values stand in `values`, spelled as cs_element says. Of two
+ * elements with one number the later counts. CS_DONE: the message stands at the front of `output`, and has writing->length bytes: its elements in
+ * ascending order, hexadecimal digits in capitals, and a second bit map only where an element above 64 is there. CS_FAULT: the type is none
+ * (CS_FAULT_TYPE), or of the first element that is wrong the number isn't in the table of elements (CS_FAULT_ELEMENT), the length isn't one that it
+ * takes or leads behind `values` (CS_FAULT_LENGTH), or a byte isn't of its class (CS_FAULT_CHARACTER). CS_TOO_SMALL: the message has
+ * writing->length bytes. CS_NO_MEMORY: there was no memory to make it. Unless it is CS_DONE the buffer is as it was; behind the message it
+ * always is.
+ */
+uint8_t cs_message_write(const uint8_t *type, size_t type_length, const uint8_t *values, size_t values_length, const cs_element *elements,
+                         size_t elements_length, uint8_t *output, size_t output_capacity, cs_writing *writing);
 
 #ifdef __cplusplus
 }

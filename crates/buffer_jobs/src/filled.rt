@@ -1,6 +1,6 @@
 //! A text in a buffer.
-ghost use Rattle.std.specs.Prelude.{◌≡◌, ℕ, Ok, Err, IfOk, OnErr, length};
-ghost use Rattle.buffer_jobs.specs.Buffer.{Fills, IsTooSmall};
+ghost use Rattle.std.specs.Prelude.{◌≡◌, ◌<◌, ℕ, true, false, Ok, Err, IfOk, OnErr, length};
+ghost use Rattle.buffer_jobs.specs.Buffer.{Fills, IsTooSmall, with_front};
 
 use bundle_text::{Answer, Status};
 use std::alloc::AllocError;
@@ -24,6 +24,19 @@ pub enum FillFault {
     Memory,
 }
 
+/// Puts a text at the front of a buffer, where that has room for it. Returns whether it has.
+pub fn put_front(text: &[u8], output: &mut [u8]) -> bool
+    ensures put { result ≡ true → output.new ≡ with_front text.now output.old }
+    ensures room { result ≡ false → length output.old < length text.now }
+    ensures unchanged { result ≡ false → output.new ≡ output.old }
+{
+    if text.len() > output.len() {
+        return false;
+    }
+    output[..text.len()].copy_from_slice(text);
+    true
+}
+
 /// Puts the text of an answer that was made at the front of a buffer, where that has room for it.
 pub(crate) fn fill(made: Result<Answer, AllocError>, output: &mut [u8]) -> Result<Filled, FillFault>
     ensures ok { IfOk result (Fills (λ said. made ≡ Ok said) output.old output.new) }
@@ -34,10 +47,9 @@ pub(crate) fn fill(made: Result<Answer, AllocError>, output: &mut [u8]) -> Resul
         return Err(FillFault::Memory);
     };
     let text = answer.text();
-    if text.len() > output.len() {
+    if !put_front(text, output) {
         return Err(FillFault::TooSmall(text.len()));
     }
-    output[..text.len()].copy_from_slice(text);
     Ok(Filled {
         len: text.len(),
         status: answer.status(),

@@ -1,2 +1,3 @@
 pub mod Exports
 pub mod Messages
+pub mod Writing

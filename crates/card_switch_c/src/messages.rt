@@ -1,11 +1,15 @@
 //! Messages.
-ghost use Rattle.std.specs.Prelude.{◌≡◌, ◌≤◌, ◌<◌, false, true, Some, None, length};
+ghost use Rattle.std.specs.Prelude.{◌≡◌, ◌≤◌, ◌<◌, ◌⊎◌, false, true, Some, None, length, IfOk, IfErr};
 ghost use Rattle.element_spans.specs.Spans.{LocatesAll, HasCount, span_of};
 ghost use Rattle.card_switch_c.specs.Messages.{fault_number, fault_element, TellsFault, IsReadStatus};
+ghost use Rattle.card_switch_c.specs.Writing.{Spells, Writes, WantsBytes, IsWriteFault, TellsWriteFault, IsWriteStatus};
 
 use crate::status::{DONE, FAULT, TOO_SMALL};
-use element_spans::{ElementSpan, LocateFault, locate, span_of};
-use message_elements::DecodeFault;
+use buffer_jobs::put_front;
+use element_spans::{ElementSpan, LocateFault, build, locate, span_of};
+use iso_message::encode;
+use message_elements::{DecodeFault, Kind};
+use std::alloc::Global;
 
 /// What was read: how many elements, or the fault by its number and the element that it names.
 #[repr(C)]
@@ -97,5 +101,69 @@ pub extern "C" fn cs_message_get(
             true
         }
         None => false,
+    }
+}
+
+/// What was written: how many bytes, or the fault by its number and the element that it names.
+#[repr(C)]
+#[derive(Clone, Copy, Debug, PartialEq, Eq)]
+pub struct Writing {
+    pub length: usize,
+    pub fault: u8,
+    pub element: u8,
+}
+
+/// The bytes of the message of a type and of the values at spans of some bytes.
+fn message_bytes(
+    alloc: Global,
+    kind: &[u8],
+    values: &[u8],
+    elements: &[ElementSpan],
+) -> Result<Vec<u8>, DecodeFault>
+    ensures ok { IfOk result (λ bytes. Spells kind.now values.now elements.now bytes.items) }
+    ensures fault { IfErr result (λ fault. (fault ≡ DecodeFault.Memory) ⊎ IsWriteFault kind.now values.now elements.now fault) }
+{
+    let kind = Kind::read(kind).ok_or(DecodeFault::BadType)?;
+    let message = build(alloc, kind, values, elements)?;
+    let bytes = encode(alloc, &message)?;
+    Ok(bytes)
+}
+
+/// The message of a type and of the values at spans of some bytes.
+#[unsafe(no_mangle)]
+pub extern "C" fn cs_message_write(
+    alloc: Global,
+    kind: &[u8],
+    values: &[u8],
+    elements: &[ElementSpan],
+    output: &mut [u8],
+    writing: &mut Writing,
+) -> u8
+    ensures status { IsWriteStatus result }
+    ensures done { result ≡ 0 → Writes (Spells kind.now values.now elements.now) output.old output.new writing.new.length }
+    ensures fault { result ≡ 2 → TellsWriteFault kind.now values.now elements.now writing.new.fault writing.new.element }
+    ensures small { result ≡ 3 → WantsBytes (Spells kind.now values.now elements.now) (length output.old) writing.new.length }
+    ensures unchanged { 0 < result → output.new ≡ output.old }
+{
+    *writing = Writing {
+        length: 0,
+        fault: 0,
+        element: 0,
+    };
+    match message_bytes(alloc, kind, values, elements) {
+        Ok(bytes) => {
+            writing.length = bytes.len();
+            if put_front(&bytes, output) {
+                DONE
+            } else {
+                TOO_SMALL
+            }
+        }
+        Err(DecodeFault::Memory) => NO_MEMORY,
+        Err(fault) => {
+            writing.fault = fault_number(fault);
+            writing.element = fault_element(fault);
+            FAULT
+        }
     }
 }
