@@ -7,7 +7,7 @@ use Rattle.message_text.specs.Room.{lines_room}
 use Rattle.message_text.proofs.RoomLemmas.{few_lines}
 use Rattle.element_spans.specs.Spans.{TakesElement}
 use Rattle.element_spans.proofs.SpanLemmas.{spans_more, end_more}
-use Rattle.element_spans.proofs.locate.take_all.Goals as goal
+use Rattle.element_spans.proofs.finding.take_all.Goals as goal
 
 pub loop-number-init : goal.loop-number-init
 loop-number-init c = record { so_far = []; same = λ kind. refl; counted = refl; ended = refl; laid = λ few. refl; order = c.requires; fits = omega (arith, few_lines c.args.unread.numbers c.requires) }

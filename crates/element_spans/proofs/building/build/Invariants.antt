@@ -1,7 +1,7 @@
 use Rattle.std.proofs.Common.{◌≡◌, ℕ, List, [], take}
 use Rattle.element_spans.specs.Spans.{Locates}
 use Rattle.element_spans.specs.Building.{with_elements}
-use Rattle.element_spans.proofs.build.build.Given as goal
+use Rattle.element_spans.proofs.building.build.Given as goal
 
 abbrev pub invariant-loop-span : goal.invariant-loop-span
 invariant-loop-span l = record {

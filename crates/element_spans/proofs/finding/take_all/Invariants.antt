@@ -4,7 +4,7 @@ use Rattle.iso_message.specs.Spelling.{Ascends}
 use Rattle.iso_message.specs.Unread.{read_on}
 use Rattle.message_text.specs.Room.{lines_room}
 use Rattle.element_spans.specs.Spans.{spans_from, end_from}
-use Rattle.element_spans.proofs.locate.take_all.Given as goal
+use Rattle.element_spans.proofs.finding.take_all.Given as goal
 
 abbrev pub invariant-loop-number : goal.invariant-loop-number
 invariant-loop-number l = record {
