@@ -1,13 +1,16 @@
 -- Spans of elements that stand one behind the other.
-use Rattle.std.proofs.Common.{◌≡◌, ℕ, ◌+◌, ◌^◌, ◌<◌, ◌≤◌, Bool, true, false, List, [], ◌∷◌, ◌++◌, length, map, take, Option, Some, None, refl, sym, ap, subst, ◌∙◌, arith}
+use Rattle.std.proofs.Common.{◌≡◌, ℕ, suc, ◌+◌, ◌^◌, ◌<◌, ◌≤◌, Bool, true, false, List, [], ◌∷◌, ◌++◌, length, map, take, drop, get_or, Option, Some, None, refl, sym, ap, subst, ◌∙◌, arith}
 use Rattle.std.specs.Prelude.{All}
 use Rattle.std.proofs.lemmas.List.Elements.{All-nil, All-cons}
+use Rattle.std.proofs.lemmas.List.{take_more, take_more_set, drop-set-lt, map-append}
+use Rattle.std.proofs.Math.Seq.{drop-cons}
+use Rattle.std.proofs.Math.ListN.{set}
 use Rattle.message_elements.specs.declared.form.Form.{Form}
 use Rattle.message_elements.specs.declared.form.Form.TheVariants.{Fixed, Llvar, Lllvar, Binary}
 use Rattle.message_elements.specs.Table.{form_of}
 use Rattle.iso_message.specs.Spelling.{is_binary}
 use Rattle.element_spans.specs.declared.span.ElementSpan.{ElementSpan}
-use Rattle.element_spans.specs.Spans.{length_digits, text_length, span_at, end_of, spans_from, end_from, moved}
+use Rattle.element_spans.specs.Spans.{length_digits, text_length, span_at, end_of, spans_from, end_from, moved, span_of}
 
 pub plain_length : (form : Option Form) (value : List ℕ) → is_binary form ≡ false → text_length form value ≡ length value
 plain_length None value plain = refl
@@ -41,7 +44,7 @@ end_more place (x ∷ es) e = end_more (end_of (span_at place x)) es e
 
 pub spans_length : (place : ℕ) (es : List (ℕ × List ℕ)) → length (spans_from place es) ≡ length es
 spans_length place [] = refl
-spans_length place (e ∷ es) = ap (λ n. n + 1) (spans_length (end_of (span_at place e)) es)
+spans_length place (e ∷ es) = ap (λ n. suc n) (spans_length (end_of (span_at place e)) es)
 
 moved_at : (by place : ℕ) (e : ℕ × List ℕ) → moved by (span_at place e) ≡ span_at (place + by) e
 moved_at by place e =
@@ -68,3 +71,23 @@ starts_fit by place (e ∷ es) fits =
     let end = end_of (span_at place e) in
     let here : (span_at place e).start + by < 2 ^ 64 = omega (arith, ends_behind end es, fits) in
     All-cons (λ (s : ElementSpan). s.start + by < 2 ^ 64) (span_at place e) (spans_from end es) here (starts_fit by end es fits)
+
+-- a loop that moves spans on: one more was moved
+pub moved_more : (xs old : List ElementSpan) (i by : ℕ) (d : ElementSpan) → i < length xs → i < length old → take i xs ≡ map (moved by) (take i old) → drop i xs ≡ drop i old
+    → (take (i + 1) (set xs i (moved by (get_or xs i d))) ≡ map (moved by) (take (i + 1) old)) × (drop (i + 1) (set xs i (moved by (get_or xs i d))) ≡ drop (i + 1) old)
+moved_more xs old i by d h k done left =
+    let y = moved by (get_or xs i d) in
+    let heads : get_or xs i d ∷ drop (suc i) xs ≡ get_or old i d ∷ drop (suc i) old = sym (drop-cons xs i d h) ∙ left ∙ drop-cons old i d k in
+    let same : get_or xs i d ≡ get_or old i d = cc in
+    let rest : drop (suc i) xs ≡ drop (suc i) old = cc in
+    let next : i + 1 ≡ suc i = omega arith in
+    let front : take (i + 1) (set xs i y) ≡ map (moved by) (take i old) ++ y ∷ [] = take_more_set xs i y h ∙ ap (λ z. z ++ y ∷ []) done in
+    let whole : map (moved by) (take (i + 1) old) ≡ map (moved by) (take i old) ++ moved by (get_or old i d) ∷ [] = ap (map (moved by)) (take_more old i d k) ∙ map-append (moved by) (take i old) (get_or old i d ∷ []) in
+    (front ∙ ap (λ z. map (moved by) (take i old) ++ moved by z ∷ []) same ∙ sym whole,
+     drop-set-lt (i + 1) xs i y (omega arith) ∙ ap (λ n. drop n xs) next ∙ rest ∙ ap (λ n. drop n old) (sym next))
+
+-- the spans from one on
+pub next_span : (n : ℕ) (spans : List ElementSpan) (i : ℕ) (d : ElementSpan) → i < length spans → span_of n (drop i spans) ≡ span_of n (get_or spans i d ∷ drop (i + 1) spans)
+next_span n spans i d h =
+    let next : suc i ≡ i + 1 = omega arith in
+    ap (span_of n) (drop-cons spans i d h ∙ ap (λ k. get_or spans i d ∷ drop k spans) next)

@@ -1,5 +1,5 @@
 //! Finding the elements of a message.
-ghost use Rattle.std.specs.Prelude.{◌≡◌, ℕ, ◌+◌, ◌<◌, ◌≤◌, ◌^◌, Err, All, length, map, IfOk, IfErr};
+ghost use Rattle.std.specs.Prelude.{◌≡◌, ℕ, ◌+◌, ◌<◌, ◌≤◌, ◌^◌, [], Err, All, length, map, IfOk, IfErr};
 ghost use Rattle.message_elements.specs.declared.fault.DecodeFault.{DecodeFault};
 ghost use Rattle.message_elements.specs.declared.kind.Kind.{Kind};
 ghost use Rattle.message_elements.specs.Table.{form_of};

@@ -7,5 +7,5 @@ abbrev pub invariant-loop-span : goal.invariant-loop-span
 invariant-loop-span l = record {
   elements : List (ℕ × List ℕ);
   located : Locates l.bytes elements (take l.span-index l.spans);
-  is : l.message ≡ with_elements (record { kind = l.kind; elements = [] }) elements;
+  is : l.message ≡ with_elements (record { kind = l.fn.kind; elements = [] }) elements;
 }
