@@ -82,9 +82,10 @@ moved_more xs old i by d h k done left =
     let rest : drop (suc i) xs ≡ drop (suc i) old = cc in
     let next : i + 1 ≡ suc i = omega arith in
     let front : take (i + 1) (set xs i y) ≡ map (moved by) (take i old) ++ y ∷ [] = take_more_set xs i y h ∙ ap (λ z. z ++ y ∷ []) done in
-    let whole : map (moved by) (take (i + 1) old) ≡ map (moved by) (take i old) ++ moved by (get_or old i d) ∷ [] = ap (map (moved by)) (take_more old i d k) ∙ map-append (moved by) (take i old) (get_or old i d ∷ []) in
-    (front ∙ ap (λ z. map (moved by) (take i old) ++ moved by z ∷ []) same ∙ sym whole,
-     drop-set-lt (i + 1) xs i y (omega arith) ∙ ap (λ n. drop n xs) next ∙ rest ∙ ap (λ n. drop n old) (sym next))
+    let whole : map (moved by) (take (i + 1) old) ≡ map (moved by) (take i old) ++ moved by (get_or old i d) ∷ [] = ap (map (moved by)) (take_more old i d k) ∙ map-append (moved by) (take i old) (get_or old i d ∷ []) in (
+      front ∙ ap (λ z. map (moved by) (take i old) ++ moved by z ∷ []) same ∙ sym whole,
+      drop-set-lt (i + 1) xs i y (omega arith) ∙ ap (λ n. drop n xs) next ∙ rest ∙ ap (λ n. drop n old) (sym next),
+    )
 
 -- the spans from one on
 pub next_span : (n : ℕ) (spans : List ElementSpan) (i : ℕ) (d : ElementSpan) → i < length spans → span_of n (drop i spans) ≡ span_of n (get_or spans i d ∷ drop (i + 1) spans)
