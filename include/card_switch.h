@@ -1,8 +1,8 @@
 /*
  * card_switch.h: the jobs of the program card_switch, and its codec of messages, for programs in C and C++.
  *
- * The library is proved as the program is: what a function leaves is what the contract of its export says, where the caller keeps to what
- * stands under "The caller's duties". docs/FORMATS.md has the formats of inputs, texts and messages.
+ * What a function leaves is what the contract of its export says, where the caller keeps to what stands under "The caller's duties";
+ * docs/GUARANTEES.md says which contracts are proved. docs/FORMATS.md has the formats of inputs, texts and messages.
  *
  * Link libcard_switch_c.a, and behind it the toolchain's liblibc_c.a, which calls malloc, realloc and free:
  *
