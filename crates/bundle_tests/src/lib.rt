@@ -22,4 +22,6 @@ mod planned;
 #[cfg(test)]
 mod replayed;
 #[cfg(test)]
+mod reports;
+#[cfg(test)]
 mod worked;

@@ -1,5 +1,5 @@
 //! Plans, and what is printed for them.
-use crate::networks::{IN_A_LINE, Sample, TWO_ACQUIRERS, TWO_NODES};
+use crate::networks::{IN_A_LINE, STAND_IN_AT_A, Sample, TWO_ACQUIRERS, TWO_NODES};
 use bundle_jobs::run_bundle;
 use card_digits::Counted;
 use command_line::Job;
@@ -85,6 +85,38 @@ fn requests_that_nobody_answers(rt: HostRuntime) -> Result<(), Fail> {
             network: &TWO_NODES,
             lines: "PLAN 1\nturns 50000000\ntick_every 0\nsession 400001\nsend 01007220000100008000164111111111111111000000000000001000031409153000000106400001840\nEND\n",
             want: "{\"answers\":[[\"05\"]],\"linked\":\"yes\",\"own\":0,\"posts\":0}\n",
+            status: 0,
+        },
+    ];
+    for plan in plans.iter() {
+        let name = plan.name;
+        assert!(rt; gives(&rt, rt.alloc(), plan)?, "{name}");
+    }
+    Ok(())
+}
+
+#[test]
+fn requests_that_are_answered(rt: HostRuntime) -> Result<(), Fail> {
+    let plans = [
+        Plan {
+            name: "within the host's limit",
+            network: &IN_A_LINE,
+            lines: "PLAN 1\nturns 50000000\ntick_every 0\nhost H 1000\nsession 400001\nsend 01007220000100008000164111111111111111000000000000001000031409153000000106400001840\nEND\n",
+            want: "{\"answers\":[[\"00\"]],\"linked\":\"yes\",\"own\":0,\"posts\":0}\n",
+            status: 0,
+        },
+        Plan {
+            name: "above it, and then within it",
+            network: &IN_A_LINE,
+            lines: "PLAN 1\nturns 50000000\ntick_every 0\nhost H 999\nsession 400001\nsend 01007220000100008000164111111111111111000000000000001000031409153000000106400001840\nsend 01007220000100008000164111111111111111000000000000000999031409153000000206400001840\nEND\n",
+            want: "{\"answers\":[[\"05\",\"00\"]],\"linked\":\"yes\",\"own\":0,\"posts\":0}\n",
+            status: 0,
+        },
+        Plan {
+            name: "by the node alone, since its link loses every packet",
+            network: &STAND_IN_AT_A,
+            lines: "PLAN 1\nturns 50000000\ntick_every 100\nhost H 1000\nlose AH 1\nsession 400001\nsend 01007220000100008000164111111111111111000000000000001000031409153000000106400001840\nEND\n",
+            want: "{\"answers\":[[\"00\"]],\"linked\":\"yes\",\"own\":1,\"posts\":0}\n",
             status: 0,
         },
     ];
