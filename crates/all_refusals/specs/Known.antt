@@ -1,13 +1,15 @@
 -- What is at hand at a class, and what was found so far.
-use Rattle.std.specs.Prelude.{◌≡◌, ℕ, ◌<◌, List, Option, None, slice_get, unwrap_or}
+use Rattle.std.specs.Prelude.{◌≡◌, ⊤, ℕ, List, Option, slice_get, unwrap_or}
 use Rattle.net_rows.specs.Network.{Network}
-use Rattle.rank_cert.specs.declared.cert.Rank.{Rank}
 use Rattle.rows_in_force.specs.LinkEnds.{AreEnds}
 use Rattle.table_checker.specs.Ranks.{rank_at}
 use Rattle.table_checker.specs.declared.refusal.Refusal.{Refusal}
 use Rattle.table_checker.specs.declared.refusal.Refusal.TheVariants.{AcquirerTwice, NodeIdTwice}
 use Rattle.all_refusals.specs.declared.at.At.{At}
 use Rattle.all_refusals.specs.declared.lists.Lists.{Lists}
+use Rattle.all_refusals.specs.declared.ranks.Lookup.{Lookup}
+use Rattle.all_refusals.specs.declared.ranks.Lookup.TheVariants as lookups
+use Rattle.all_refusals.specs.declared.ranks.Ranks.{Ranks}
 use Rattle.all_refusals.specs.declared.row.RowRefusal.{RowRefusal}
 use Rattle.all_refusals.specs.declared.twice.IdTable.{IdTable}
 use Rattle.all_refusals.specs.declared.twice.IdTable.TheVariants as ids
@@ -20,16 +22,18 @@ pub record HasRows (at : At) : Type 0 where
   pub stand_ins : at.stand_ins.now ≡ record { rows = at.tables.now.stand_ins; class = at.class }
   pub ends : AreEnds at.tables.now at.ends.now
 
--- the rank of a node
-abbrev pub rank_in : List (Option ℕ) → ℕ → Option ℕ
-rank_in ranks n = unwrap_or (slice_get ranks n) None
+-- what is known of a node's rank, if anything, is right
+abbrev pub IsFound : Option ℕ → Lookup → Type 0
+IsFound rank lookups.Open = ⊤
+IsFound rank (lookups.Done found) = found ≡ rank
 
--- the ranks of the nodes below a number are those of the certificate at the class
-abbrev pub AreRanksBelow : Network → List Rank → List ℕ → List (Option ℕ) → ℕ → Type 0
-AreRanksBelow t cert class ranks most = (n : ℕ) → n < most → rank_in ranks n ≡ rank_at t cert n class
+-- what is known of it
+abbrev pub lookup_at : List Lookup → ℕ → Lookup
+lookup_at found n = unwrap_or (slice_get found n) lookups.Open
 
-abbrev pub AreRanks : At → List (Option ℕ) → Type 0
-AreRanks at ranks = AreRanksBelow at.tables.now at.cert.now at.class ranks 64
+-- and so for all nodes at the class
+abbrev pub AreRanks : At → Ranks → Type 0
+AreRanks at ranks = (n : ℕ) → IsFound (rank_at at.tables.now at.cert.now n at.class) (lookup_at ranks.found n)
 
 -- the refusals of a rule
 abbrev pub list_of : Lists → Rule → List RowRefusal

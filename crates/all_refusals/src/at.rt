@@ -7,7 +7,7 @@ ghost use Rattle.all_refusals.specs.Rows.{Row, RouteRow, row_at, Adds};
 ghost use Rattle.all_refusals.specs.Known.{AreRanks, HasRows};
 ghost use Rattle.all_refusals.specs.Found.{each_below, of_row, no_ranks_of, no_ranks, not_less_of, not_less};
 
-use crate::ranks::{Ranks, rank_in};
+use crate::ranks::Ranks;
 use crate::row::{RowRefusal, TableRow};
 use card_digits::{LinkNo, NodeNo, Prefix};
 use net_rows::{Route, StandIn, Tables};
@@ -46,7 +46,7 @@ impl At<'_> {
         requires { AreRanks self.now ranks.now }
         ensures { result ≡ unranked self.now.tables.now self.now.cert.now self.now.class node }
     {
-        match rank_in(ranks, node) {
+        match self.rank(ranks, node) {
             Some(_) => None,
             None => Some(Refusal::NoRank(node, self.class)),
         }
@@ -57,8 +57,8 @@ impl At<'_> {
         requires ranks { AreRanks self.now ranks.now }
         ensures { result ≡ not_less_over self.now.tables.now self.now.cert.now self.now.class node link }
     {
-        let far = rank_in(ranks, self.ends.other_end(node, link));
-        let own = rank_in(ranks, node);
+        let far = self.rank(ranks, self.ends.other_end(node, link));
+        let own = self.rank(ranks, node);
         match (far, own) {
             (Some(far), Some(own)) if far < own => None,
             _ => Some(Refusal::NotLess(node, self.class, link)),

@@ -7,7 +7,6 @@ ghost use Rattle.all_refusals.specs.Known.{HasRows, list_of};
 ghost use Rattle.all_refusals.specs.Found.{Rule, class_rules, refusals_at, rule_refusals};
 
 use crate::at::At;
-use crate::ranks::ranks_at;
 use crate::row::RowRefusal;
 use net_rows::Issuer;
 use std::alloc::{AllocError, Global};
@@ -40,7 +39,7 @@ impl Lists {
         requires issuer { issuer_of at.now.tables.now at.now.class ≡ Some issuer.now }
         ensures { IfOk result (λ _. (rule : Rule) → Adds at.now.tables.now (list_of self.old rule) (list_of self.new rule) (rule_refusals at.now.tables.now at.now.cert.now at.now.class rule (Some issuer.now))) }
     {
-        let ranks = ranks_at(at.tables, at.cert, &at.class);
+        let ranks = at.ranks();
         at.add_no_ranks(&mut self.no_rank, &ranks, issuer.home)?;
         at.add_not_less(&mut self.not_less, &ranks, issuer.home)?;
         at.add_unnamed(&mut self.not_named, issuer.named.as_slice())?;
