@@ -1,4 +1,3 @@
-pub mod Pairs
 pub mod Prefixes
 pub mod Pieces
 pub mod WayText

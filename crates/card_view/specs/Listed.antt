@@ -1,5 +1,5 @@
 -- All refusals, as text.
-use Rattle.std.specs.Prelude.{ℕ, ◌+◌, List, ◌++◌, codes}
+use Rattle.std.specs.Prelude.{◌+◌, List, ◌++◌, codes}
 use Rattle.std.specs.Fmt.{decimal}
 use Rattle.std.specs.List.{flat_map}
 use Rattle.net_rows.specs.Network.{Network}

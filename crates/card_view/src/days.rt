@@ -18,8 +18,8 @@ fn day(tables: &Tables, card: &Card, node: NodeNo) -> Amount
     }
 }
 
-/// How much all nodes together may.
-fn days_sum(tables: &Tables, card: &Card) -> u64
+/// How much all nodes together may approve by themselves for a card and a day.
+pub fn days_sum(tables: &Tables, card: &Card) -> u64
     ensures { result ≡ days_sum tables.now card.now }
 {
     let mut sum = 0;

@@ -1,11 +1,11 @@
 //! The lines of all refusals.
-ghost use Rattle.std.specs.Prelude.{◌≡◌, ℕ, ◌+◌, List, ◌++◌, Some, IfOk};
-ghost use Rattle.bundle_text.specs.Lines.{line_feed};
+ghost use Rattle.std.specs.Prelude.{◌≡◌, ◌+◌, ◌++◌, Some, IfOk};
 ghost use Rattle.card_view.specs.Listed.{row_text, found_line, refusals_text};
 
 use all_refusals::{RowRefusal, TableRow};
 use bundle_text::refusal_line;
 use net_rows::Tables;
+use refusals_json::words;
 use std::alloc::{AllocError, Global};
 use std::fmt;
 
@@ -52,16 +52,6 @@ impl fmt::Display for NumberedRow {
                 write!(f, "[[stand_in]] {number}")
             }
         }
-    }
-}
-
-/// The words of a line, which ends with a line feed.
-fn words(line: &[u8]) -> &[u8]
-    ensures { (text : List ℕ) → line.now ≡ text ++ line_feed → result.now ≡ text }
-{
-    match line.split_last() {
-        Some((_, words)) => words,
-        None => line,
     }
 }
 

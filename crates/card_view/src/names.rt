@@ -30,9 +30,9 @@ impl fmt::Display for NodeName<'_> {
 
 /// A link by its name, empty where the tables have no such link.
 #[derive(Clone, Copy)]
-struct LinkName<'t> {
-    tables: &'t Tables,
-    link: LinkNo,
+pub(crate) struct LinkName<'t> {
+    pub(crate) tables: &'t Tables,
+    pub(crate) link: LinkNo,
 }
 
 impl fmt::Display for LinkName<'_> {

@@ -36,7 +36,7 @@ struct AtNode<'t> {
 }
 
 /// Whether the host of the card's issuer stands at the node.
-pub(crate) fn is_home(tables: &Tables, card: &Card, node: NodeNo) -> bool
+pub fn is_home(tables: &Tables, card: &Card, node: NodeNo) -> bool
     ensures { result ≡ is_home (issuer tables.now card.now) node }
 {
     match tables.issuer(card) {
@@ -110,8 +110,8 @@ impl fmt::Display for StandInInForce<'_> {
     }
 }
 
-/// The rank of a node at a class.
-fn rank_in(tables: &Tables, cert: &Cert, class: Option<Prefix>, node: NodeNo) -> Option<u16>
+/// The rank of a node at a class, if there is one.
+pub fn rank_in(tables: &Tables, cert: &Cert, class: Option<Prefix>, node: NodeNo) -> Option<u16>
     ensures { result ≡ rank_in tables.now cert.now class node }
 {
     let row = tables.nodes().get(node.place())?;

@@ -11,10 +11,10 @@ use net_rows::{Acquirer, Tables};
 use std::fmt;
 
 /// As many nodes as a way has at most where ranks fall: a longer one goes round.
-const MOST_HOPS: u8 = 64;
+pub const MOST_HOPS: u8 = 64;
 
-/// The links of a node's route row in force.
-fn links_of<'t>(tables: &'t Tables, card: &Card, node: NodeNo) -> &'t [LinkNo]
+/// The links of a node's route row in force, and none where there is no such row.
+pub fn links_of<'t>(tables: &'t Tables, card: &Card, node: NodeNo) -> &'t [LinkNo]
     ensures { result.now ≡ links_of (route tables.now node card.now) }
 {
     match tables.route(node, card) {

@@ -1,4 +1,3 @@
-pub mod Pairs
 pub mod Prefixes
 pub mod Places
 pub mod Corners

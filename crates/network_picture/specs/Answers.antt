@@ -1,18 +1,14 @@
 -- What is answered to an input.
-use Rattle.std.specs.Prelude.{◌≡◌, ℕ, List, [], ◌∷◌, ◌++◌, ◌⊎◌, map, Option, Result, Ok, Err}
+use Rattle.std.specs.Prelude.{◌≡◌, ℕ, List, ◌++◌, map, Option}
 use Rattle.net_rows.specs.Network.{Network}
-use Rattle.net_tables.specs.Reading.{tables_in}
-use Rattle.table_fields.specs.declared.fault.TableFault.{TableFault}
-use Rattle.rank_cert.specs.Reading.{cert_in}
 use Rattle.rank_cert.specs.declared.cert.Rank.{Rank}
-use Rattle.rank_cert.specs.declared.fault.CertFault.{CertFault}
 use Rattle.table_checker.specs.Rules.{first_refusal}
 use Rattle.all_refusals.specs.declared.row.RowRefusal.{RowRefusal}
 use Rattle.all_refusals.specs.Rows.{shown}
 use Rattle.all_refusals.specs.Found.{all_refusals}
-use Rattle.bundle_text.specs.Answers.{Said, NamesMemory, fault, parts_fault, verdict}
-use Rattle.bundle_text.specs.Lines.{Text, table_fault_line, cert_fault_line}
-use Rattle.bundle_text.specs.Parts.{parts_of}
+use Rattle.bundle_text.specs.Answers.{Said, verdict}
+use Rattle.bundle_text.specs.Lines.{Text}
+use Rattle.answer_input.specs.OfTables.{TablesAnswers}
 use Rattle.picture_text.specs.Picture.{Drawn}
 use Rattle.picture_text.specs.Svg.{svg_head, svg_body}
 use Rattle.picture_text.specs.Dot.{dot_head, dot_body}
@@ -46,16 +42,6 @@ pub record IsPictured (job : PictureJob) (t : Network) (cert : List Rank) (said 
   pub all : map (shown t) found ≡ all_refusals t cert
   pub printed : said ≡ answered job.drawing (verdict t (first_refusal t cert)) (picture_at t cert found (shown_class t (first_refusal t cert) job.prefix))
 
--- the first fault of tables and ranks, or such an answer
-abbrev pub IsPictureRead : PictureJob → Result Network TableFault → Result (List Rank) CertFault → Said → Type 0
-IsPictureRead job (Err e) ranks said = said ≡ fault (table_fault_line e)
-IsPictureRead job (Ok t) (Err e) said = said ≡ fault (cert_fault_line e)
-IsPictureRead job (Ok t) (Ok cert) said = IsPictured job t cert said
-
-abbrev pub IsPictureParts : PictureJob → List (List ℕ) → Said → Type 0
-IsPictureParts job (tables ∷ ranks ∷ []) said = IsPictureRead job (tables_in tables) (cert_in ranks) said
-IsPictureParts job _ said = said ≡ parts_fault
-
--- an answer to an input, unless memory was refused
+-- an answer to an input, or the first fault of its tables and ranks, unless memory was refused
 abbrev pub PictureAnswers : PictureJob → List ℕ → Said → Type 0
-PictureAnswers job input said = IsPictureParts job (parts_of input) said ⊎ NamesMemory said
+PictureAnswers job = TablesAnswers (IsPictured job)

@@ -1,26 +1,21 @@
 //! The answer to an input.
-ghost use Rattle.std.specs.Prelude.{◌≡◌, ◌++◌, ◌⊎◌, IfOk, map, string_bytes, Ok, Some, None};
-ghost use Rattle.net_tables.specs.Reading.{tables_in};
-ghost use Rattle.rank_cert.specs.Reading.{cert_in};
+ghost use Rattle.std.specs.Prelude.{◌≡◌, ◌++◌, ◌⊎◌, IfOk, string_bytes, Some, None};
 ghost use Rattle.bundle_text.specs.Answers.{NamesMemory};
 ghost use Rattle.table_checker.specs.Rules.{first_refusal};
 ghost use Rattle.network_picture.specs.Shown.{shown_class};
-ghost use Rattle.network_picture.specs.Answers.{head_text, body_text, picture_at, PictureAnswers, IsPictured, IsPictureRead, IsPictureParts};
+ghost use Rattle.network_picture.specs.Answers.{head_text, body_text, picture_at, PictureAnswers, IsPictured};
 
 use crate::asked::{Drawing, PictureJob};
 use crate::class::shown_class;
 use crate::made::picture_of;
 use crate::refused::refusals_here;
 use all_refusals::{RowRefusal, refusals};
-use bundle_text::{
-    Answer, Status, cert_fault_line, check_memory_answer, fault_answer, parts, parts_fault,
-    refusal_line, table_fault_line, without_carriage_returns,
-};
+use answer_input::{TablesQuestion, tables_answer};
+use bundle_text::{Answer, Status, check_memory_answer, refusal_line};
 use card_digits::Prefix;
 use net_rows::Tables;
-use net_tables::read_tables;
 use picture_text::{DotBody, DotHead, Picture, SvgBody, SvgHead};
-use rank_cert::{Cert, read_cert};
+use rank_cert::Cert;
 use std::alloc::{AllocError, Global};
 use table_checker::{Refusal, check};
 
@@ -154,44 +149,12 @@ pub fn picture_of_tables(
     }
 }
 
-/// The first fault of the ranks, or the picture.
-fn picture_ranks(
-    alloc: Global,
-    job: &PictureJob,
-    tables: &Tables,
-    ranks: &[u8],
-) -> Result<Answer, AllocError>
-    ensures { IfOk result (λ a. IsPictureRead job.now (Ok tables.now) (cert_in ranks.now) a ⊎ NamesMemory a) }
-{
-    match read_cert(alloc, ranks) {
-        Ok(cert) => picture_of_tables(alloc, job, tables, &cert),
-        Err(e) => Ok(fault_answer(cert_fault_line(alloc, e)?)),
-    }
-}
+impl TablesQuestion for PictureJob {
+    ghost is_answer_of = { IsPictured };
 
-/// The first fault of tables and ranks, or the picture.
-fn picture_both(
-    alloc: Global,
-    job: &PictureJob,
-    tables: &[u8],
-    ranks: &[u8],
-) -> Result<Answer, AllocError>
-    ensures { IfOk result (λ a. IsPictureRead job.now (tables_in tables.now) (cert_in ranks.now) a ⊎ NamesMemory a) }
-{
-    match read_tables(alloc, tables) {
-        Ok(tables) => picture_ranks(alloc, job, &tables, ranks),
-        Err(e) => Ok(fault_answer(table_fault_line(alloc, e)?)),
+    fn answer_of(&self, alloc: Global, tables: &Tables, cert: &Cert) -> Result<Answer, AllocError> {
+        picture_of_tables(alloc, self, tables, cert)
     }
-}
-
-#[tactic(auto, using(crate::proofs::Pairs::not_two, bundle_text::proofs::Pairs::two))]
-fn picture_of_parts(alloc: Global, job: &PictureJob, parts: &[&[u8]]) -> Result<Answer, AllocError>
-    ensures { IfOk result (λ a. IsPictureParts job.now (map (λ p. p.now) parts.now) a ⊎ NamesMemory a) }
-{
-    if parts.len() != 2 {
-        return parts_fault(alloc);
-    }
-    picture_both(alloc, job, parts[0], parts[1])
 }
 
 /// The answer to an input of two parts, the tables and the ranks: the picture with the verdict of `check` above it, or the first fault
@@ -199,7 +162,5 @@ fn picture_of_parts(alloc: Global, job: &PictureJob, parts: &[&[u8]]) -> Result<
 pub fn picture_answer(alloc: Global, job: &PictureJob, input: &[u8]) -> Result<Answer, AllocError>
     ensures { IfOk result (PictureAnswers job.now input.now) }
 {
-    let text = without_carriage_returns(alloc, input)?;
-    let parts = parts(alloc, &text)?;
-    picture_of_parts(alloc, job, &parts)
+    tables_answer(alloc, job, input)
 }

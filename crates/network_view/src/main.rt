@@ -3,6 +3,7 @@
 
 use bundle_input::BundleFault;
 use card_digits::{Card, Counted, Prefix, Sink, Source};
+use card_json::run_card_json;
 use card_view::{Asked, run_view};
 use network_picture::{PictureJob, run_picture};
 use std::alloc::{AllocError, Global};
@@ -16,6 +17,8 @@ use view_command::{Drawing, Format, Job, help_of, job_of};
 #[derive(Clone, Copy, Debug)]
 enum Question {
     View(Asked),
+    /// What each node does with a card, as a JSON object.
+    CardJson(Card),
     Picture(PictureJob),
     Trace,
 }
@@ -38,6 +41,14 @@ fn words(rt: &(impl Env + AllocGlobal)) -> io::Result<Vec<String>> {
     Ok(words)
 }
 
+/// How refusals are written, as the words say.
+fn written(format: Format) -> card_view::Format {
+    match format {
+        Format::Text => card_view::Format::Text,
+        Format::Json => card_view::Format::Json,
+    }
+}
+
 /// What a picture is written in, as the words say.
 fn drawn(drawing: Drawing) -> network_picture::Drawing {
     match drawing {
@@ -46,8 +57,15 @@ fn drawn(drawing: Drawing) -> network_picture::Drawing {
     }
 }
 
-fn card_question(card: &Card) -> Request {
-    Request::Answer(Question::View(Asked::Card(*card)))
+fn card_question(card: &Card, format: Format) -> Request {
+    match format {
+        Format::Text => Request::Answer(Question::View(Asked::Card(*card))),
+        Format::Json => Request::Answer(Question::CardJson(*card)),
+    }
+}
+
+fn refusals_question(format: Format) -> Request {
+    Request::Answer(Question::View(Asked::Refusals(written(format))))
 }
 
 fn picture_question(prefix: &Option<Prefix>, drawing: Drawing) -> Request {
@@ -60,11 +78,10 @@ fn picture_question(prefix: &Option<Prefix>, drawing: Drawing) -> Request {
 
 fn request_of_job(job: &Job) -> Request {
     match job {
-        Job::Card(card, Format::Text) => card_question(card),
-        Job::Refusals(Format::Text) => Request::Answer(Question::View(Asked::Refusals)),
+        Job::Card(card, format) => card_question(card, *format),
+        Job::Refusals(format) => refusals_question(*format),
         Job::Picture(prefix, drawing) => picture_question(prefix, *drawing),
         Job::Trace => Request::Answer(Question::Trace),
-        _ => Request::Other,
     }
 }
 
@@ -108,6 +125,7 @@ fn answer<R: Source, W: Sink>(
 ) -> Result<u8, BundleFault> {
     match question {
         Question::View(asked) => run_view(alloc, asked, reader, writer),
+        Question::CardJson(card) => run_card_json(alloc, card, reader, writer),
         Question::Picture(job) => run_picture(alloc, job, reader, writer),
         Question::Trace => run_trace(alloc, reader, writer),
     }
@@ -129,7 +147,7 @@ fn main(rt: HostRuntime) -> ExitCode {
         },
         Ok(Request::Other) => {
             let _ = eprintln!(rt;
-                "usage: network_view card N\n       network_view refusals\n       network_view picture [--prefix P] [--dot]\n       network_view trace"
+                "usage: network_view card N [--json]\n       network_view refusals [--json]\n       network_view picture [--prefix P] [--dot]\n       network_view trace"
             );
             2
         }

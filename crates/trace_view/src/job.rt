@@ -1,43 +1,25 @@
 //! From the bytes of an input to those of an answer.
-ghost use Rattle.std.specs.Prelude.{◌≡◌, ◌<◌, Err, OnErr, IfOk};
-ghost use Rattle.bundle_text.specs.Answers.{Wrote, WroteFront};
-ghost use Rattle.bundle_input.specs.Input.{AnswersOrMemory, IsOutput, WroteWithCode};
+ghost use Rattle.std.specs.Prelude.{◌<◌, OnErr, IfOk};
+ghost use Rattle.bundle_text.specs.Answers.{WroteFront};
+ghost use Rattle.bundle_input.specs.Input.{IsOutput, WroteWithCode};
 ghost use Rattle.trace_view.specs.Answers.{IsTraceAnswer};
 
 use crate::answer::trace_answer;
-use bundle_input::{BundleFault, InputFault, read_all, write_cause};
-use bundle_text::Status;
-use card_digits::{Sink, Source, write_all};
-use std::alloc::Global;
+use answer_input::{Question, run_answer};
+use bundle_input::BundleFault;
+use bundle_text::Answer;
+use card_digits::{Sink, Source};
+use std::alloc::{AllocError, Global};
 
-/// Writes the answer to an input, or that there is no memory.
-fn print_input<W: Sink>(alloc: Global, input: &[u8], writer: &mut W) -> Result<Status, BundleFault>
-    ensures ok { IfOk result (Wrote (AnswersOrMemory IsTraceAnswer input.now) (W.written writer.old) (W.written writer.new)) }
-    ensures err { OnErr result (WroteFront (AnswersOrMemory IsTraceAnswer input.now) (W.written writer.old) (W.written writer.new)) }
-    ensures failed { OnErr result (0 < W.failures writer.new) }
-{
-    let Ok(answer) = trace_answer(alloc, input) else {
-        return write_cause(writer, InputFault::Memory);
-    };
-    match write_all(writer, answer.text()) {
-        Ok(()) => Ok(answer.status()),
-        Err(_) => Err(BundleFault::Write),
-    }
-}
+/// The table of a trace is asked for.
+#[derive(Clone, Copy)]
+struct TraceTable;
 
-/// Writes the answer to all that a reader gives.
-fn print_output<R: Source, W: Sink>(
-    alloc: Global,
-    reader: &mut R,
-    writer: &mut W,
-) -> Result<Status, BundleFault>
-    ensures ok { IfOk result (Wrote (IsOutput IsTraceAnswer (R.remaining reader.old) (R.failures reader.new) (R.turns reader.old) (R.turns reader.new)) (W.written writer.old) (W.written writer.new)) }
-    ensures err { OnErr result (WroteFront (IsOutput IsTraceAnswer (R.remaining reader.old) (R.failures reader.new) (R.turns reader.old) (R.turns reader.new)) (W.written writer.old) (W.written writer.new)) }
-    ensures failed { OnErr result (0 < W.failures writer.new) }
-{
-    match read_all(alloc, reader) {
-        Ok(input) => print_input(alloc, &input, writer),
-        Err(cause) => write_cause(writer, cause),
+impl Question for TraceTable {
+    ghost is_answer = { λ _. IsTraceAnswer };
+
+    fn answer(&self, alloc: Global, input: &[u8]) -> Result<Answer, AllocError> {
+        trace_answer(alloc, input)
     }
 }
 
@@ -51,8 +33,5 @@ pub fn run_trace<R: Source, W: Sink>(
     ensures err { OnErr result (WroteFront (IsOutput IsTraceAnswer (R.remaining reader.old) (R.failures reader.new) (R.turns reader.old) (R.turns reader.new)) (W.written writer.old) (W.written writer.new)) }
     ensures failed { OnErr result (0 < W.failures writer.new) }
 {
-    match print_output(alloc, reader, writer) {
-        Ok(status) => Ok(status.code()),
-        Err(fault) => Err(fault),
-    }
+    run_answer(alloc, &TraceTable, reader, writer)
 }

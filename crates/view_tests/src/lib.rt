@@ -2,6 +2,8 @@
 #![tactic(auto)]
 
 #[cfg(test)]
+mod card_objects;
+#[cfg(test)]
 mod refusals;
 #[cfg(test)]
 mod tests;

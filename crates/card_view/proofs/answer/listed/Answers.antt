@@ -1,11 +1,7 @@
-use Rattle.std.proofs.Common.{◌≡◌, codes, inl, rules}
-use Rattle.bundle_text.specs.Answers.{Said}
-use Rattle.bundle_text.specs.declared.answer.Status.TheVariants.{Done}
+use Rattle.std.proofs.Common.{inl}
+use Rattle.std.proofs.lemmas.Result.{IfOk-weaker}
 use Rattle.card_view.proofs.Listing.{accepted_is}
 use Rattle.card_view.proofs.answer.listed.Goals as goal
 
-pub returns-in_ok-line-in-Ok : goal.returns-in_ok-line-in-Ok
-returns-in_ok-line-in-Ok c =
-    let said : Said = record { text = codes "accepted\n"; status = Done } in
-    let is : c.new.result ≡ said = search rules in
-    inl (accepted_is c.args.tables.now c.args.cert.now c.new.result c.in-Ok.ensures.accepted.1 is)
+pub returns-in-Ok : goal.returns-in-Ok
+returns-in-Ok c = IfOk-weaker c.accepted_answer.result _ _ (λ a h. inl (accepted_is c.args.format c.args.tables.now c.args.cert.now a c.in-Ok.ensures.accepted.1 h)) c.accepted_answer.ensures

@@ -1,0 +1,2 @@
+pub mod CardJson
+pub mod Answers
