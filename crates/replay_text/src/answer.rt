@@ -30,6 +30,16 @@ use std::alloc::{AllocError, Global};
 use std::mem::ManuallyDrop;
 use table_checker::{Accepted, Refusal, check};
 
+/// What becomes of the memory of traces behind the answer.
+#[derive(Clone, Copy, Debug, PartialEq, Eq)]
+pub enum TraceMemory {
+    /// It is given back, piece by piece.
+    Freed,
+    /// It is never given back. This is for a process that ends behind its answer: giving back millions of small pieces would take a third of
+    /// its time.
+    Kept,
+}
+
 /// The answer of a script's fault.
 fn script_fault_answer(alloc: Global, e: ReplayFault) -> Result<Answer, AllocError>
     ensures { IfOk result (λ a. a ≡ fault (script_fault_line e)) }
@@ -68,12 +78,12 @@ fn write_made<W: Sink>(
     }
 }
 
-/// Writes what the nodes put out. The memory of the traces is not given back: the program ends behind its answer, and giving back millions
-/// of small pieces one by one would take a third of its time.
+/// Writes what the nodes put out.
 fn write_kept<W: Sink>(
     alloc: Global,
     tables: &Tables,
     traces: Traces<'_>,
+    trace_memory: TraceMemory,
     writer: &mut W,
 ) -> Result<(), PrintFault>
     ensures ok { OnOk result ((steps : List Step) → AreTraces tables.now steps traces.entry → Appends (W.written writer.old) (W.written writer.new) (steps_text tables.now steps)) }
@@ -81,8 +91,13 @@ fn write_kept<W: Sink>(
     ensures failed { result ≡ Err PrintFault.Write → 0 < W.failures writer.new }
     ensures memory { result ≡ Err PrintFault.Memory → W.written writer.new ≡ W.written writer.old }
 {
-    let kept = ManuallyDrop::new(traces);
-    write_traces(alloc, tables, &kept, writer)
+    match trace_memory {
+        TraceMemory::Freed => write_traces(alloc, tables, &traces, writer),
+        TraceMemory::Kept => {
+            let kept = ManuallyDrop::new(traces);
+            write_traces(alloc, tables, &kept, writer)
+        }
+    }
 }
 
 /// Writes the answer to a script on accepted tables.
@@ -91,6 +106,7 @@ fn write_script<W: Sink>(
     tables: &Tables,
     accepted: &Accepted<'_>,
     script: &[u8],
+    trace_memory: TraceMemory,
     writer: &mut W,
 ) -> Result<Status, PrintFault>
     requires { accepted.now ≡ tables.now }
@@ -100,7 +116,7 @@ fn write_script<W: Sink>(
     ensures memory { result ≡ Err PrintFault.Memory → W.written writer.new ≡ W.written writer.old }
 {
     match replay(alloc, accepted, script) {
-        Ok(traces) => match write_kept(alloc, tables, traces, writer) {
+        Ok(traces) => match write_kept(alloc, tables, traces, trace_memory, writer) {
             Ok(()) => Ok(Status::Done),
             Err(fault) => Err(fault),
         },
@@ -114,6 +130,7 @@ fn write_checked<W: Sink>(
     tables: &Tables,
     cert: &Cert,
     script: &[u8],
+    trace_memory: TraceMemory,
     writer: &mut W,
 ) -> Result<Status, PrintFault>
     ensures ok { IfOk result (Wrote (λ said. ReplayAnswers said (checked_said tables.now (first_refusal tables.now cert.now) script.now)) (W.written writer.old) (W.written writer.new)) }
@@ -122,7 +139,7 @@ fn write_checked<W: Sink>(
     ensures memory { result ≡ Err PrintFault.Memory → W.written writer.new ≡ W.written writer.old }
 {
     match check(alloc, tables, cert) {
-        Ok(accepted) => write_script(alloc, tables, &accepted, script, writer),
+        Ok(accepted) => write_script(alloc, tables, &accepted, script, trace_memory, writer),
         Err(Refusal::Memory) => write_made(writer, check_memory_answer(alloc)),
         Err(refusal) => write_made(writer, refused_answer(alloc, tables, &refusal)),
     }
@@ -134,6 +151,7 @@ fn write_ranked<W: Sink>(
     tables: &Tables,
     ranks: &[u8],
     script: &[u8],
+    trace_memory: TraceMemory,
     writer: &mut W,
 ) -> Result<Status, PrintFault>
     ensures ok { IfOk result (Wrote (λ said. ReplayAnswers said (read_said (Ok tables.now) (cert_in ranks.now) script.now)) (W.written writer.old) (W.written writer.new)) }
@@ -142,7 +160,7 @@ fn write_ranked<W: Sink>(
     ensures memory { result ≡ Err PrintFault.Memory → W.written writer.new ≡ W.written writer.old }
 {
     match read_cert(alloc, ranks) {
-        Ok(cert) => write_checked(alloc, tables, &cert, script, writer),
+        Ok(cert) => write_checked(alloc, tables, &cert, script, trace_memory, writer),
         Err(e) => write_made(writer, cert_fault_answer(alloc, e)),
     }
 }
@@ -153,6 +171,7 @@ fn write_read<W: Sink>(
     tables: &[u8],
     ranks: &[u8],
     script: &[u8],
+    trace_memory: TraceMemory,
     writer: &mut W,
 ) -> Result<Status, PrintFault>
     ensures ok { IfOk result (Wrote (λ said. ReplayAnswers said (read_said (tables_in tables.now) (cert_in ranks.now) script.now)) (W.written writer.old) (W.written writer.new)) }
@@ -161,7 +180,7 @@ fn write_read<W: Sink>(
     ensures memory { result ≡ Err PrintFault.Memory → W.written writer.new ≡ W.written writer.old }
 {
     match read_tables(alloc, tables) {
-        Ok(tables) => write_ranked(alloc, &tables, ranks, script, writer),
+        Ok(tables) => write_ranked(alloc, &tables, ranks, script, trace_memory, writer),
         Err(e) => write_made(writer, table_fault_answer(alloc, e)),
     }
 }
@@ -170,6 +189,7 @@ fn write_read<W: Sink>(
 fn write_parts<W: Sink>(
     alloc: Global,
     parts: &[&[u8]],
+    trace_memory: TraceMemory,
     writer: &mut W,
 ) -> Result<Status, PrintFault>
     ensures ok { IfOk result (Wrote (λ said. ReplayAnswers said (replay_parts (map (λ p. p.now) parts.now))) (W.written writer.old) (W.written writer.new)) }
@@ -180,7 +200,7 @@ fn write_parts<W: Sink>(
     if parts.len() != 3 {
         return write_made(writer, parts_fault(alloc));
     }
-    write_read(alloc, parts[0], parts[1], parts[2], writer)
+    write_read(alloc, parts[0], parts[1], parts[2], trace_memory, writer)
 }
 
 /// Writes the answer of `replay` to an input of three parts, tables, ranks and a script: what the nodes put out for each line, the first
@@ -188,19 +208,20 @@ fn write_parts<W: Sink>(
 /// The fault is `Write` where the writer failed, behind a beginning of the answer, and `Memory` where nothing was written.
 pub fn write_replayed<W: Sink>(
     alloc: Global,
-    input: Vec<u8>,
+    input: &[u8],
+    trace_memory: TraceMemory,
     writer: &mut W,
 ) -> Result<Status, PrintFault>
-    ensures ok { IfOk result (Wrote (λ said. ReplayAnswers said (replay_said input.items)) (W.written writer.old) (W.written writer.new)) }
-    ensures write { result ≡ Err PrintFault.Write → WroteFront (λ said. ReplayAnswers said (replay_said input.items)) (W.written writer.old) (W.written writer.new) }
+    ensures ok { IfOk result (Wrote (λ said. ReplayAnswers said (replay_said input.now)) (W.written writer.old) (W.written writer.new)) }
+    ensures write { result ≡ Err PrintFault.Write → WroteFront (λ said. ReplayAnswers said (replay_said input.now)) (W.written writer.old) (W.written writer.new) }
     ensures failed { result ≡ Err PrintFault.Write → 0 < W.failures writer.new }
     ensures memory { result ≡ Err PrintFault.Memory → W.written writer.new ≡ W.written writer.old }
 {
-    let Ok(text) = without_carriage_returns(alloc, &input) else {
+    let Ok(text) = without_carriage_returns(alloc, input) else {
         return Err(PrintFault::Memory);
     };
     let Ok(parts) = parts(alloc, &text) else {
         return Err(PrintFault::Memory);
     };
-    write_parts(alloc, &parts, writer)
+    write_parts(alloc, &parts, trace_memory, writer)
 }

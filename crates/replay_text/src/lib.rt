@@ -7,6 +7,6 @@ mod row;
 mod sending;
 mod steps;
 
-pub use answer::write_replayed;
+pub use answer::{TraceMemory, write_replayed};
 pub use faults::script_fault_line;
 pub use steps::write_traces;

@@ -1,0 +1,9 @@
+//! The statuses that exports return, as the header names them. 0, 1 and 2 are also those of an answer.
+
+pub(crate) const DONE: u8 = 0;
+
+pub(crate) const FAULT: u8 = 2;
+
+pub(crate) const TOO_SMALL: u8 = 3;
+
+pub(crate) const NO_MEMORY: u8 = 4;

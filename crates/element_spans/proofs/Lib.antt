@@ -1,0 +1,3 @@
+pub mod SpanLemmas
+pub mod PlaceLemmas
+pub mod BuildLemmas
