@@ -1,4 +1,4 @@
-//! Whose turn it is among the sessions of a node.
+//! Whose turn it is among sessions.
 ghost use Rattle.std.specs.Prelude.{◌≡◌, ◌==◌, replicate, slice_set, Some, None, IfOk, if◌then◌else◌};
 ghost use Rattle.std.specs.List.{position};
 ghost use Rattle.plan_threads.specs.Queues.{is_queued, whose_turn, has_turn, is_away, is_told, next_queued, out, recalled};
@@ -18,7 +18,7 @@ pub enum Standing {
     Away,
 }
 
-/// The sessions of a node, by their places among them. One goes on at a time, so that none waits for a step of another.
+/// Sessions that take turns, by their places among them. One goes on at a time, so that none waits for a step of another.
 #[derive(Drop)]
 pub struct Queue {
     /// Whose turn it is.
