@@ -1,5 +1,6 @@
 -- Elements that are put into a message from their texts.
-use Rattle.std.proofs.Common.{◌≡◌, ℕ, true, false, List, [], ◌∷◌, ◌++◌, length, Option, Some, None, Ok, refl, arith}
+use Rattle.std.proofs.Common.{◌≡◌, ℕ, true, false, suc, ◌<◌, List, [], ◌∷◌, ◌++◌, length, take, drop, get_or, take-append-drop, Option, Some, None, Ok, refl, sym, ap, ◌∙◌}
+use Rattle.std.proofs.Math.Seq.{drop-cons}
 use Rattle.hex.specs.Hex.{decode_sized}
 use Rattle.message_elements.specs.declared.form.Form.{Form}
 use Rattle.message_elements.specs.declared.form.Form.TheVariants.{Fixed, Llvar, Lllvar, Binary}
@@ -10,7 +11,8 @@ use Rattle.iso_message.specs.Fields.{Fields, set_element}
 use Rattle.iso_message.specs.Spelling.{is_binary}
 use Rattle.element_spans.specs.declared.span.ElementSpan.{ElementSpan}
 use Rattle.element_spans.specs.Spans.{Locates, WritesValue, text_at}
-use Rattle.element_spans.specs.Building.{IsDigitsFault, IsTextFault, with_elements}
+use Rattle.element_spans.specs.Building.{IsDigitsFault, IsTextFault, IsSpanFault, IsFirstFault, with_elements}
+use Rattle.element_spans.proofs.SpanLemmas.{any}
 
 pub plain_writes : (form : Option Form) (text : List ℕ) → is_binary form ≡ false → WritesValue form text text
 plain_writes None text plain = refl
@@ -58,3 +60,15 @@ located_more bytes (e ∷ es) (x ∷ spans) s value before here = (before.0, bef
 pub with_more : (m : Fields) (es : List (ℕ × List ℕ)) (e : ℕ × List ℕ) → with_elements m (es ++ e ∷ []) ≡ set_element (with_elements m es) e.0 e.1
 with_more m [] e = refl
 with_more m (x ∷ es) e = with_more (set_element m x.0 x.1) es e
+
+-- the first fault stands behind spans that are right
+pub first_fault : (bytes : List ℕ) (spans : List ElementSpan) (i : ℕ) (es : List (ℕ × List ℕ)) (fault : DecodeFault) → i < length spans → Locates bytes es (take i spans) → IsSpanFault bytes (get_or spans i any) fault → IsFirstFault bytes spans fault
+first_fault bytes spans i es fault h before here = record {
+  elements = es;
+  front = take i spans;
+  wrong = get_or spans i any;
+  later = drop (suc i) spans;
+  whole = sym (take-append-drop i spans) ∙ ap (λ rest. take i spans ++ rest) (drop-cons spans i any h);
+  located = before;
+  is_fault = here;
+}

@@ -1,5 +1,5 @@
 -- Where pieces stand in the bytes of a message.
-use Rattle.std.proofs.Common.{◌≡◌, ℕ, ◌+◌, ◌*◌, ◌≤◌, List, [], ◌∷◌, ◌++◌, length, take, drop, Option, Some, None, Ok, refl, sym, ap, subst, ◌∙◌, append_assoc, length-append, arith}
+use Rattle.std.proofs.Common.{◌≡◌, ℕ, ◌+◌, List, [], ◌∷◌, ◌++◌, length, take, drop, Option, Some, None, Ok, refl, sym, ap, subst, ◌∙◌, append_assoc, length-append, arith}
 use Rattle.std.proofs.lemmas.List.{take_at, drop_at}
 use Rattle.hex.specs.Hex.{decode_sized}
 use Rattle.hex.proofs.HexLemmas.{decode_sized-ok}
@@ -8,9 +8,12 @@ use Rattle.message_elements.specs.declared.form.Form.TheVariants.{Fixed, Llvar, 
 use Rattle.message_elements.specs.Table.{form_of}
 use Rattle.iso_message.specs.Fields.{Fields}
 use Rattle.iso_message.specs.Messages.{read}
+use Rattle.iso_message.specs.Unread.{Left, read_on}
+use Rattle.message_elements.specs.declared.kind.Kind.{Kind}
 use Rattle.iso_message.specs.Grammar.{IsPiece, ArePieces, Spells}
 use Rattle.iso_message.proofs.ReadingLaws.{read_takes}
-use Rattle.element_spans.specs.Spans.{WritesValue, Locates, length_digits, text_length, span_at, end_of, spans_from, end_from}
+use Rattle.element_spans.specs.declared.span.ElementSpan.{ElementSpan}
+use Rattle.element_spans.specs.Spans.{LaysOut, WritesValue, Locates, length_digits, text_length, span_at, end_of, spans_from, end_from}
 
 piece_length : (form : Option Form) (value text : List ℕ) → IsPiece form value text → length text ≡ length_digits form + text_length form value
 piece_length None value text p = absurd p
@@ -71,3 +74,10 @@ stands message m is_read =
       whole = omega (arith, end, ap length is, length-append before body);
       there = located m.elements message before body is (Spells.pieces s);
     }
+
+-- a message of which all elements were taken
+pub all_read : (message : List ℕ) (kind : Kind) (left : Left) (spans : List ElementSpan) (count end : ℕ) → read message ≡ read_on kind [] left → (laid : LaysOut left spans count end) → read message ≡ Ok (record { kind = kind; elements = LaysOut.elements laid })
+all_read message kind left spans count end is laid = is ∙ LaysOut.found laid kind
+
+pub stands_behind : (message : List ℕ) (kind : Kind) (left : Left) (spans : List ElementSpan) (count end : ℕ) → read message ≡ read_on kind [] left → (laid : LaysOut left spans count end) → StandsAt message (LaysOut.elements laid)
+stands_behind message kind left spans count end is laid = stands message (record { kind = kind; elements = LaysOut.elements laid }) (all_read message kind left spans count end is laid)

@@ -1,5 +1,5 @@
 -- Spans of elements that stand one behind the other.
-use Rattle.std.proofs.Common.{◌≡◌, ℕ, suc, ◌+◌, ◌^◌, ◌<◌, ◌≤◌, Bool, true, false, List, [], ◌∷◌, ◌++◌, length, map, take, drop, get_or, Option, Some, None, refl, sym, ap, subst, ◌∙◌, arith}
+use Rattle.std.proofs.Common.{◌≡◌, ℕ, suc, ◌+◌, ◌^◌, ◌<◌, ◌≤◌, true, false, List, [], ◌∷◌, ◌++◌, length, map, take, drop, get_or, length-drop, Option, Some, None, refl, sym, ap, ◌∙◌, arith}
 use Rattle.std.specs.Prelude.{All}
 use Rattle.std.proofs.lemmas.List.Elements.{All-nil, All-cons}
 use Rattle.std.proofs.lemmas.List.{take_more, take_more_set, drop-set-lt, map-append}
@@ -71,6 +71,16 @@ starts_fit by place (e ∷ es) fits =
     let end = end_of (span_at place e) in
     let here : (span_at place e).start + by < 2 ^ 64 = omega (arith, ends_behind end es, fits) in
     All-cons (λ (s : ElementSpan). s.start + by < 2 ^ 64) (span_at place e) (spans_from end es) here (starts_fit by end es fits)
+
+abbrev pub any : ElementSpan
+any = record { start = 0; length = 0; number = 0 }
+
+-- a list of which only what stands in front was changed
+pub same_left : (xs old : List ElementSpan) (i : ℕ) → i < length old → drop i xs ≡ drop i old → (i < length xs) × (get_or xs i any ≡ get_or old i any)
+same_left xs old i k left =
+    let h : i < length xs = omega (arith, ap length left, length-drop i xs, length-drop i old) in
+    let heads : get_or xs i any ∷ drop (suc i) xs ≡ get_or old i any ∷ drop (suc i) old = sym (drop-cons xs i any h) ∙ left ∙ drop-cons old i any k in
+    (h, cc)
 
 -- a loop that moves spans on: one more was moved
 pub moved_more : (xs old : List ElementSpan) (i by : ℕ) (d : ElementSpan) → i < length xs → i < length old → take i xs ≡ map (moved by) (take i old) → drop i xs ≡ drop i old
