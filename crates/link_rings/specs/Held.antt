@@ -1,5 +1,5 @@
 -- Packets that are held back, by incoming rings, in the order in which they were taken.
-use Rattle.std.specs.Prelude.{ℕ, ◌+◌, min, max, ◌^◌, ◌-◌, List, [], ◌∷◌, ◌++◌, Option, Some, None, option_and_then, if◌then◌else◌, nat_le, slice_get, slice_set, slice_index_or}
+use Rattle.std.specs.Prelude.{ℕ, ◌+◌, min, max, ◌^◌, ◌-◌, List, [], ◌∷◌, ◌++◌, Option, Some, None, option_and_then, if◌then◌else◌, nat_le, nat_lt, length, slice_get, slice_set, slice_index_or}
 use Rattle.turn_clock.specs.Sooner.{sooner}
 use Rattle.link_rings.specs.Rings.{PacketView}
 
@@ -44,5 +44,10 @@ turns_from first turn (r ∷ rs) = turns_from (sooner first (turns_to_first turn
 abbrev pub turns_to_due : HeldView → Option ℕ
 turns_to_due h = turns_from None h.turn h.rings
 
+-- one packet more is held, or it is lost where 64 are
+abbrev pub held_in : ℕ → PacketView → List WaitingView → List WaitingView
+held_in due p ws = if nat_lt (length ws) 64 then ws ++ record { due = due; packet = p } ∷ [] else ws
+
+-- likewise of a ring, for so many turns
 abbrev pub with_held : ℕ → ℕ → PacketView → HeldView → HeldView
-with_held k turns p h = record { turn = h.turn; rings = slice_set h.rings k (slice_index_or h.rings k [] ++ record { due = later h.turn turns; packet = p } ∷ []) }
+with_held k turns p h = record { turn = h.turn; rings = slice_set h.rings k (held_in (later h.turn turns) p (slice_index_or h.rings k [])) }

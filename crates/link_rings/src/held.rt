@@ -1,6 +1,6 @@
 //! Packets that bad links hold back.
-ghost use Rattle.std.specs.Prelude.{◌≡◌, ◌⊎◌, [], replicate, IfOk};
-ghost use Rattle.link_rings.specs.Held.{HeldView, first_due, behind_due, turns_to_first, turns_to_due, later, due_packet, without_due, with_held};
+ghost use Rattle.std.specs.Prelude.{◌≡◌, [], replicate, IfOk};
+ghost use Rattle.link_rings.specs.Held.{HeldView, first_due, behind_due, turns_to_first, turns_to_due, later, due_packet, without_due, held_in, with_held};
 
 use crate::ROOM;
 use crate::packet::Packet;
@@ -23,19 +23,21 @@ impl Model for HeldPacket {
     ghost view = { λ p. record { due = p.due; packet = p.packet } };
 }
 
-/// The packets of one ring, in the order in which they were taken.
+/// The packets of one ring, in the order in which they were taken. There is memory for as many as may be held.
 #[derive(Drop)]
 struct HeldRing {
     packets: Vec<HeldPacket>,
 }
 
 impl Model for HeldRing {
-    ghost use Rattle.std.specs.Prelude.{List};
+    ghost use Rattle.std.specs.Prelude.{List, ◌≤◌, vec_capacity};
     ghost use Rattle.link_rings.specs.Held.{WaitingView};
 
     ghost Value = { List WaitingView };
 
     ghost view = { λ r. r.packets.items };
+
+    ghost invariant = { λ r. 64 ≤ vec_capacity r.packets };
 }
 
 /// The packets that are held back at a node, for each incoming ring, and the number of turns that its pump made.
@@ -54,6 +56,23 @@ impl Model for Held {
 }
 
 impl HeldRing {
+    fn new(alloc: Global) -> Result<HeldRing, AllocError>
+        ensures { IfOk result (λ r. r ≡ []) }
+    {
+        Ok(HeldRing {
+            packets: Vec::with_capacity(alloc, ROOM)?,
+        })
+    }
+
+    // Holds a packet back until a turn, unless so many are held that it is lost.
+    fn hold(&mut self, due: u64, packet: Packet)
+        ensures { self.new ≡ held_in due packet self.old }
+    {
+        if self.packets.len() < ROOM {
+            self.packets.push_reserved(HeldPacket { due, packet });
+        }
+    }
+
     // The first packet, where its turn has come.
     fn due(&mut self, turn: u64) -> Option<Packet>
         ensures packet { result ≡ first_due turn self.old }
@@ -90,15 +109,13 @@ impl Held {
         }
     }
 
-    /// Nothing is held for so many rings.
+    /// Nothing is held for so many rings. All memory is taken here.
     pub fn new(alloc: Global, count: usize) -> Result<Held, AllocError>
         ensures { IfOk result (λ h. h ≡ record { turn = 0; rings = replicate count [] }) }
     {
         let mut rings = Vec::new(alloc);
         for _ in 0..count {
-            rings.push(HeldRing {
-                packets: Vec::new(alloc),
-            })?;
+            rings.push(HeldRing::new(alloc)?)?;
         }
         Ok(Held { turn: 0, rings })
     }
@@ -142,15 +159,13 @@ impl Held {
         }
     }
 
-    /// Holds a packet of a ring back for so many turns. One that is too many, or meets no memory, is lost.
+    /// Holds a packet of a ring back for so many turns. It is lost where as many of that ring are held as may be, and only then.
     pub fn hold(&mut self, k: usize, turns: u16, packet: Packet)
-        ensures { (self.new ≡ self.old) ⊎ (self.new ≡ with_held k turns packet self.old) }
+        ensures { self.new ≡ with_held k turns packet self.old }
     {
         let due = self.turn.saturating_add(turns as u64);
         if let Some(ring) = self.rings.get_mut(k) {
-            if ring.packets.len() < ROOM {
-                let _ = ring.packets.push(HeldPacket { due, packet });
-            }
+            ring.hold(due, packet);
         }
     }
 }

@@ -1,5 +1,5 @@
 -- What pumps do.
-use Rattle.std.specs.Prelude.{◌≡◌, ◌⊎◌, ℕ, zero, suc, Bool, true, false, List, [], length, Option, Some, None, Result, slice_get}
+use Rattle.std.specs.Prelude.{◌≡◌, ℕ, zero, suc, Bool, true, false, List, [], length, Option, Some, None, Result, slice_get}
 use Rattle.network_law.specs.Entries.{Take}
 use Rattle.link_rings.specs.Rings.{PacketView, InView, Pops, Looks, links_in}
 use Rattle.link_rings.specs.Held.{HeldView, due_packet, without_due, with_held}
@@ -36,10 +36,10 @@ pub record TakesDue (k link : ℕ) (f : LinkFaults) (old : StationView) (held : 
 abbrev pub with_ins : StationView → List InView → StationView
 with_ins s ins = record { t = s.t; n = s.n; trace = s.trace; outs = s.outs; ins = ins }
 
--- a packet that was popped is lost, held back if there is room, or taken
+-- a packet that was popped is lost, held back unless 64 of its ring are, or taken
 abbrev pub IsDealt : Fate → ℕ → ℕ → LinkFaults → PacketView → StationView → HeldView → StationView → HeldView → Type 0
 IsDealt Lost k link f p old held new held' = (new ≡ old) × (held' ≡ held)
-IsDealt (Held turns) k link f p old held new held' = (new ≡ old) × ((held' ≡ held) ⊎ (held' ≡ with_held k turns p held))
+IsDealt (Held turns) k link f p old held new held' = (new ≡ old) × (held' ≡ with_held k turns p held)
 IsDealt Taken k link f p old held new held' = TakesBy f link p old new × (held' ≡ held)
 
 abbrev pub IsDealtIf : Option PacketView → ℕ → ℕ → LinkFaults → StationView → HeldView → StationView → HeldView → Type 0

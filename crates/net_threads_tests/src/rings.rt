@@ -1,7 +1,9 @@
 //! Rings between nodes that nobody pumps meanwhile.
 use crate::network::{Act, entries, pump, request, seen_on, step};
-use card_digits::LinkNo;
+use card_digits::{LinkNo, NodeNo};
+use link_rings::Held;
 use net_threads::{Network, StationFault};
+use run_plan::{Delay, Faults, LinkFaults};
 use sample_networks::Sample;
 use shared_bytes::SharedBytes;
 use std::alloc::Global;
@@ -110,5 +112,91 @@ impl Act for StrangeLink {
 fn a_link_of_other_nodes(rt: HostRuntime) -> Result<(), Fail> {
     let seen = seen_on(&rt, rt.alloc(), Sample::LineOfTwoHomes, &StrangeLink)?;
     assert_eq!(rt; seen, Some(StationFault::StrangeLink));
+    Ok(())
+}
+
+/// The first link holds each second packet back for two turns, and each third is taken twice.
+fn delayed_and_repeated(alloc: Global) -> Result<Faults, Fail> {
+    let mut faults = Faults::none(alloc);
+    faults.links.push(LinkFaults {
+        lose: None,
+        delay: Some(Delay { every: 2, turns: 2 }),
+        repeat: Some(3),
+    })?;
+    Ok(faults)
+}
+
+/// Pumps the second node so often over these links.
+fn pump_over<R: Wait>(
+    rt: &R,
+    alloc: Global,
+    network: &Network<'_, '_>,
+    faults: &Faults,
+    count: usize,
+) -> Result<(), Fail> {
+    if network.stations().len() < 2 {
+        return Err("no second node".into());
+    }
+    let mut held = Held::new(alloc, 1)?;
+    for _ in 0..count {
+        network.pump_with(rt, NodeNo::new(1), faults, &mut held);
+    }
+    Ok(())
+}
+
+/// The serials that the second node took, one digit for each.
+fn serials<R: Wait>(rt: &R, alloc: Global, network: &Network<'_, '_>) -> Result<String, Fail> {
+    let mut serials = String::new(alloc);
+    if let Some(station) = network.stations().get(1) {
+        for entry in station.lock(rt).trace() {
+            if let Case::Take(_, serial, _) = entry.input().case() {
+                serials.push_str(format!(in alloc; "{serial}")?.as_str())?;
+            }
+        }
+    }
+    Ok(serials)
+}
+
+/// Four requests at the first node, and so many turns of the second node's pump.
+#[derive(Clone, Copy)]
+struct Delays {
+    turns: usize,
+}
+
+fn after_delays<R: Wait>(
+    rt: &R,
+    alloc: Global,
+    network: &Network<'_, '_>,
+    turns: usize,
+) -> Result<String, Fail> {
+    let faults = delayed_and_repeated(alloc)?;
+    if !enter_all(rt, alloc, network, 4)? {
+        return Err("refused".into());
+    }
+    pump_over(rt, alloc, network, &faults, turns)?;
+    serials(rt, alloc, network)
+}
+
+impl Act for Delays {
+    type Seen = String;
+
+    fn act<R: Wait>(&self, rt: &R, alloc: Global, accepted: &Accepted<'_>) -> Result<String, Fail> {
+        match Network::new(alloc, accepted) {
+            Ok(network) => after_delays(rt, alloc, &network, self.turns),
+            Err(_) => Err("memory".into()),
+        }
+    }
+}
+
+/// The second packet is taken two turns after it was popped, behind both takes of the third; the fourth waits as long.
+#[test]
+fn delayed_and_repeated_packets_have_an_order(rt: HostRuntime) -> Result<(), Fail> {
+    let alloc = rt.alloc();
+    let three = seen_on(&rt, alloc, Sample::TwoNodes, &Delays { turns: 3 })?;
+    assert_eq!(rt; three.as_str(), "133");
+    let five = seen_on(&rt, alloc, Sample::TwoNodes, &Delays { turns: 5 })?;
+    assert_eq!(rt; five.as_str(), "1332");
+    let six = seen_on(&rt, alloc, Sample::TwoNodes, &Delays { turns: 6 })?;
+    assert_eq!(rt; six.as_str(), "13324");
     Ok(())
 }
