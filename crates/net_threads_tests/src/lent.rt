@@ -115,10 +115,9 @@ fn lent<R: Threads + Wait + Sync>(
 fn lent_by_plan<R: Threads + Wait + Sync>(
     rt: &R,
     alloc: Global,
-    tables: &Tables,
     accepted: &Accepted<'_>,
 ) -> Option<[bool; 4]> {
-    match read_plan(alloc, tables, LOAN) {
+    match read_plan(alloc, accepted, LOAN) {
         Ok(plan) => lent(rt, alloc, accepted, &plan),
         Err(_) => None,
     }
@@ -131,7 +130,7 @@ pub(crate) fn lent_on<R: Threads + Wait + Sync>(
     cert: &Cert,
 ) -> Option<[bool; 4]> {
     match check(alloc, tables, cert) {
-        Ok(accepted) => lent_by_plan(rt, alloc, tables, &accepted),
+        Ok(accepted) => lent_by_plan(rt, alloc, &accepted),
         Err(_) => None,
     }
 }

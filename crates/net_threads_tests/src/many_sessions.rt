@@ -157,12 +157,11 @@ fn ran<R: Threads + Wait + Sync>(
 fn ran_by_plan<R: Threads + Wait + Sync>(
     rt: &R,
     alloc: Global,
-    tables: &Tables,
     accepted: &Accepted<'_>,
     plan: &str,
     trial: Trial,
 ) -> Option<(usize, Verdict)> {
-    match read_plan(alloc, tables, plan.as_bytes()) {
+    match read_plan(alloc, accepted, plan.as_bytes()) {
         Ok(plan) => ran(rt, alloc, accepted, &plan, trial),
         Err(_) => None,
     }
@@ -177,7 +176,7 @@ fn ran_on<R: Threads + Wait + Sync>(
     trial: Trial,
 ) -> Option<(usize, Verdict)> {
     match check(alloc, tables, cert) {
-        Ok(accepted) => ran_by_plan(rt, alloc, tables, &accepted, plan, trial),
+        Ok(accepted) => ran_by_plan(rt, alloc, &accepted, plan, trial),
         Err(_) => None,
     }
 }

@@ -124,10 +124,9 @@ fn met<R: Threads + Wait + Sync>(
 fn met_by_plan<R: Threads + Wait + Sync>(
     rt: &R,
     alloc: Global,
-    tables: &Tables,
     accepted: &Accepted<'_>,
 ) -> Option<[bool; 3]> {
-    match read_plan(alloc, tables, TWO_HOMES) {
+    match read_plan(alloc, accepted, TWO_HOMES) {
         Ok(plan) => met(rt, alloc, accepted, &plan),
         Err(_) => None,
     }
@@ -140,7 +139,7 @@ fn met_on<R: Threads + Wait + Sync>(
     cert: &Cert,
 ) -> Option<[bool; 3]> {
     match check(alloc, tables, cert) {
-        Ok(accepted) => met_by_plan(rt, alloc, tables, &accepted),
+        Ok(accepted) => met_by_plan(rt, alloc, &accepted),
         Err(_) => None,
     }
 }

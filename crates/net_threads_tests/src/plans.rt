@@ -187,12 +187,11 @@ pub(crate) struct Run {
 fn outcome_of_text<R: Threads + Wait + Sync>(
     rt: &R,
     alloc: Global,
-    tables: &Tables,
     accepted: &Accepted<'_>,
     text: &[u8],
     run: &Run,
 ) -> Option<Outcome> {
-    match read_plan(alloc, tables, text) {
+    match read_plan(alloc, accepted, text) {
         Ok(plan) => ran(rt, alloc, accepted, &plan, run),
         Err(_) => None,
     }
@@ -207,7 +206,7 @@ fn outcome_on<R: Threads + Wait + Sync>(
     run: &Run,
 ) -> Option<Outcome> {
     match check(alloc, tables, cert) {
-        Ok(accepted) => outcome_of_text(rt, alloc, tables, &accepted, text, run),
+        Ok(accepted) => outcome_of_text(rt, alloc, &accepted, text, run),
         Err(_) => None,
     }
 }

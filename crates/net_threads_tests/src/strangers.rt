@@ -134,10 +134,9 @@ fn approved<R: Threads + Wait + Sync>(
 fn approved_by_plan<R: Threads + Wait + Sync>(
     rt: &R,
     alloc: Global,
-    tables: &Tables,
     accepted: &Accepted<'_>,
 ) -> Option<[bool; 2]> {
-    match read_plan(alloc, tables, PLAN) {
+    match read_plan(alloc, accepted, PLAN) {
         Ok(plan) => approved(rt, alloc, accepted, &plan),
         Err(_) => None,
     }
@@ -150,7 +149,7 @@ fn approved_on<R: Threads + Wait + Sync>(
     cert: &Cert,
 ) -> Option<[bool; 2]> {
     match check(alloc, tables, cert) {
-        Ok(accepted) => approved_by_plan(rt, alloc, tables, &accepted),
+        Ok(accepted) => approved_by_plan(rt, alloc, &accepted),
         Err(_) => None,
     }
 }

@@ -11,6 +11,7 @@ use crate::plan::Plan;
 use card_digits::first_line;
 use net_rows::Tables;
 use std::alloc::Global;
+use table_checker::Accepted;
 
 /// The most turns, and the most turns of a pump from one tick to the next.
 const MOST_TURNS: u64 = 4_000_000_000;
@@ -81,11 +82,16 @@ fn add_lines<'a>(tables: &Tables, draft: &mut Draft<'a>, text: &'a [u8]) -> Resu
     Err(PlanFault::NoEnd)
 }
 
-/// Reads a plan for a network of these tables; the first line that has a fault decides. Its messages are those of the text. Lines
+/// Reads a plan for a network of accepted tables; the first line that has a fault decides. Its messages are those of the text. Lines
 /// end in a line feed, which the last may lack.
-pub fn read_plan<'a>(alloc: Global, tables: &Tables, text: &'a [u8]) -> Result<Plan<'a>, PlanFault>
-    ensures { Reads tables.now (lines text.now) result }
+pub fn read_plan<'a>(
+    alloc: Global,
+    accepted: &Accepted<'_>,
+    text: &'a [u8],
+) -> Result<Plan<'a>, PlanFault>
+    ensures { Reads accepted.now (lines text.now) result }
 {
+    let tables = accepted.tables();
     let head = read_head(text)?;
     let mut draft = Draft::new(alloc, tables)?;
     add_lines(tables, &mut draft, head.behind)?;

@@ -77,7 +77,7 @@ pub fn run_plan_text<R: Threads + Wait + Sync>(
     // The fault of the plan, exactly; or a report of what sessions ended with and traces show.
     ensures { RunsText accepted.now (lines text.now) result }
 {
-    match read_plan(alloc, accepted.tables(), text) {
+    match read_plan(alloc, accepted, text) {
         Ok(plan) => run(rt, alloc, accepted, &plan),
         Err(fault) => Err(RunFault::Plan(fault)),
     }

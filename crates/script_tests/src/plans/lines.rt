@@ -1,12 +1,13 @@
 //! What plans say.
-use crate::networks::{in_a_line, with_acquirers};
+use crate::networks::{in_a_line, ranks_in_a_line, with_acquirers};
 use net_tables::Tables;
 use run_plan::{Delay, LinkFaults, Plan, PlanFault, read_plan};
 use std::alloc::Global;
 use std::test::Fail;
+use table_checker::{Accepted, check};
 
-fn read<'a>(alloc: Global, tables: &Tables, text: &'a str) -> Result<Plan<'a>, PlanFault> {
-    read_plan(alloc, tables, text.as_bytes())
+fn read<'a>(alloc: Global, accepted: &Accepted<'_>, text: &'a str) -> Result<Plan<'a>, PlanFault> {
+    read_plan(alloc, accepted, text.as_bytes())
 }
 
 const WHOLE: &str = "PLAN 1
@@ -84,8 +85,8 @@ fn has_faults(plan: &Plan<'_>) -> bool {
 }
 
 /// Which parts of the whole plan are read as they are written: head, limits, faults of links, loan, session.
-fn right_parts(alloc: Global, tables: &Tables) -> Option<[bool; 5]> {
-    let plan = read(alloc, tables, WHOLE).ok()?;
+fn right_parts(alloc: Global, accepted: &Accepted<'_>) -> Option<[bool; 5]> {
+    let plan = read(alloc, accepted, WHOLE).ok()?;
     Some([
         has_head(&plan),
         has_limits(&plan),
@@ -97,8 +98,11 @@ fn right_parts(alloc: Global, tables: &Tables) -> Option<[bool; 5]> {
 
 #[test]
 fn a_whole_plan(rt: HostRuntime) -> Result<(), Fail> {
-    let tables = in_a_line(rt.alloc())?;
-    assert_eq!(rt; right_parts(rt.alloc(), &tables), Some([true; 5]));
+    let alloc = rt.alloc();
+    let tables = in_a_line(alloc)?;
+    let ranks = ranks_in_a_line(alloc)?;
+    let accepted = check(alloc, &tables, &ranks).ok().ok_or("not accepted")?;
+    assert_eq!(rt; right_parts(alloc, &accepted), Some([true; 5]));
     Ok(())
 }
 
@@ -116,10 +120,12 @@ fn of_messages(alloc: Global, count: usize) -> Result<String, Fail> {
 fn messages_of_a_session(rt: HostRuntime) -> Result<(), Fail> {
     let alloc = rt.alloc();
     let tables = in_a_line(alloc)?;
+    let ranks = ranks_in_a_line(alloc)?;
+    let accepted = check(alloc, &tables, &ranks).ok().ok_or("not accepted")?;
     let most = of_messages(alloc, 10_000)?;
-    assert!(rt; read(alloc, &tables, most.as_str()).is_ok());
+    assert!(rt; read(alloc, &accepted, most.as_str()).is_ok());
     let more = of_messages(alloc, 10_001)?;
-    let fault = read(alloc, &tables, more.as_str()).err();
+    let fault = read(alloc, &accepted, more.as_str()).err();
     assert_eq!(rt; fault, Some(PlanFault::Line(10_005)));
     Ok(())
 }
@@ -149,10 +155,12 @@ fn of_sessions(alloc: Global, count: usize) -> Result<String, Fail> {
 fn sessions_of_a_plan(rt: HostRuntime) -> Result<(), Fail> {
     let alloc = rt.alloc();
     let tables = of_acquirers(alloc, 257)?;
+    let ranks = ranks_in_a_line(alloc)?;
+    let accepted = check(alloc, &tables, &ranks).ok().ok_or("not accepted")?;
     let most = of_sessions(alloc, 256)?;
-    assert!(rt; read(alloc, &tables, most.as_str()).is_ok());
+    assert!(rt; read(alloc, &accepted, most.as_str()).is_ok());
     let more = of_sessions(alloc, 257)?;
-    let fault = read(alloc, &tables, more.as_str()).err();
+    let fault = read(alloc, &accepted, more.as_str()).err();
     assert_eq!(rt; fault, Some(PlanFault::Line(260)));
     Ok(())
 }

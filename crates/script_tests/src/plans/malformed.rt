@@ -1,18 +1,22 @@
 //! Texts that are no plans.
-use crate::networks::in_a_line;
-use net_tables::Tables;
+use crate::networks::{in_a_line, ranks_in_a_line};
 use run_plan::{PlanFault, read_plan};
 use std::alloc::Global;
 use std::test::Fail;
+use table_checker::{Accepted, check};
 
-fn fault_of(alloc: Global, tables: &Tables, text: &str) -> Option<PlanFault> {
-    read_plan(alloc, tables, text.as_bytes()).err()
+fn fault_of(alloc: Global, accepted: &Accepted<'_>, text: &str) -> Option<PlanFault> {
+    read_plan(alloc, accepted, text.as_bytes()).err()
 }
 
 /// The fault of lines behind the head of a plan.
-fn fault_behind(alloc: Global, tables: &Tables, lines: &str) -> Result<Option<PlanFault>, Fail> {
+fn fault_behind(
+    alloc: Global,
+    accepted: &Accepted<'_>,
+    lines: &str,
+) -> Result<Option<PlanFault>, Fail> {
     let text = format!(in alloc; "PLAN 1\nturns 1\ntick_every 0\n{lines}")?;
-    Ok(fault_of(alloc, tables, text.as_str()))
+    Ok(fault_of(alloc, accepted, text.as_str()))
 }
 
 /// Texts with the same fault.
@@ -216,12 +220,12 @@ const SESSIONS: [Group; 4] = [
 /// The first text whose fault is another.
 fn first_wrong(
     alloc: Global,
-    tables: &Tables,
+    accepted: &Accepted<'_>,
     groups: &[Group],
 ) -> Result<Option<&'static str>, Fail> {
     for group in groups {
         for text in group.texts {
-            if fault_behind(alloc, tables, *text)? != Some(group.fault) {
+            if fault_behind(alloc, accepted, *text)? != Some(group.fault) {
                 return Ok(Some(*text));
             }
         }
@@ -229,10 +233,10 @@ fn first_wrong(
     Ok(None)
 }
 
-fn first_wrong_head(alloc: Global, tables: &Tables) -> Option<&'static str> {
+fn first_wrong_head(alloc: Global, accepted: &Accepted<'_>) -> Option<&'static str> {
     for group in HEADS.iter() {
         for text in group.texts {
-            if fault_of(alloc, tables, *text) != Some(group.fault) {
+            if fault_of(alloc, accepted, *text) != Some(group.fault) {
                 return Some(*text);
             }
         }
@@ -240,31 +244,46 @@ fn first_wrong_head(alloc: Global, tables: &Tables) -> Option<&'static str> {
     None
 }
 
-fn first_wrong_setting(alloc: Global, tables: &Tables) -> Result<Option<&'static str>, Fail> {
-    first_wrong(alloc, tables, &SETTINGS)
+fn first_wrong_setting(
+    alloc: Global,
+    accepted: &Accepted<'_>,
+) -> Result<Option<&'static str>, Fail> {
+    first_wrong(alloc, accepted, &SETTINGS)
 }
 
-fn first_wrong_session(alloc: Global, tables: &Tables) -> Result<Option<&'static str>, Fail> {
-    first_wrong(alloc, tables, &SESSIONS)
+fn first_wrong_session(
+    alloc: Global,
+    accepted: &Accepted<'_>,
+) -> Result<Option<&'static str>, Fail> {
+    first_wrong(alloc, accepted, &SESSIONS)
 }
 
 #[test]
 fn heads_of_plans(rt: HostRuntime) -> Result<(), Fail> {
-    let tables = in_a_line(rt.alloc())?;
-    assert_eq!(rt; first_wrong_head(rt.alloc(), &tables), None);
+    let alloc = rt.alloc();
+    let tables = in_a_line(alloc)?;
+    let ranks = ranks_in_a_line(alloc)?;
+    let accepted = check(alloc, &tables, &ranks).ok().ok_or("not accepted")?;
+    assert_eq!(rt; first_wrong_head(alloc, &accepted), None);
     Ok(())
 }
 
 #[test]
 fn settings_of_plans(rt: HostRuntime) -> Result<(), Fail> {
-    let tables = in_a_line(rt.alloc())?;
-    assert_eq!(rt; first_wrong_setting(rt.alloc(), &tables)?, None);
+    let alloc = rt.alloc();
+    let tables = in_a_line(alloc)?;
+    let ranks = ranks_in_a_line(alloc)?;
+    let accepted = check(alloc, &tables, &ranks).ok().ok_or("not accepted")?;
+    assert_eq!(rt; first_wrong_setting(alloc, &accepted)?, None);
     Ok(())
 }
 
 #[test]
 fn sessions_of_plans(rt: HostRuntime) -> Result<(), Fail> {
-    let tables = in_a_line(rt.alloc())?;
-    assert_eq!(rt; first_wrong_session(rt.alloc(), &tables)?, None);
+    let alloc = rt.alloc();
+    let tables = in_a_line(alloc)?;
+    let ranks = ranks_in_a_line(alloc)?;
+    let accepted = check(alloc, &tables, &ranks).ok().ok_or("not accepted")?;
+    assert_eq!(rt; first_wrong_session(alloc, &accepted)?, None);
     Ok(())
 }
