@@ -18,7 +18,7 @@ use std::alloc::{AllocError, Global};
 use std::sync::Wait;
 use switch_node::{Case, Input};
 
-/// How many lines a session enters until it is the turn of another of its node.
+/// How many lines a session enters until it is the turn of another.
 const LINES_OF_A_TURN: usize = 256;
 
 /// What a session looks for at its node, and what it is told of, where its line has a key.
@@ -117,7 +117,7 @@ impl<'s, 't, 'p> Acquirer<'s, 't, 'p> {
         }
     }
 
-    /// Another session of the node goes on, and this one sleeps until it has an answer, or so many turns have passed.
+    /// Another session goes on, and this one sleeps until it has an answer, or so many turns have passed.
     fn rest<H: Host, R: Wait>(&self, rt: &R, hosts: &[H], turns: u64, calls: &mut Calls) -> u64
         ensures { result ≤ turns }
     {

@@ -66,8 +66,6 @@ struct News {
     asked: AtomicU64,
     /// The places of its sessions in the plan.
     sessions: Vec<usize>,
-    /// Whose turn it is among these.
-    queue: Mutex<Queue>,
     /// Where what its pump keeps lies while nobody pumps.
     pump: Mutex<Shelf<Pump>>,
     /// Where what is kept of its host lies while nobody asks it.
@@ -76,15 +74,6 @@ struct News {
     visitors: AtomicU64,
     /// Somebody wanted to make a turn there while another had the station, and nobody has seen to it since.
     missed: AtomicBool,
-}
-
-/// Where a session stands.
-#[derive(Clone, Copy)]
-struct Seat {
-    /// The place of its node.
-    node: usize,
-    /// Its own among the sessions there.
-    place: usize,
 }
 
 /// What the threads tell each other beside the stations.
@@ -100,8 +89,8 @@ pub(crate) struct Shared {
     stopped: AtomicBool,
     nodes: Vec<News>,
     awaited: Vec<Awaited>,
-    /// Those of the plan's sessions.
-    seats: Vec<Seat>,
+    /// Whose turn it is among the plan's sessions.
+    queue: Mutex<Queue>,
 }
 
 /// The hash of bytes behind others.
@@ -149,7 +138,6 @@ fn news_of(alloc: Global, sessions: Vec<usize>) -> Result<News, AllocError> {
         working: AtomicU64::new(0),
         told: AtomicU64::new(0),
         asked: AtomicU64::new(0),
-        queue: Mutex::new(Queue::new(alloc, sessions.len())?),
         sessions,
         pump: Mutex::new(Shelf::empty()),
         service: Mutex::new(Shelf::empty()),
@@ -164,23 +152,6 @@ fn nodes_of(alloc: Global, count: usize, plan: &Plan<'_>) -> Result<Vec<News>, A
         nodes.push(news_of(alloc, sessions)?)?;
     }
     Ok(nodes)
-}
-
-/// Where each session of a plan stands. One at a node that isn't there has the place of none.
-fn seats_of(alloc: Global, nodes: &[News], plan: &Plan<'_>) -> Result<Vec<Seat>, AllocError> {
-    let mut seats = Vec::with_capacity(alloc, plan.sessions.len())?;
-    for session in plan.sessions.iter() {
-        let node = session.node.place();
-        seats.push(Seat { node, place: 0 })?;
-    }
-    for news in nodes {
-        for (place, session) in news.sessions.iter().enumerate() {
-            if let Some(seat) = seats.get_mut(*session) {
-                seat.place = place;
-            }
-        }
-    }
-    Ok(seats)
 }
 
 fn nothing_awaited(alloc: Global, sessions: usize) -> Result<Vec<Awaited>, AllocError> {
@@ -213,9 +184,9 @@ impl Shared {
             pumps,
             live: AtomicU64::new(sessions as u64),
             stopped: AtomicBool::new(false),
-            seats: seats_of(alloc, nodes.as_slice(), plan)?,
             nodes,
             awaited: nothing_awaited(alloc, sessions)?,
+            queue: Mutex::new(Queue::new(alloc, sessions)?),
         })
     }
 
@@ -276,57 +247,30 @@ impl Shared {
         }
     }
 
-    /// Whether it is the turn of the session at a place of the plan. Otherwise it is told once it is: one session of a node goes on at a time.
+    /// Whether it is the turn of the session at a place of the plan. Otherwise it is told once it is: one session goes on at a time.
     pub(crate) fn take_turn<R: Wait>(&self, rt: &R, session: usize) -> bool {
-        let Some(seat) = self.seats.get(session) else {
-            return true;
-        };
-        match self.nodes.get(seat.node) {
-            Some(news) => news.queue.lock(rt).take(seat.place),
-            None => true,
-        }
+        self.queue.lock(rt).take(session)
     }
 
     /// The session at a place of the plan goes on, whether or not it is its turn: from here on it is told of its answers at once.
     pub(crate) fn go_on<R: Wait>(&self, rt: &R, session: usize) {
-        let Some(seat) = self.seats.get(session) else {
-            return;
-        };
-        if let Some(news) = self.nodes.get(seat.node) {
-            news.queue.lock(rt).go_on(seat.place);
-        }
+        self.queue.lock(rt).go_on(session);
     }
 
-    /// The session at a place of the plan goes on no more, and stands so from now on. If it was its turn, the next of its node is told.
+    /// The session at a place of the plan goes on no more, and stands so from now on. If it was its turn, the next is told.
     pub(crate) fn leave_turn<R: Wait>(&self, rt: &R, session: usize, standing: Standing) {
-        let Some(seat) = self.seats.get(session) else {
-            return;
-        };
-        let Some(news) = self.nodes.get(seat.node) else {
-            return;
-        };
-        let next = news.queue.lock(rt).leave(seat.place, standing);
-        if let Some(place) = next {
-            if let Some(next) = news.sessions.get(place) {
-                self.clock.tell(self.threads.session(*next));
-            }
+        let next = self.queue.lock(rt).leave(session, standing);
+        if let Some(next) = next {
+            self.clock.tell(self.threads.session(next));
         }
     }
 
     /// Tells a session that there is an answer, by its number on the clock: at once, or as soon as it is its turn.
     pub(crate) fn recall<R: Wait>(&self, rt: &R, thread: usize) {
-        if self.is_told(rt, self.threads.place_of_session(thread)) {
+        let session = self.threads.place_of_session(thread);
+        let is_told = self.queue.lock(rt).recall(session);
+        if is_told {
             self.clock.tell(thread);
-        }
-    }
-
-    fn is_told<R: Wait>(&self, rt: &R, session: usize) -> bool {
-        let Some(seat) = self.seats.get(session) else {
-            return true;
-        };
-        match self.nodes.get(seat.node) {
-            Some(news) => news.queue.lock(rt).recall(seat.place),
-            None => true,
         }
     }
 

@@ -148,7 +148,7 @@ impl<'s, 't, 'p> Worker<'s, 't, 'p> {
         self.tell(rt, calls);
     }
 
-    /// Sessions that have an answer go on, each once no other of its node does.
+    /// Sessions that have an answer go on, each once no other does.
     fn recall_sessions<R: Wait>(&self, rt: &R, calls: &mut Calls) {
         for _ in 0..calls.count_sessions() {
             if let Some(session) = calls.next_session() {
