@@ -41,15 +41,17 @@ pub enum OperateFault {
     Memory,
 }
 
-/// Makes the step of a loan at its lender's station. One that the node refuses is dropped.
+/// Makes the step of a loan at its lender, where there is such a node. One that the node refuses is dropped.
 fn lend<R: Wait>(
     rt: &R,
     alloc: Global,
-    station: &Mutex<Station<'_>>,
+    network: &Network<'_, '_>,
     loan: &Loan,
 ) -> Result<(), AllocError> {
     let case = Case::lend(alloc, loan.order)?;
-    let _ = station.lock(rt).apply(Input::new(case));
+    if loan.lender.place() < network.stations().len() {
+        let _ = network.step_at(rt, loan.lender, Input::new(case));
+    }
     Ok(())
 }
 
@@ -57,13 +59,11 @@ fn lend<R: Wait>(
 fn lend_all<R: Wait>(
     rt: &R,
     alloc: Global,
-    stations: &Vec<Mutex<Station<'_>>>,
+    network: &Network<'_, '_>,
     loans: &[Loan],
 ) -> Result<(), AllocError> {
     for loan in loans {
-        if let Some(station) = stations.get(loan.lender.place()) {
-            lend(rt, alloc, station, loan)?;
-        }
+        lend(rt, alloc, network, loan)?;
     }
     Ok(())
 }
@@ -138,14 +138,15 @@ fn begin_all<R: Wait>(rt: &R, stations: &Vec<Mutex<Station<'_>>>, shared: &Share
 fn lend_and_run<H: Host + Sync, R: Threads + Wait + Sync>(
     rt: &R,
     alloc: Global,
-    stations: &Vec<Mutex<Station<'_>>>,
+    network: &Network<'_, '_>,
     plan: &Plan<'_>,
     hosts: &[H],
     shared: &Shared,
 ) -> Result<Vec<Vec<LineEnd>>, OperateFault> {
-    if lend_all(rt, alloc, stations, plan.loans.as_slice()).is_err() {
+    if lend_all(rt, alloc, network, plan.loans.as_slice()).is_err() {
         return Err(OperateFault::Memory);
     }
+    let stations = network.stations();
     begin_all(rt, stations, shared);
     run_all(rt, alloc, stations, plan, hosts, shared)
 }
@@ -246,7 +247,7 @@ pub fn operate<H: Host + Sync, R: Threads + Wait + Sync>(
     let Ok(number) = network.add_plan(rt, shared.clock()) else {
         return Err(OperateFault::Memory);
     };
-    let ends = lend_and_run(rt, alloc, stations, plan, hosts, &shared);
+    let ends = lend_and_run(rt, alloc, network, plan, hosts, &shared);
     network.remove_plan(rt, number);
     let ends = ends?;
     match fitted(alloc, plan.sessions.as_slice(), ends) {
