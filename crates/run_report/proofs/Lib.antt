@@ -1,5 +1,14 @@
 pub mod Counting
 pub mod Given
+pub mod AnswersRead
+pub mod Keyed
+pub mod OwnAgrees
+pub mod OwnCases
+pub mod OwnTimers
+pub mod SoundReads
+pub mod OwnCounts
+pub mod Unknown
+pub mod OwnLaw
 pub mod Values
 pub mod Texts
 pub mod Outcomes

@@ -1,6 +1,7 @@
 pub mod Answers
 pub mod Counted
 pub mod Own
+pub mod Stations
 pub mod Tally
 pub mod Reports
 pub mod Hosts

@@ -1,4 +1,5 @@
--- What a node approves by itself, and what it posts.
+-- How a trace is counted: its answers one after another, and its posts. These are working definitions: what a report says is defined by the
+-- law (Stations), and that their numbers are those of the law for every legal trace is proved (proofs/OwnLaw).
 use Rattle.std.specs.Prelude.{ℕ, ◌+◌, ◌&&◌, Bool, true, false, not, List, [], ◌∷◌, codes, nat_eq, bytes_eq, sum_by, count_by, Option, Some, None, option_and_then, if◌then◌else◌}
 use Rattle.std.specs.List.{list_any, starts_with}
 use Rattle.std.specs.Result.{result_ok}
@@ -53,7 +54,7 @@ abbrev pub answers_given : List Entry → List Answered
 answers_given [] = []
 answers_given (e ∷ es) = answers_onto (not (brings_answer e.input)) e.outputs (answers_given es)
 
--- own approvals
+-- answers that count as own approvals
 
 abbrev pub was_answered : Key → List Answered → Bool
 was_answered k answers = list_any (λ a. key_eq a.key k) answers
@@ -65,12 +66,12 @@ is_own a before = not (was_answered a.key before) && (a.approves && a.alone)
 abbrev pub one_if : Bool → ℕ
 one_if b = if b then 1 else 0
 
--- how many keys are approved so
+-- how many of the answers are such
 abbrev pub own_among : List Answered → ℕ
 own_among [] = 0
 own_among (a ∷ before) = one_if (is_own a before) + own_among before
 
--- how many keys a trace approves by itself
+-- how many of the answers of a trace
 abbrev pub own_of : List Entry → ℕ
 own_of trace = own_among (answers_given trace)
 
@@ -80,6 +81,6 @@ abbrev pub is_post : Output → Bool
 is_post (Post bytes) = true
 is_post _ = false
 
--- how many advices a trace posts
+-- how many outputs of a trace are posts
 abbrev pub posts_of : List Entry → ℕ
 posts_of trace = sum_by (λ e. count_by is_post e.outputs) trace

@@ -12,7 +12,7 @@ use Rattle.net_threads.specs.Station.{StationView}
 use Rattle.serde_json.specs.Data.{Data, number, unsigned, string, object, member, no_members}
 use Rattle.run_report.specs.Answers.{answers_data}
 use Rattle.run_report.specs.Counted.{counted}
-use Rattle.run_report.specs.Own.{own_of, posts_of}
+use Rattle.run_report.specs.Stations.{own_approvals, posts}
 
 -- the name of a node; names of tables are ASCII, and bytes that were no text would be replaced
 abbrev pub node_name : Network → ℕ → List ℕ
@@ -31,11 +31,11 @@ verdict_text t (AnswerStrange session line) = codes "answer " ++ (decimal sessio
 
 -- how many keys the nodes approved by themselves
 abbrev pub own_total : List StationView → ℕ
-own_total stations = counted (sum_by (λ s. own_of s.trace) stations)
+own_total stations = counted (sum_by own_approvals stations)
 
 -- how many advices were posted
 abbrev pub posts_total : List StationView → ℕ
-posts_total stations = counted (sum_by (λ s. posts_of s.trace) stations)
+posts_total stations = counted (sum_by posts stations)
 
 -- the keys of a report, in byte order
 abbrev pub object_of : Data → List ℕ → ℕ → ℕ → Data

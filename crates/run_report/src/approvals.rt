@@ -4,6 +4,7 @@ ghost use Rattle.run_report.specs.declared.answered.Answered.{Answered};
 ghost use Rattle.run_report.specs.Counted.{counted};
 ghost use Rattle.run_report.specs.Own.{is_response, brings_answer, answer_of, answer_in, output_answer, with_answer, answers_onto, answers_given, own_of};
 ghost use Rattle.run_report.specs.Reports.{own_total};
+ghost use Rattle.run_report.specs.Stations.{own_approvals};
 ghost use Rattle.run_report.specs.Tally.{Counts};
 
 use crate::answered::Answered;
@@ -114,8 +115,8 @@ fn add_entry(alloc: Global, tally: &mut Tally, entry: &Entry) -> Result<(), Allo
     add_outputs(alloc, tally, entry.outputs().as_slice(), alone)
 }
 
-/// How many keys the node of a station approved by itself.
-fn own_approvals(alloc: Global, station: &Station<'_>) -> Result<u64, AllocError>
+/// How many keys the answers in a station's trace show as approved by its node itself.
+fn own_in_trace(alloc: Global, station: &Station<'_>) -> Result<u64, AllocError>
     ensures { IfOk result (λ n. n ≡ counted (own_of station.now.trace)) }
 {
     let trace = station.trace();
@@ -124,6 +125,16 @@ fn own_approvals(alloc: Global, station: &Station<'_>) -> Result<u64, AllocError
         add_entry(alloc, &mut tally, entry)?;
     }
     Ok(tally.own)
+}
+
+/// How many keys the node of a station approved by itself.
+fn own_approvals(alloc: Global, station: &Station<'_>) -> Result<u64, AllocError>
+    ensures { IfOk result (λ n. n ≡ counted (own_approvals station.now)) }
+{
+    // The rows of a station's tables are sound and its trace is legal, so what the trace shows is what the law says.
+    let _ = station.tables().nodes();
+    let _ = station.trace();
+    own_in_trace(alloc, station)
 }
 
 /// How many keys the nodes approved by themselves.

@@ -3,6 +3,7 @@ ghost use Rattle.std.specs.Prelude.{◌≡◌, count_by};
 ghost use Rattle.run_report.specs.Counted.{counted};
 ghost use Rattle.run_report.specs.Own.{is_post, posts_of};
 ghost use Rattle.run_report.specs.Reports.{posts_total};
+ghost use Rattle.run_report.specs.Stations.{posts};
 
 use net_threads::Station;
 use request_book::Way;
@@ -28,8 +29,8 @@ fn posts_in(entry: &Entry) -> usize
         .count()
 }
 
-/// How many advices the node of a station posted.
-fn posts(station: &Station<'_>) -> u64
+/// How many posts stand in a station's trace.
+fn posts_in_trace(station: &Station<'_>) -> u64
     ensures { result ≡ counted (posts_of station.now.trace) }
 {
     let trace = station.trace();
@@ -38,6 +39,16 @@ fn posts(station: &Station<'_>) -> u64
         posts = posts.saturating_add(posts_in(entry) as u64);
     }
     posts
+}
+
+/// How many advices the node of a station posted.
+fn posts(station: &Station<'_>) -> u64
+    ensures { result ≡ counted (posts station.now) }
+{
+    // The rows of a station's tables are sound and its trace is legal, so each post in bytes is one in the history.
+    let _ = station.tables().nodes();
+    let _ = station.trace();
+    posts_in_trace(station)
 }
 
 /// How many advices were posted.
