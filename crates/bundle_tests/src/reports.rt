@@ -3,8 +3,10 @@ use crate::networks::TWO_NODES;
 use card_digits::{LinkNo, NodeNo};
 use net_tables::read_tables;
 use net_threads::{Ended, Finished, Verdict};
+use rank_cert::read_cert;
 use run_report::report;
 use std::test::Fail;
+use table_checker::check;
 
 #[test]
 fn each_verdict(rt: HostRuntime) -> Result<(), Fail> {
@@ -12,6 +14,12 @@ fn each_verdict(rt: HostRuntime) -> Result<(), Fail> {
     let text = TWO_NODES.tables(alloc)?;
     let Ok(tables) = read_tables(alloc, text.as_bytes()) else {
         return Err("no tables".into());
+    };
+    let Ok(cert) = read_cert(alloc, TWO_NODES.ranks().as_bytes()) else {
+        return Err("no ranks".into());
+    };
+    let Ok(accepted) = check(alloc, &tables, &cert) else {
+        return Err("not accepted".into());
     };
     let verdicts = [
         (Verdict::Linked, "yes"),
@@ -28,7 +36,7 @@ fn each_verdict(rt: HostRuntime) -> Result<(), Fail> {
             verdict: *verdict,
         };
         let want = format!(in alloc; r#"{{"answers":[],"linked":"{words}","own":0,"posts":0}}"#)?;
-        let printed = report(alloc, &tables, &ended, &finished)?;
+        let printed = report(alloc, &accepted, &ended, &finished)?;
         assert_eq!(rt; printed.as_str(), want.as_str());
     }
     Ok(())

@@ -12,6 +12,7 @@ use net_rows::Tables;
 use net_threads::{Ended, Finished, LineEnd, SessionEnd};
 use serde_json::{Value, json};
 use std::alloc::{AllocError, Global};
+use table_checker::Accepted;
 
 fn line_values(alloc: Global, lines: &[LineEnd]) -> Result<Vec<Value>, AllocError>
     ensures { IfOk result (λ vs. map view vs.items ≡ map end_data lines.now) }
@@ -80,12 +81,12 @@ fn report_value(
 /// `none` or `refused N`; `linked`, the verdict; `own`, how many keys were approved by nodes themselves; and `posts`.
 pub fn report(
     alloc: Global,
-    tables: &Tables,
+    accepted: &Accepted<'_>,
     ended: &Ended,
     finished: &Finished<'_>,
 ) -> Result<String, AllocError>
-    ensures { IfOk result (λ s. string_bytes s ≡ compact_text (report_data tables.now ended.now finished.now)) }
+    ensures { IfOk result (λ s. string_bytes s ≡ compact_text (report_data accepted.now ended.now finished.now)) }
 {
-    let value = report_value(alloc, tables, ended, finished)?;
+    let value = report_value(alloc, accepted.tables(), ended, finished)?;
     value.to_string(alloc)
 }

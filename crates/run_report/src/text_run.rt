@@ -61,7 +61,7 @@ fn run<R: Threads + Wait + Sync>(
     let Ok(finished) = network.finish(&ended) else {
         return Err(RunFault::Memory);
     };
-    match report(alloc, accepted.tables(), &ended, &finished) {
+    match report(alloc, accepted, &ended, &finished) {
         Ok(text) => Ok(text),
         Err(_) => Err(RunFault::Memory),
     }
