@@ -5,6 +5,7 @@ use net_tables::read_tables;
 use net_threads::{Ended, Finished, Verdict};
 use rank_cert::read_cert;
 use run_report::report;
+use sample_networks::ranks_of;
 use std::test::Fail;
 use table_checker::check;
 
@@ -15,7 +16,8 @@ fn each_verdict(rt: HostRuntime) -> Result<(), Fail> {
     let Ok(tables) = read_tables(alloc, text.as_bytes()) else {
         return Err("no tables".into());
     };
-    let Ok(cert) = read_cert(alloc, TWO_NODES.ranks().as_bytes()) else {
+    let ranks = ranks_of(alloc, TWO_NODES.ranks)?;
+    let Ok(cert) = read_cert(alloc, ranks.as_bytes()) else {
         return Err("no ranks".into());
     };
     let Ok(accepted) = check(alloc, &tables, &cert) else {
