@@ -61,14 +61,30 @@ impl Left {
     }
 }
 
-/// Runs a job with a buffer of so many bytes.
-fn run_job(
-    alloc: Global,
-    size: usize,
-    job: impl Fn(&mut [u8]) -> Result<Filled, FillFault>,
-) -> Result<Left, AllocError> {
+/// A job that a buffer is filled by.
+#[derive(Clone, Copy)]
+enum Work {
+    Check,
+    Make,
+    Replay,
+    DecodeLines,
+    DecodeFrames,
+}
+
+fn filled(alloc: Global, work: Work, input: &[u8], output: &mut [u8]) -> Result<Filled, FillFault> {
+    match work {
+        Work::Check => check_into(alloc, input, output),
+        Work::Make => make_into(alloc, input, output),
+        Work::Replay => replay_into(alloc, input, output),
+        Work::DecodeLines => decode_into(alloc, false, input, output),
+        Work::DecodeFrames => decode_into(alloc, true, input, output),
+    }
+}
+
+/// Does a job with a buffer of so many bytes.
+fn run_job(alloc: Global, size: usize, work: Work, input: &[u8]) -> Result<Left, AllocError> {
     let mut output = Vec::from_elem(alloc, BLANK, size)?;
-    let ended = job(output.as_mut_slice());
+    let ended = filled(alloc, work, input, output.as_mut_slice());
     Ok(Left { output, ended })
 }
 
@@ -77,9 +93,7 @@ fn accepted_tables(rt: HostRuntime) -> Result<(), Fail> {
     let alloc = rt.alloc();
     let input = format!(in alloc; "{TABLES}%%\n{RANKS}")?;
     for size in [9, 10, 4096] {
-        let left = run_job(alloc, size, |output| {
-            check_into(alloc, input.as_bytes(), output)
-        })?;
+        let left = run_job(alloc, size, Work::Check, input.as_bytes())?;
         assert!(rt; left.is_text("accepted\n", Status::Done));
     }
     Ok(())
@@ -90,9 +104,7 @@ fn a_buffer_that_is_too_small_is_left_as_it_was(rt: HostRuntime) -> Result<(), F
     let alloc = rt.alloc();
     let input = format!(in alloc; "{TABLES}%%\n{RANKS}")?;
     for size in [0, 1, 8] {
-        let left = run_job(alloc, size, |output| {
-            check_into(alloc, input.as_bytes(), output)
-        })?;
+        let left = run_job(alloc, size, Work::Check, input.as_bytes())?;
         assert!(rt; left.is_too_small(9));
     }
     Ok(())
@@ -102,9 +114,7 @@ fn a_buffer_that_is_too_small_is_left_as_it_was(rt: HostRuntime) -> Result<(), F
 fn refused_tables(rt: HostRuntime) -> Result<(), Fail> {
     let alloc = rt.alloc();
     let input = format!(in alloc; "{TABLES}%%\nRANKS 1\nA 4 0\nH 4 0\nEND\n")?;
-    let left = run_job(alloc, 100, |output| {
-        check_into(alloc, input.as_bytes(), output)
-    })?;
+    let left = run_job(alloc, 100, Work::Check, input.as_bytes())?;
     assert!(rt;
         left.is_text(
             "refused 2 not less: node A prefix 4 link AH\n",
@@ -117,9 +127,7 @@ fn refused_tables(rt: HostRuntime) -> Result<(), Fail> {
 #[test]
 fn ranks_that_were_made(rt: HostRuntime) -> Result<(), Fail> {
     let alloc = rt.alloc();
-    let left = run_job(alloc, 100, |output| {
-        make_into(alloc, TABLES.as_bytes(), output)
-    })?;
+    let left = run_job(alloc, 100, Work::Make, TABLES.as_bytes())?;
     assert!(rt; left.is_text(RANKS, Status::Done));
     Ok(())
 }
@@ -128,9 +136,7 @@ fn ranks_that_were_made(rt: HostRuntime) -> Result<(), Fail> {
 fn a_script(rt: HostRuntime) -> Result<(), Fail> {
     let alloc = rt.alloc();
     let input = format!(in alloc; "{TABLES}%%\n{RANKS}%%\ntick A\n")?;
-    let left = run_job(alloc, 100, |output| {
-        replay_into(alloc, input.as_bytes(), output)
-    })?;
+    let left = run_job(alloc, 100, Work::Replay, input.as_bytes())?;
     assert!(rt; left.is_text("1 A\n", Status::Done));
     Ok(())
 }
@@ -139,13 +145,9 @@ fn a_script(rt: HostRuntime) -> Result<(), Fail> {
 fn messages_by_lines_and_in_frames(rt: HostRuntime) -> Result<(), Fail> {
     let alloc = rt.alloc();
     let want = "message 1\nfault message 1 short\n";
-    let lines = run_job(alloc, 100, |output| {
-        decode_into(alloc, false, b"0100\n", output)
-    })?;
+    let lines = run_job(alloc, 100, Work::DecodeLines, b"0100\n")?;
     assert!(rt; lines.is_text(want, Status::Fault));
-    let frames = run_job(alloc, 100, |output| {
-        decode_into(alloc, true, b"\x00\x040100", output)
-    })?;
+    let frames = run_job(alloc, 100, Work::DecodeFrames, b"\x00\x040100")?;
     assert!(rt; frames.is_text(want, Status::Fault));
     Ok(())
 }
@@ -154,7 +156,7 @@ fn messages_by_lines_and_in_frames(rt: HostRuntime) -> Result<(), Fail> {
 fn an_input_that_is_too_long(rt: HostRuntime) -> Result<(), Fail> {
     let alloc = rt.alloc();
     let input = Vec::from_elem(alloc, b'\n', 16_777_217)?;
-    let left = run_job(alloc, 100, |output| check_into(alloc, &input, output))?;
+    let left = run_job(alloc, 100, Work::Check, &input)?;
     assert!(rt; left.is_text("fault bundle 2 too long\n", Status::Fault));
     Ok(())
 }
