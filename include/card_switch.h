@@ -56,7 +56,7 @@ enum {
 /* The verdict on tables and their ranks. The input has two parts, tables and ranks, with a line %% between them. */
 uint8_t cs_check(const uint8_t *input, size_t input_length, uint8_t *output, size_t output_capacity, size_t *output_length);
 
-/* Ranks for tables, or the circle for which there are none. The input has one part, tables. */
+/* Ranks for tables, or the circle for which there are none; or "gave up", where there was too little memory. The input has one part, tables. */
 uint8_t cs_make(const uint8_t *input, size_t input_length, uint8_t *output, size_t output_capacity, size_t *output_length);
 
 /* What the nodes of accepted tables put out for the lines of a script. The input has three parts: tables, ranks, a script. */

@@ -82,6 +82,12 @@ static bool names_memory(size_t length) {
     return false;
 }
 
+/* Whether the text says that no ranks were found in the memory that there was. */
+static bool gave_up(size_t length) {
+    static const char line[] = "gave up\n";
+    return length == sizeof line - 1 && memcmp(output, line, length) == 0;
+}
+
 /* Whether a call ended as the header says, where memory may have been refused. */
 static bool is_right(uint8_t status, size_t length) {
     if (status == CS_NO_MEMORY)
@@ -90,7 +96,7 @@ static bool is_right(uint8_t status, size_t length) {
         return false;
     if (status == wanted_status && length == wanted_length && memcmp(output, wanted, length) == 0)
         return true;
-    return status == CS_FAULT && names_memory(length);
+    return (status == CS_FAULT && names_memory(length)) || (status == CS_REFUSED && gave_up(length));
 }
 
 /* Does the job with one request refused. Returns whether there was such a request, or ends the program where the call went wrong. */
