@@ -1,5 +1,5 @@
 //! Names and ids.
-ghost use Rattle.std.specs.Prelude.{◌≡◌, ◌==◌, ◌<◌, All, IfSome, Some};
+ghost use Rattle.std.specs.Prelude.{◌≡◌, ◌==◌, ◌<◌, ◌≤◌, length, All, IfSome, Some};
 ghost use Rattle.std.specs.List.{list_all};
 ghost use Rattle.std.specs.Char.{is_ascii_alphanumeric};
 
@@ -48,6 +48,7 @@ impl Name {
     #[tactic(auto, using(crate::proofs::Within::name_ascii))]
     pub fn as_slice(&self) -> &[u8]
         ensures text { result.now ≡ self.now }
+        ensures few { length result.now ≤ 8 }
         ensures ascii { All (λ b. b < 128) result.now }
     {
         self.text.as_slice()
