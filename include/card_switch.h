@@ -1,5 +1,5 @@
 /*
- * card_switch.h: the jobs of the program card_switch, and its codec of messages, for programs in C and C++.
+ * card_switch.h: the jobs of the program card_switch, its codec of messages, and a node of a network, for programs in C and C++.
  *
  * What a function leaves is what the contract of its export says, where the caller keeps to what stands under "The caller's duties";
  * docs/GUARANTEES.md says which contracts are proved. docs/FORMATS.md has the formats of inputs, texts and messages.
@@ -15,8 +15,12 @@
  *  - malloc, realloc and free come from one allocator, and align a block to each power of two up to 16 that divides its size.
  *  - No function is called from a signal handler, nor from the child of a process with threads before it has executed another program.
  *
- * The library starts no thread, takes no lock, and keeps nothing from one call to the next. Any number of threads may call it at once, each
- * with buffers of its own. All memory that a call asks for is given back before it returns.
+ *  - A handle of a node begins as CS_NODE_EMPTY, and is changed by this library's functions alone: it isn't copied, and no two calls have one
+ *    handle at the same time.
+ *
+ * The library starts no thread and takes no lock, and keeps nothing from one call to the next but what a node's handle holds. Any number of
+ * threads may call it at once, each with buffers and handles of its own. A handle may go from one thread to another. All memory that a call asks
+ * for is given back before it returns, but for a node's, which cs_node_free gives back.
  */
 #ifndef CARD_SWITCH_H
 #define CARD_SWITCH_H
@@ -40,7 +44,11 @@ enum {
     /* The caller's buffer or array is too small, and what it has to have is told. */
     CS_TOO_SMALL = 3,
     /* There was no memory. */
-    CS_NO_MEMORY = 4
+    CS_NO_MEMORY = 4,
+    /* What a call names isn't there: a node, a link, an output, or an input that the node could take. */
+    CS_UNKNOWN = 5,
+    /* The handle holds no node. */
+    CS_EMPTY = 6
 };
 
 /*
@@ -136,6 +144,139 @@ typedef struct cs_writing {
  */
 uint8_t cs_message_write(const uint8_t *type, size_t type_length, const uint8_t *values, size_t values_length, const cs_element *elements,
                          size_t elements_length, uint8_t *output, size_t output_capacity, cs_writing *writing);
+
+/*
+ * A node of a network: what comes to it is told by cs_node_step, and what it puts out is then asked for by cs_node_output, one output after the
+ * other. The program that calls carries packets between nodes, tells of links and ticks, and asks the host.
+ */
+
+/* A handle of a node. What is in it is the library's alone. */
+typedef struct cs_node {
+    void *node;
+} cs_node;
+
+/* A handle that holds no node, to begin with: cs_node node = CS_NODE_EMPTY; */
+#define CS_NODE_EMPTY { NULL }
+
+/*
+ * Makes the node of a name, of 1 to 8 letters and digits, in tables that are accepted with these ranks. The texts are those that cs_check takes,
+ * without carriage returns. CS_DONE: *node holds it, and nothing came to it yet; what *node held before is freed. CS_REFUSED: the tables are
+ * refused with these ranks. CS_FAULT: the tables or the ranks have a fault; cs_check says which. CS_UNKNOWN: the tables have no node of this name.
+ * CS_NO_MEMORY: there was no memory. Unless it is CS_DONE, *node is as it was.
+ */
+uint8_t cs_node_new(const uint8_t *tables, size_t tables_length, const uint8_t *ranks, size_t ranks_length, const uint8_t *name, size_t name_length,
+                    cs_node *node);
+
+/* Frees a node with all its memory. The handle holds none afterwards; freeing it again does nothing. */
+void cs_node_free(cs_node *node);
+
+/* What comes to a node, and which bytes are told with it. */
+enum {
+    /* An acquirer enters a message: its bytes. */
+    CS_ENTER = 1,
+    /* A packet came by a link of the node, with its serial: the packet's bytes, as the node at the other end put it. */
+    CS_TAKE = 2,
+    /* A link of the node came up. */
+    CS_LINK_UP = 3,
+    /* A link of the node went down. */
+    CS_LINK_DOWN = 4,
+    /* A tick of the clock. */
+    CS_TICK = 5,
+    /* The host answers the ask of a number: the two characters of its response code. */
+    CS_HOST_ANSWER = 6,
+    /* The settlement date is another one from now on: its four digits, MMDD. */
+    CS_NEW_DATE = 7,
+    /* The node lends another a part of its limit for a card: the text "LENDER BORROWER CARD MMDD AMOUNT", as behind the word `lend` of a
+       script. LENDER is the node's name. */
+    CS_LEND = 8
+};
+
+/*
+ * An input. `number` is the serial of CS_TAKE and the number of the ask of CS_HOST_ANSWER, and `link` the place of a link in the tables, from 0, of
+ * CS_TAKE, CS_LINK_UP and CS_LINK_DOWN. Other inputs don't look at them.
+ */
+typedef struct cs_input {
+    uint64_t number;
+    size_t link;
+    uint8_t kind;
+} cs_input;
+
+/* Why a node refuses an input. The numbers are those that the program prints. */
+enum {
+    /* The bytes are no message, and message_fault and element say how (CS_FAULT_SHORT and so on). */
+    CS_REFUSAL_MESSAGE = 1,
+    /* The acquirer isn't attached to the node. */
+    CS_REFUSAL_ACQUIRER = 2,
+    /* A required element is missing: `element`. */
+    CS_REFUSAL_MISSING = 3,
+    /* The message's type isn't for this input. */
+    CS_REFUSAL_TYPE = 4,
+    /* The host was never asked so. */
+    CS_REFUSAL_ASK = 5,
+    /* A partial reversal without a right actual amount. */
+    CS_REFUSAL_REPLACEMENT = 6,
+    /* The node has had 1,000,000 inputs, which is the most. */
+    CS_REFUSAL_FULL = 7,
+    /* There is no place for an advice, or for a lent amount. */
+    CS_REFUSAL_NO_PLACE = 9,
+    /* The amount may not be lent. */
+    CS_REFUSAL_NOT_LENT = 10
+};
+
+/* What a step did: how many outputs it has; or the number of why it was refused, that of the message's fault and that of the element, 0 for none. */
+typedef struct cs_step {
+    size_t outputs;
+    uint8_t refusal;
+    uint8_t message_fault;
+    uint8_t element;
+} cs_step;
+
+/*
+ * Tells a node an input. CS_DONE: the node made its step, which has step->outputs outputs. CS_REFUSED: the node refuses the input, and *step says
+ * why. CS_UNKNOWN: these numbers and bytes are no input of this node: the kind is none, the link isn't the node's, or the bytes are no code, date or
+ * order. CS_NO_MEMORY: there was no memory; the same call may be tried again. CS_EMPTY: the handle holds no node. Unless it is CS_DONE the node is as
+ * it was, and its newest step is still the one before.
+ */
+uint8_t cs_node_step(cs_node *node, const cs_input *input, const uint8_t *bytes, size_t bytes_length, cs_step *step);
+
+/* Where an output goes. */
+enum {
+    /* A packet, to be carried over a link to its other end, where it is told as CS_TAKE with its serial. */
+    CS_PUT = 1,
+    /* The answer to the acquirer. */
+    CS_ANSWER = 2,
+    /* The host is asked, and its code is to be told as CS_HOST_ANSWER with the number of this ask. */
+    CS_ASK = 3,
+    /* A message for the host's books. */
+    CS_POST = 4
+};
+
+/* An output: the serial of a packet or the number of an ask, else 0; the place of a packet's link in the tables, else 0; how many bytes it has. */
+typedef struct cs_output {
+    uint64_t number;
+    size_t link;
+    size_t length;
+    uint8_t way;
+} cs_output;
+
+/* So many bytes have room for each output: no message has more than 13,218. */
+#define CS_MOST_OUTPUT 13218
+
+/*
+ * Gives the output at a place, from 0, among those of the node's newest step, any number of times. CS_DONE: output->length bytes stand at the front of
+ * `bytes`. CS_TOO_SMALL: the output has output->length bytes, which are more than `bytes_capacity`. CS_UNKNOWN: there are not so many outputs.
+ * CS_EMPTY: the handle holds no node. Unless it is CS_DONE the buffer is as it was; behind the output it always is.
+ */
+uint8_t cs_node_output(cs_node *node, size_t place, uint8_t *bytes, size_t bytes_capacity, cs_output *output);
+
+/* Finds a link of the tables by its name. CS_DONE: its place there, from 0, is in *link. CS_UNKNOWN: there is none. CS_EMPTY: the handle holds no node. */
+uint8_t cs_node_link(cs_node *node, const uint8_t *name, size_t name_length, size_t *link);
+
+/*
+ * Gives the name of the link at a place of the tables, 1 to 8 letters and digits; no zero byte ends it. CS_DONE: *name_length bytes stand at the front of
+ * `name`. CS_TOO_SMALL: it has *name_length bytes. CS_UNKNOWN: there are not so many links. CS_EMPTY: the handle holds no node.
+ */
+uint8_t cs_node_link_name(cs_node *node, size_t link, uint8_t *name, size_t name_capacity, size_t *name_length);
 
 #ifdef __cplusplus
 }

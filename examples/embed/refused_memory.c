@@ -3,9 +3,10 @@
  * with all behind it, until there is none left to refuse. Each call has to give back what it got, and to end as the header says. Prints how
  * many requests were refused.
  *
- * Linked with -Wl,--wrap=malloc,--wrap=realloc,--wrap=free, so that malloc, realloc and free of this file and of the library are those here.
+ * Linked as refusing.h says.
  */
 #include "card_switch.h"
+#include "refusing.h"
 
 #include <stdio.h>
 #include <stdlib.h>
@@ -13,43 +14,6 @@
 
 #define CAPACITY 65536
 #define BLANK 0x2e
-
-void *__real_malloc(size_t size);
-void *__real_realloc(void *old, size_t size);
-void __real_free(void *block);
-void *__wrap_malloc(size_t size);
-void *__wrap_realloc(void *old, size_t size);
-void __wrap_free(void *block);
-
-/* How many requests there were, which is refused, whether all later ones are too, and how many blocks weren't given back. */
-static size_t requests, refused_number;
-static bool refuses_later;
-static long blocks;
-
-static bool refuses(void) {
-    requests++;
-    return requests == refused_number || (refuses_later && requests > refused_number);
-}
-
-void *__wrap_malloc(size_t size) {
-    void *block = refuses() ? NULL : __real_malloc(size);
-    if (block != NULL)
-        blocks++;
-    return block;
-}
-
-void *__wrap_realloc(void *old, size_t size) {
-    void *block = refuses() ? NULL : __real_realloc(old, size);
-    if (block != NULL && old == NULL)
-        blocks++;
-    return block;
-}
-
-void __wrap_free(void *block) {
-    if (block != NULL)
-        blocks--;
-    __real_free(block);
-}
 
 static uint8_t input[65536], output[CAPACITY], wanted[CAPACITY];
 static size_t input_length, wanted_length;

@@ -1,14 +1,11 @@
 -- What a job leaves in a buffer.
-use Rattle.std.specs.Prelude.{◌≡◌, ℕ, ◌<◌, ◌≤◌, ◌⊎◌, List, ◌++◌, length, drop}
+use Rattle.std.specs.Prelude.{◌≡◌, ℕ, ◌<◌, ◌≤◌, ◌⊎◌, List, length}
+use Rattle.buffer_front.specs.Fronts.{with_front}
 use Rattle.bundle_text.specs.Answers.{Said, Answers, check_said}
 use Rattle.bundle_input.specs.declared.input.InputFault.TheVariants.{TooLong}
 use Rattle.bundle_input.specs.Input.{input_fault}
 use Rattle.replay_text.specs.Answers.{ReplayAnswers, replay_said}
 use Rattle.buffer_jobs.specs.declared.filled.Filled.{Filled}
-
--- a buffer after a text was put at its front: the text, and behind it what stood there before
-abbrev pub with_front : List ℕ → List ℕ → List ℕ
-with_front text old = text ++ drop (length text) old
 
 -- one such text was put at the front of a buffer, and these are its length and its status
 abbrev pub Fills : (Said → Type 0) → List ℕ → List ℕ → Filled → Type 0

@@ -1,7 +1,8 @@
 //! A text in a buffer.
-ghost use Rattle.std.specs.Prelude.{◌≡◌, ◌<◌, ℕ, true, false, Ok, Err, IfOk, OnErr, length};
-ghost use Rattle.buffer_jobs.specs.Buffer.{Fills, IsTooSmall, with_front};
+ghost use Rattle.std.specs.Prelude.{◌≡◌, ℕ, Ok, Err, IfOk, OnErr, length};
+ghost use Rattle.buffer_jobs.specs.Buffer.{Fills, IsTooSmall};
 
+use buffer_front::put_front;
 use bundle_text::{Answer, Status};
 use std::alloc::AllocError;
 use thiserror::Error;
@@ -22,19 +23,6 @@ pub enum FillFault {
     TooSmall(usize),
     #[error("no memory")]
     Memory,
-}
-
-/// Puts a text at the front of a buffer, where that has room for it. Returns whether it has.
-pub fn put_front(text: &[u8], output: &mut [u8]) -> bool
-    ensures put { result ≡ true → output.new ≡ with_front text.now output.old }
-    ensures room { result ≡ false → length output.old < length text.now }
-    ensures unchanged { result ≡ false → output.new ≡ output.old }
-{
-    if text.len() > output.len() {
-        return false;
-    }
-    output[..text.len()].copy_from_slice(text);
-    true
 }
 
 /// Puts the text of an answer that was made at the front of a buffer, where that has room for it.

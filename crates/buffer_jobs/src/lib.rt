@@ -7,5 +7,5 @@ mod gathered;
 mod jobs;
 
 pub use bundle_text::Status;
-pub use filled::{FillFault, Filled, put_front};
+pub use filled::{FillFault, Filled};
 pub use jobs::{check_into, decode_into, make_into, replay_into};

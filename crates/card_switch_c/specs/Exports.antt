@@ -4,7 +4,8 @@ use Rattle.bundle_text.specs.Answers.{Said, status_code}
 use Rattle.buffer_jobs.specs.declared.filled.Filled.{Filled}
 use Rattle.buffer_jobs.specs.declared.filled.FillFault.{FillFault}
 use Rattle.buffer_jobs.specs.declared.filled.FillFault.TheVariants.{TooSmall, Memory}
-use Rattle.buffer_jobs.specs.Buffer.{with_front, IsTooSmall}
+use Rattle.buffer_front.specs.Fronts.{with_front}
+use Rattle.buffer_jobs.specs.Buffer.{IsTooSmall}
 
 -- the length that is told, and the status that is returned, where a job ended so
 abbrev pub told_length : Result Filled FillFault → ℕ

@@ -1,3 +1,4 @@
 pub mod Exports
 pub mod Messages
+pub mod Nodes
 pub mod Writing

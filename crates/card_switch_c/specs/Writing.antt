@@ -8,7 +8,7 @@ use Rattle.iso_message.specs.Fields.{Fields}
 use Rattle.iso_message.specs.Spelling.{spelling}
 use Rattle.element_spans.specs.declared.span.ElementSpan.{ElementSpan}
 use Rattle.element_spans.specs.Building.{IsBuilt, IsFirstFault}
-use Rattle.buffer_jobs.specs.Buffer.{with_front}
+use Rattle.buffer_front.specs.Fronts.{with_front}
 use Rattle.card_switch_c.specs.Messages.{fault_number, fault_element}
 
 -- the canonical bytes of the message of a type and of the values at these spans

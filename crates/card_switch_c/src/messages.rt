@@ -5,7 +5,7 @@ ghost use Rattle.card_switch_c.specs.Messages.{fault_number, fault_element, Tell
 ghost use Rattle.card_switch_c.specs.Writing.{Spells, Writes, WantsBytes, IsWriteFault, TellsWriteFault, IsWriteStatus};
 
 use crate::status::{DONE, FAULT, NO_MEMORY, TOO_SMALL};
-use buffer_jobs::put_front;
+use buffer_front::put_front;
 use element_spans::{ElementSpan, LocateFault, build, locate, span_of};
 use iso_message::encode;
 use message_elements::{DecodeFault, Kind};
@@ -21,7 +21,7 @@ pub struct Reading {
 }
 
 /// The number of a fault, as it is printed.
-fn fault_number(fault: DecodeFault) -> u8
+pub(crate) fn fault_number(fault: DecodeFault) -> u8
     ensures { result ≡ fault_number fault }
 {
     match fault {
@@ -37,7 +37,7 @@ fn fault_number(fault: DecodeFault) -> u8
 }
 
 /// The element that a fault names, 0 where it names none.
-fn fault_element(fault: DecodeFault) -> u8
+pub(crate) fn fault_element(fault: DecodeFault) -> u8
     ensures { result ≡ fault_element fault }
 {
     match fault {

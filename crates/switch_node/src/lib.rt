@@ -8,10 +8,12 @@ mod input;
 mod inputs;
 mod node;
 mod notices;
+mod owned;
 mod requests;
 mod responses;
 
 pub use entry::Entry;
 pub use input::{BoxedLending, Case, Input};
 pub use node::Node;
+pub use owned::OwnedNode;
 pub use step_draft::{Output, Outputs};

@@ -1,0 +1,6 @@
+//! A node.
+#![tactic(auto)]
+
+mod messages;
+mod node;
+mod status;

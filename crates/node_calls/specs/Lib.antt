@@ -1,0 +1,4 @@
+pub mod Inputs
+pub mod Making
+pub mod Outputs
+pub mod Steps
