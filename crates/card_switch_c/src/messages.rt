@@ -143,6 +143,7 @@ pub extern "C" fn cs_message_write(
     ensures done { result ≡ 0 → Writes (Spells kind.now values.now elements.now) output.old output.new writing.new.length }
     ensures fault { result ≡ 2 → TellsWriteFault kind.now values.now elements.now writing.new.fault writing.new.element }
     ensures small { result ≡ 3 → WantsBytes (Spells kind.now values.now elements.now) (length output.old) writing.new.length }
+    ensures memory { result ≡ 4 → (writing.new.length ≡ 0) × (writing.new.fault ≡ 0) × (writing.new.element ≡ 0) }
     ensures unchanged { 0 < result → output.new ≡ output.old }
 {
     *writing = Writing {

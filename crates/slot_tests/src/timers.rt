@@ -29,7 +29,8 @@ fn capacity() -> u32 {
 impl Timers {
     /// Slots with the letters a, b and c, none of which is armed.
     fn new(alloc: Global) -> Result<Timers, AllocError> {
-        let wheel = Wheel::new(alloc, capacity(), 1, 1)?;
+        let mut wheel = Wheel::new(alloc, capacity(), 1, 1)?;
+        wheel.room(capacity())?;
         let mut timers = Timers {
             alloc,
             wheel,

@@ -29,6 +29,8 @@ pub(crate) enum Step {
     Reserve(u32, Option<StoreFault>),
     /// So many places are reserved, and then given back.
     GiveBack(u32),
+    /// There is memory for so many calls.
+    Room(usize),
     /// Noting an identity answers this.
     Note(u32, Option<StoreFault>),
     /// Whether the identity is known, and its advice held.
@@ -156,6 +158,11 @@ impl Desk {
         reserve_and_give_back(&mut self.book, count).is_ok()
     }
 
+    /// Whether there is memory for so many calls.
+    fn has_room(&mut self, count: usize) -> bool {
+        self.book.room(count).is_ok()
+    }
+
     /// Whether noting an identity answers this.
     fn notes(&mut self, number: u32, wanted: Option<StoreFault>) -> bool {
         self.book.note(id(number)).err() == wanted
@@ -197,6 +204,7 @@ impl Desk {
             Step::Tick(wanted) => self.ticks(wanted),
             Step::Reserve(count, wanted) => self.reserves(count, wanted),
             Step::GiveBack(count) => self.gives_back(count),
+            Step::Room(count) => self.has_room(count),
             Step::Note(number, wanted) => self.notes(number, wanted),
             Step::Known(number, known, held) => self.is_known(number, known, held),
             Step::WasPut(number, put) => self.was_put(number) == put,

@@ -73,3 +73,19 @@ fn all_reserved(rt: HostRuntime) -> Result<(), Fail> {
     assert_eq!(rt; first_wrong(rt.alloc(), STEPS)?, None);
     Ok(())
 }
+
+/// Memory is there for as many calls as a book has places, more than once, and what is stored stays.
+#[test]
+fn room_for_all(rt: HostRuntime) -> Result<(), Fail> {
+    const STEPS: &[Step] = &[
+        Step::Store(1, None),
+        Step::Room(65_535),
+        Step::Room(0),
+        Step::StoreAll(2, 3),
+        Step::Room(65_535),
+        Step::Known(1, true, true),
+        Step::Lend(1, None),
+    ];
+    assert_eq!(rt; first_wrong(rt.alloc(), STEPS)?, None);
+    Ok(())
+}
