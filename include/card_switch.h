@@ -4,9 +4,9 @@
  * What a function leaves is what the contract of its export says, where the caller keeps to what stands under "The caller's duties";
  * docs/GUARANTEES.md says which contracts are proved. docs/FORMATS.md has the formats of inputs, texts and messages.
  *
- * Link libcard_switch_c.a, and behind it the toolchain's liblibc_c.a, which calls malloc, realloc and free:
+ * Link libcard_switch.a, which calls malloc, realloc and free:
  *
- *     cc -std=c11 -I include client.c libcard_switch_c.a liblibc_c.a -o client
+ *     cc -std=c11 -I release client.c release/libcard_switch.a -o client
  *
  * The caller's duties, which nothing checks:
  *

@@ -6,7 +6,7 @@
 
 LIBRARY is a shared library, which a C compiler makes of the static one:
 
-    cc -shared -o libcard_switch.so -Wl,--whole-archive libcard_switch_c.a -Wl,--no-whole-archive liblibc_c.a"""
+    cc -shared -o libcard_switch.so -Wl,--whole-archive libcard_switch.a -Wl,--no-whole-archive"""
 
 import contextlib
 import ctypes
