@@ -3,6 +3,8 @@ ghost use Rattle.std.specs.Prelude.{◌≡◌, ◌<◌, All, IfOk, vec_len, leng
 ghost use Rattle.network_law.specs.Claims.{Safe, Covered, IsWithinLimits};
 ghost use Rattle.network_law.specs.Entries.{history};
 ghost use Rattle.network_law.specs.Runs.{IsLegal};
+ghost use Rattle.net_threads.specs.Pumping.{PumpsBy, PumpsSound};
+ghost use Rattle.net_threads.specs.Station.{StationView, Does};
 ghost use Rattle.net_threads.specs.Verdicts.{trace_of, Holds};
 ghost use Rattle.net_threads.specs.declared.ended.Verdict.TheVariants.{Linked};
 
@@ -128,6 +130,8 @@ impl<'n, 't> Network<'n, 't> {
     ghost use Rattle.network_law.specs.Claims.{Safe, Covered, IsWithinLimits};
     ghost use Rattle.network_law.specs.Entries.{history};
     ghost use Rattle.network_law.specs.Runs.{IsLegal};
+    ghost use Rattle.net_threads.specs.Pumping.{PumpsBy, PumpsSound};
+    ghost use Rattle.net_threads.specs.Station.{StationView, Does};
     ghost use Rattle.net_threads.specs.Verdicts.{trace_of, Holds};
     ghost use Rattle.net_threads.specs.declared.ended.Verdict.TheVariants.{Linked};
 
@@ -165,6 +169,7 @@ impl<'n, 't> Network<'n, 't> {
     /// nobody, and is heard when the station's pump wakes up the next time.
     pub fn step_at(&self, rt: &impl Wait, n: NodeNo, input: Input) -> Result<(), StationFault>
         requires { n < length self.now.t.nodes }
+        ensures { (before after : StationView) × Does before input result after }
     {
         let done = self.station(n).lock(rt).apply(input);
         self.plans.tell(rt, n.place());
@@ -174,6 +179,7 @@ impl<'n, 't> Network<'n, 't> {
     /// Takes the lock of one station alone, and pumps there. The pumps of plans that run are told of it.
     pub fn pump_once(&self, rt: &impl Wait, n: NodeNo)
         requires { n < length self.now.t.nodes }
+        ensures { (before after : StationView) × PumpsSound before after }
     {
         self.station(n).lock(rt).pump();
         self.plans.tell(rt, n.place());
@@ -182,6 +188,7 @@ impl<'n, 't> Network<'n, 't> {
     /// The same over bad links.
     pub fn pump_with(&self, rt: &impl Wait, n: NodeNo, faults: &Faults, held: &mut Held)
         requires { n < length self.now.t.nodes }
+        ensures { (before after : StationView) × PumpsBy faults.now.links.items before held.old after held.new }
     {
         self.station(n).lock(rt).pump_by(faults, held);
         self.plans.tell(rt, n.place());

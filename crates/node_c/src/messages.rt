@@ -31,4 +31,3 @@ pub(crate) fn fault_element(fault: DecodeFault) -> u8
         _ => 0,
     }
 }
-

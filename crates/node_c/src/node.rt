@@ -8,7 +8,9 @@ use crate::messages::{fault_element, fault_number};
 use crate::status::{DONE, EMPTY, FAULT, NO_MEMORY, REFUSED, TOO_SMALL, UNKNOWN};
 use buffer_front::put_front;
 use network_law::StepFault;
-use node_calls::{CallFault, MakeFault, NodeInput, NodeOutput, OutputFault, make_node, output_into, step};
+use node_calls::{
+    CallFault, MakeFault, NodeInput, NodeOutput, OutputFault, make_node, output_into, step,
+};
 use node_handle::NodeHandle;
 use std::alloc::Global;
 use switch_node::OwnedNode;
@@ -262,7 +264,11 @@ fn name_link(node: &OwnedNode, link: usize, name: &mut [u8], name_length: &mut u
     };
     let text = row.name.as_slice();
     *name_length = text.len();
-    if put_front(text, name) { DONE } else { TOO_SMALL }
+    if put_front(text, name) {
+        DONE
+    } else {
+        TOO_SMALL
+    }
 }
 
 /// Gives the name of the link at a place of the tables of a node. The node stays as it is.

@@ -31,6 +31,10 @@ kind_of n =
 abbrev pub own_loan : ℕ → Loan → Option Input
 own_loan n l = if l.lender == n then Some (Lend l.order.borrower l.order.card l.order.date l.order.amount) else None
 
+-- the order to lend that the bytes write, where the node is the lender
+abbrev pub lend_in : Network → ℕ → List ℕ → Option Input
+lend_in t n bytes = loan t bytes >>= own_loan n
+
 -- an input of this kind: by a link of the node, with the digits of a code or of a date, or with an order to lend as a script writes it
 abbrev pub input_of_kind : Network → ℕ → NodeInput → List ℕ → InputKind → Option Input
 input_of_kind t n told bytes kinds.Enter = Some (Enter bytes)
@@ -40,7 +44,7 @@ input_of_kind t n told bytes kinds.LinkDown = if is_link_of t n told.link then S
 input_of_kind t n told bytes kinds.Tick = Some Tick
 input_of_kind t n told bytes kinds.HostAnswer = option_map (λ code. HostAnswer told.number code) (read_code bytes)
 input_of_kind t n told bytes kinds.NewDate = option_map NewDate (result_ok (read_digits 4 4 bytes))
-input_of_kind t n told bytes kinds.Lend = loan t bytes >>= own_loan n
+input_of_kind t n told bytes kinds.Lend = lend_in t n bytes
 
 -- the input of a node of the tables that is told so, if any is
 abbrev pub input_in : Network → ℕ → NodeInput → List ℕ → Option Input

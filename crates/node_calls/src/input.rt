@@ -3,14 +3,12 @@ ghost use Rattle.std.specs.Prelude.{◌≡◌, IfOk, IfSome, Some, None, if◌th
 ghost use Rattle.std.specs.Option.{option_map};
 ghost use Rattle.std.specs.Result.{result_ok};
 ghost use Rattle.card_digits.specs.Reading.{read_digits};
-ghost use Rattle.card_digits.specs.Steps.{◌>>=◌};
 ghost use Rattle.message_elements.specs.Codes.{read_code};
 ghost use Rattle.network_law.specs.Entries.{Enter, LinkUp, LinkDown, HostAnswer, NewDate};
 ghost use Rattle.network_law.specs.Runs.{NamesOwnLink};
 ghost use Rattle.network_law.specs.Tables.{is_link_of};
-ghost use Rattle.replay_script.specs.Lines.{loan};
 ghost use Rattle.switch_node.specs.Inputs.{input_of};
-ghost use Rattle.node_calls.specs.Inputs.{kind_of, own_loan, input_of_kind, input_in};
+ghost use Rattle.node_calls.specs.Inputs.{kind_of, lend_in, input_of_kind, input_in};
 
 use card_digits::{DateLabel, LinkNo};
 use message_elements::Code;
@@ -67,6 +65,21 @@ fn kind_of(number: u8) -> Option<InputKind>
     }
 }
 
+/// The link at a place of the tables, where the node is one of its ends.
+fn own_link(node: &OwnedNode, link: usize) -> Option<LinkNo>
+    ensures { result ≡ if is_link_of node.now.t node.now.n link then Some link else None }
+{
+    if link >= node.tables().links().len() {
+        return None;
+    }
+    let link = LinkNo::new(link);
+    if node.has_link(link) {
+        Some(link)
+    } else {
+        None
+    }
+}
+
 /// Bytes that an acquirer enters.
 fn entered(alloc: Global, bytes: &[u8]) -> Result<Option<Case>, AllocError>
     ensures { IfOk result (λ case. option_map input_of case ≡ Some (Enter bytes.now)) }
@@ -84,10 +97,9 @@ fn taken(
 ) -> Result<Option<Case>, AllocError>
     ensures { IfOk result (λ case. option_map input_of case ≡ input_of_kind node.now.t node.now.n told bytes.now InputKind.Take) }
 {
-    let link = LinkNo::new(told.link);
-    if !node.has_link(link) {
+    let Some(link) = own_link(node, told.link) else {
         return Ok(None);
-    }
+    };
     let bytes = SharedBytes::from_slice(alloc, bytes)?;
     Ok(Some(Case::Take(link, told.number, bytes)))
 }
@@ -96,24 +108,16 @@ fn taken(
 fn link_up(node: &OwnedNode, link: usize) -> Option<Case>
     ensures { option_map input_of result ≡ if is_link_of node.now.t node.now.n link then Some (LinkUp link) else None }
 {
-    let link = LinkNo::new(link);
-    if node.has_link(link) {
-        Some(Case::LinkUp(link))
-    } else {
-        None
-    }
+    let link = own_link(node, link)?;
+    Some(Case::LinkUp(link))
 }
 
 /// A link of the node goes down.
 fn link_down(node: &OwnedNode, link: usize) -> Option<Case>
     ensures { option_map input_of result ≡ if is_link_of node.now.t node.now.n link then Some (LinkDown link) else None }
 {
-    let link = LinkNo::new(link);
-    if node.has_link(link) {
-        Some(Case::LinkDown(link))
-    } else {
-        None
-    }
+    let link = own_link(node, link)?;
+    Some(Case::LinkDown(link))
 }
 
 /// The host's code for an ask.
@@ -134,7 +138,7 @@ fn new_date(bytes: &[u8]) -> Option<Case>
 
 /// An order that the node is to carry out, none where the lender is another.
 fn lent(alloc: Global, node: &OwnedNode, bytes: &[u8]) -> Result<Option<Case>, AllocError>
-    ensures { IfOk result (λ case. option_map input_of case ≡ loan node.now.t bytes.now >>= own_loan node.now.n) }
+    ensures { IfOk result (λ case. option_map input_of case ≡ lend_in node.now.t node.now.n bytes.now) }
 {
     let Some(loan) = read_loan(node.tables(), bytes) else {
         return Ok(None);

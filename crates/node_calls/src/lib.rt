@@ -4,9 +4,9 @@
 mod input;
 mod making;
 mod output;
-mod step;
+mod stepping;
 
 pub use input::{InputKind, NodeInput};
 pub use making::{MakeFault, make_node};
 pub use output::{NodeOutput, OutputFault, output_into};
-pub use step::{CallFault, step};
+pub use stepping::{CallFault, step};

@@ -24,7 +24,7 @@ pub enum CallFault {
 
 impl From<AllocError> for CallFault {
     ghost use Rattle.std.specs.Prelude.{◌≡◌};
-    ghost use Rattle.node_calls.specs.declared.step.CallFault.TheVariants.{Memory};
+    ghost use Rattle.node_calls.specs.declared.stepping.CallFault.TheVariants.{Memory};
 
     ghost from_gives = { λ _ e. e ≡ Memory };
 
