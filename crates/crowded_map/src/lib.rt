@@ -1,0 +1,7 @@
+//! A map whose keys strangers may choose. Keys that would crowd a few places of a hashed table lie in a tree beside it.
+#![tactic(auto)]
+
+mod crowds;
+mod map;
+
+pub use map::CrowdedMap;
