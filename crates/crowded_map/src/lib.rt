@@ -3,5 +3,7 @@
 
 mod crowds;
 mod map;
+mod set;
 
 pub use map::CrowdedMap;
+pub use set::CrowdedSet;
