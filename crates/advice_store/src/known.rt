@@ -1,17 +1,17 @@
 //! The identities that are known.
 ghost use Rattle.std.specs.Prelude.{◌≡◌, ◌≤◌, ◌+◌, OnOk, cond, true, false};
-ghost use Rattle.std.specs.HashSet.{spare};
+ghost use Rattle.crowded_map.specs.Sets.{spare};
 ghost use Rattle.std.specs.List.{list_any};
 ghost use Rattle.message_keys.specs.Keys.{identity_eq};
 
+use crowded_map::CrowdedSet;
 use message_keys::AdviceId;
 use std::alloc::{AllocError, Global};
-use std::collections::HashSet;
 
 /// A set of identities.
 #[derive(Drop)]
 pub(crate) struct KnownIds {
-    pub ids: HashSet<AdviceId>,
+    pub ids: CrowdedSet<AdviceId>,
 }
 
 impl KnownIds {
@@ -20,7 +20,7 @@ impl KnownIds {
         ensures { (id : AdviceId) → list_any (identity_eq id) result.ids.keys ≡ false }
     {
         KnownIds {
-            ids: HashSet::new(alloc),
+            ids: CrowdedSet::new(alloc),
         }
     }
 
@@ -44,6 +44,6 @@ impl KnownIds {
         ensures keys { (other : AdviceId) → list_any (identity_eq other) self.new.ids.keys ≡ cond (identity_eq id other) true (list_any (identity_eq other) self.old.ids.keys) }
         ensures room { spare self.old.ids ≤ spare self.new.ids + 1 }
     {
-        let _ = self.ids.insert(id);
+        self.ids.insert(id);
     }
 }

@@ -1,6 +1,6 @@
 //! The places of items by what they are known by.
 ghost use Rattle.std.specs.Prelude.{◌≡◌, ◌≤◌, ◌+◌, OnOk, cond};
-ghost use Rattle.std.specs.HashMap.{spare};
+ghost use Rattle.crowded_map.specs.Values.{spare};
 ghost use Rattle.book_index.specs.Found.{found, joined};
 ghost use Rattle.advice_store.specs.Kept.{stored_eq};
 

@@ -6,8 +6,8 @@ ghost use Rattle.node_machine.specs.Lists.{is_among};
 ghost use Rattle.node_machine.specs.Books.{Advised, Granted};
 ghost use Rattle.node_machine.specs.Machine.{is_due, was_put};
 ghost use Rattle.advice_store.specs.Advices.{marked_by, has_id, packet_acked};
-ghost use Rattle.std.specs.HashMap.{spare};
-ghost use Rattle.std.specs.HashSet as sets;
+ghost use Rattle.crowded_map.specs.Values.{spare};
+ghost use Rattle.crowded_map.specs.Sets as sets;
 ghost use Rattle.std.specs.Vec.{vec_len, vec_capacity};
 ghost use Rattle.book_index.specs.Found.{found};
 ghost use Rattle.advice_store.specs.Kept.{HasRoom, item_is, stored_eq};
@@ -49,8 +49,8 @@ pub struct AdviceStore {
 
 impl Model for AdviceStore {
     ghost use Rattle.std.specs.Prelude.{vec_len, vec_capacity, drop};
-    ghost use Rattle.std.specs.HashMap.{spare};
-    ghost use Rattle.std.specs.HashSet as sets;
+    ghost use Rattle.crowded_map.specs.Values.{spare};
+    ghost use Rattle.crowded_map.specs.Sets as sets;
     ghost use Rattle.advice_store.specs.Advices.{Store};
     ghost use Rattle.advice_store.specs.Kept.{live, IsStore, HasRoom};
 

@@ -4,7 +4,7 @@ ghost use Rattle.std.specs.Prelude.{◌≡◌};
 use card_digits::{Card, DateLabel, ShortBytes};
 
 /// The digits of a card number and of a settlement date, as numbers. Limits count by it.
-#[derive(Clone, Copy, Debug, PartialEq, Eq, Hash)]
+#[derive(Clone, Copy, Debug, PartialEq, Eq, PartialOrd, Ord, Hash)]
 pub struct CardDay {
     pub card: ShortBytes<19>,
     pub date: ShortBytes<4>,

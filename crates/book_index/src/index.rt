@@ -1,10 +1,10 @@
 //! The places of keys.
 ghost use Rattle.std.specs.Prelude.{◌≡◌, ◌≤◌, ◌+◌, OnOk, cond};
-ghost use Rattle.std.specs.HashMap.{spare};
+ghost use Rattle.crowded_map.specs.Values.{spare};
 ghost use Rattle.book_index.specs.Found.{found, joined};
 
+use crowded_map::CrowdedMap;
 use std::alloc::{AllocError, Global};
-use std::collections::HashMap;
 use std::hash::Hash;
 
 /// Where the items of a key stand in a list.
@@ -18,17 +18,17 @@ pub enum Place {
 
 /// The places of keys in a list.
 #[derive(Drop)]
-pub struct PlaceIndex<K: Eq + Hash> {
-    pub places: HashMap<K, Place>,
+pub struct PlaceIndex<K: Eq + Hash + Ord> {
+    pub places: CrowdedMap<K, Place>,
 }
 
-impl<K: Eq + Hash + Copy + Drop> PlaceIndex<K> {
+impl<K: Eq + Hash + Ord + Copy + Drop> PlaceIndex<K> {
     /// No key has a place.
     pub fn new(alloc: Global) -> PlaceIndex<K>
         ensures { (k : K) → found (K.eq k) result.places.entries ≡ Place.Nowhere }
     {
         PlaceIndex {
-            places: HashMap::new(alloc),
+            places: CrowdedMap::new(alloc),
         }
     }
 

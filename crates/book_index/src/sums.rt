@@ -1,16 +1,16 @@
 //! Sums of amounts by card and settlement date.
 ghost use Rattle.std.specs.Prelude.{◌≡◌, ◌≤◌, ◌<◌, ◌+◌, ◌-◌, ◌^◌, [], OnOk};
-ghost use Rattle.std.specs.HashMap.{spare};
+ghost use Rattle.crowded_map.specs.Values.{spare};
 ghost use Rattle.book_index.specs.Sums.{sum_at, amount_on};
 
 use crate::card_day::CardDay;
+use crowded_map::CrowdedMap;
 use std::alloc::{AllocError, Global};
-use std::collections::HashMap;
 
 /// The sum of each card and settlement date.
 #[derive(Drop)]
 pub struct Sums {
-    pub amounts: HashMap<CardDay, u128>,
+    pub amounts: CrowdedMap<CardDay, u128>,
 }
 
 impl Sums {
@@ -19,7 +19,7 @@ impl Sums {
         ensures { result.amounts.entries ≡ [] }
     {
         Sums {
-            amounts: HashMap::new(alloc),
+            amounts: CrowdedMap::new(alloc),
         }
     }
 
@@ -57,8 +57,7 @@ impl Sums {
         ensures sums { (other : CardDay) → sum_at self.new.amounts.entries other ≡ sum_at self.old.amounts.entries other - amount_on day.now amount other }
         ensures room { spare self.new.amounts ≡ spare self.old.amounts }
     {
-        if let Some(sum) = self.amounts.get_mut(day) {
-            *sum -= amount as u128;
-        }
+        let sum = self.get(day);
+        let _ = self.amounts.replace(day, sum - amount as u128);
     }
 }

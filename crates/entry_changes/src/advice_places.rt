@@ -1,6 +1,6 @@
 //! The places of changes that say something of an advice.
 ghost use Rattle.std.specs.Prelude.{◌≡◌, ◌≤◌, OnOk, cond};
-ghost use Rattle.std.specs.HashMap.{spare};
+ghost use Rattle.crowded_map.specs.Values.{spare};
 ghost use Rattle.message_keys.specs.Keys.{identity_eq};
 ghost use Rattle.book_index.specs.Found.{found, joined};
 

@@ -1,6 +1,6 @@
 //! What is kept of the changes after the first few, so that a look goes over none of them.
 ghost use Rattle.std.specs.Prelude.{◌≡◌, ◌≤◌, ◌<◌, ◌^◌, ◌++◌, ◌∷◌, [], ℕ, List, true, OnOk, OnErr, length, drop};
-ghost use Rattle.std.specs.HashMap.{spare};
+ghost use Rattle.crowded_map.specs.Values.{spare};
 ghost use Rattle.message_keys.specs.declared.keys.AdviceId.{AdviceId};
 ghost use Rattle.node_books.specs.declared.effect.Effect.{Effect};
 ghost use Rattle.node_books.specs.declared.effect.Effect.TheVariants.{Sent};

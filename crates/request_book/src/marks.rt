@@ -4,8 +4,8 @@ ghost use Rattle.node_machine.specs.Lists.{is_marked, left_marks};
 ghost use Rattle.request_book.specs.Kept.{at_most};
 
 use card_digits::{Amount, Key};
+use crowded_map::CrowdedMap;
 use std::alloc::{AllocError, Global};
-use std::collections::HashMap;
 use std::marker::Model;
 
 /// A key of which a reversal was accepted, and the actual amount of that, which is 0 for a whole one.
@@ -47,13 +47,13 @@ impl Mark {
 #[derive(Drop)]
 pub(crate) struct Marks {
     list: Vec<Mark>,
-    least: HashMap<Key, Amount>,
+    least: CrowdedMap<Key, Amount>,
     room: usize,
 }
 
 impl Model for Marks {
     ghost use Rattle.std.specs.Prelude.{◌+◌, ◌≤◌, vec_len, vec_capacity};
-    ghost use Rattle.std.specs.HashMap.{spare};
+    ghost use Rattle.crowded_map.specs.Values.{spare};
     ghost use Rattle.request_book.specs.Kept.{MarksView, AreLeast};
 
     ghost Value = { MarksView };
@@ -86,7 +86,7 @@ impl Marks {
     {
         Marks {
             list: Vec::new(alloc),
-            least: HashMap::new(alloc),
+            least: CrowdedMap::new(alloc),
             room: 0,
         }
     }

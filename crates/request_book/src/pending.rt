@@ -1,6 +1,6 @@
 //! The pending book.
 ghost use Rattle.std.specs.Prelude.{◌≡◌, ◌+◌, ◌-◌, ◌<◌, ◌≤◌, ◌^◌, [], ◌∷◌, ◌++◌, map, Some, IfOk, OnOk, length, count_by, vec_len, vec_capacity, true, false, cond, is_some};
-ghost use Rattle.std.specs.HashMap.{spare};
+ghost use Rattle.crowded_map.specs.Values.{spare};
 ghost use Rattle.std.specs.Map.{lookup};
 ghost use Rattle.std.specs.Option.{option_copied};
 ghost use Rattle.card_digits.specs.declared.key.Key.{Key};
@@ -15,6 +15,7 @@ use crate::output::PreparedOutput;
 use crate::row::Row;
 use crate::spans::{Span, widen};
 use card_digits::{Amount, Key, LinkNo};
+use crowded_map::CrowdedMap;
 use message_keys::same_key;
 use std::alloc::{AllocError, Global};
 use std::collections::HashMap;
@@ -25,7 +26,7 @@ use std::marker::Model;
 #[derive(Drop)]
 pub struct PendingBook {
     rows: Vec<Row>,
-    places: HashMap<Key, usize>,
+    places: CrowdedMap<Key, usize>,
     pending: usize,
     spans: HashMap<u64, Span>,
     forwards: Forwards,
@@ -36,7 +37,8 @@ pub struct PendingBook {
 
 impl Model for PendingBook {
     ghost use Rattle.std.specs.Prelude.{vec_len, vec_capacity};
-    ghost use Rattle.std.specs.HashMap.{spare};
+    ghost use Rattle.std.specs.HashMap as table;
+    ghost use Rattle.crowded_map.specs.Values.{spare};
     ghost use Rattle.request_book.specs.Values.{Pending};
     ghost use Rattle.request_book.specs.Kept.{AreKept, HasRoom};
 
@@ -44,7 +46,7 @@ impl Model for PendingBook {
 
     ghost view = { λ b. record { rows = b.rows.items; marks = b.marks.marks; room = b.room } };
 
-    ghost invariant = { λ b. AreKept b.rows.items b.places.entries b.pending b.spans.entries b.forwards.list.items b.forwards.heads.entries × HasRoom b.room (vec_len b.rows) (vec_capacity b.rows) (spare b.places) b.marks.room (spare b.spans) (vec_len b.forwards.list) (vec_capacity b.forwards.list) (spare b.forwards.heads) };
+    ghost invariant = { λ b. AreKept b.rows.items b.places.entries b.pending b.spans.entries b.forwards.list.items b.forwards.heads.entries × HasRoom b.room (vec_len b.rows) (vec_capacity b.rows) (spare b.places) b.marks.room (table.spare b.spans) (vec_len b.forwards.list) (vec_capacity b.forwards.list) (table.spare b.forwards.heads) };
 }
 
 /// What an output does to the request of its key, and whether that was pending and no longer is.
@@ -84,20 +86,18 @@ fn newly(row: &Row, output: &PreparedOutput) -> Option<LinkNo>
 }
 
 /// Gives a key a place where it has none yet, and says whether it had one. A key is hashed once where it is new, as nearly all are.
-fn put_new(places: &mut HashMap<Key, usize>, key: Key, place: usize) -> bool
+fn put_new(places: &mut CrowdedMap<Key, usize>, key: Key, place: usize) -> bool
     requires { 1 ≤ spare places.old }
     ensures had { result ≡ is_some (lookup (key_eq key) places.old.entries) }
     ensures there { result ≡ true → (k : Key) → lookup (key_eq k) places.new.entries ≡ lookup (key_eq k) places.old.entries }
     ensures new { result ≡ false → (k : Key) → lookup (key_eq k) places.new.entries ≡ cond (key_eq key k) (Some place) (lookup (key_eq k) places.old.entries) }
     ensures room { spare places.old ≤ spare places.new + 1 }
 {
-    let Ok(Some(earlier)) = places.insert(key, place) else {
+    let Some(earlier) = places.insert(key, place) else {
         return false;
     };
     // The key keeps the place that it had.
-    if let Some(kept) = places.get_mut(&key) {
-        *kept = earlier;
-    }
+    let _ = places.replace(&key, earlier);
     true
 }
 
@@ -124,7 +124,7 @@ impl PendingBook {
     {
         PendingBook {
             rows: Vec::new(alloc),
-            places: HashMap::new(alloc),
+            places: CrowdedMap::new(alloc),
             pending: 0,
             spans: HashMap::new(alloc),
             forwards: Forwards::new(alloc),

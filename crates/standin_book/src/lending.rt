@@ -7,10 +7,10 @@ ghost use Rattle.standin_book.specs.Lending.{is_grant};
 ghost use Rattle.node_machine.specs.Machine.{borrowed_for, is_number_of, lent_for, packet_borrowed};
 
 use book_index::{CardDay, Sums};
+use crowded_map::CrowdedSet;
 use card_digits::{Amount, Card, DateLabel};
 use network_law::{Grant, GrantPacket};
 use std::alloc::{AllocError, Global};
-use std::collections::HashSet;
 use std::marker::Model;
 
 /// What the node lent in one grant. Its number is its place, from 1.
@@ -137,7 +137,7 @@ impl Borrowed {
 }
 
 /// What a grant is known by: its lender's id in eleven digits, and its number.
-#[derive(Clone, Copy, Debug, PartialEq, Eq, Hash)]
+#[derive(Clone, Copy, Debug, PartialEq, Eq, PartialOrd, Ord, Hash)]
 pub(crate) struct GrantNumber {
     pub lender: [u8; 11],
     pub number: u64,
@@ -152,14 +152,14 @@ pub struct LendingBook {
     lent_sums: Sums,
     borrowed_sums: Sums,
     // The grants that were taken.
-    taken: HashSet<GrantNumber>,
+    taken: CrowdedSet<GrantNumber>,
     room: usize,
 }
 
 impl Model for LendingBook {
     ghost use Rattle.std.specs.Prelude.{vec_len, vec_capacity};
-    ghost use Rattle.std.specs.HashMap.{spare};
-    ghost use Rattle.std.specs.HashSet as sets;
+    ghost use Rattle.crowded_map.specs.Values.{spare};
+    ghost use Rattle.crowded_map.specs.Sets as sets;
     ghost use Rattle.standin_book.specs.Lending.{Lending, IsLending, HasRoom};
 
     ghost Value = { Lending };
@@ -179,7 +179,7 @@ impl LendingBook {
             borrowed: Vec::new(alloc),
             lent_sums: Sums::new(alloc),
             borrowed_sums: Sums::new(alloc),
-            taken: HashSet::new(alloc),
+            taken: CrowdedSet::new(alloc),
             room: 0,
         }
     }
@@ -221,7 +221,7 @@ impl LendingBook {
             CardDay::of(grant.card(), grant.date()),
             grant.amount().value(),
         );
-        let _ = self.taken.insert(GrantNumber {
+        self.taken.insert(GrantNumber {
             lender: grant.lender(),
             number: grant.number(),
         });

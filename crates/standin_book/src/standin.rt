@@ -1,7 +1,7 @@
 //! The stand-in book.
 ghost use Rattle.std.specs.Prelude.{◌≡◌, ◌+◌, ◌-◌, ◌<◌, ◌≤◌, ◌^◌, [], ◌∷◌, ◌++◌, OnOk, length, set, get_or, true, if◌then◌else◌};
 ghost use Rattle.std.specs.List.{list_any};
-ghost use Rattle.std.specs.HashMap.{spare};
+ghost use Rattle.crowded_map.specs.Values.{spare};
 ghost use Rattle.std.specs.Vec.{vec_len, vec_capacity};
 ghost use Rattle.node_machine.specs.Lists.{Take, give_back_to, used};
 ghost use Rattle.book_index.specs.Found.{found, holds_at, Tells};
@@ -28,7 +28,7 @@ pub struct StandInBook {
 
 impl Model for StandInBook {
     ghost use Rattle.std.specs.Prelude.{vec_len, vec_capacity};
-    ghost use Rattle.std.specs.HashMap.{spare};
+    ghost use Rattle.crowded_map.specs.Values.{spare};
     ghost use Rattle.standin_book.specs.Approvals.{Approvals, IsBook};
 
     ghost Value = { Approvals };
@@ -170,9 +170,8 @@ fn move_place(places: &mut PlaceIndex<Key>, key: &Key, place: usize)
     ensures found { (k : Key) → found (key_eq k) places.new.places.entries ≡ (if key_eq key.now k then moved place (found (key_eq key.now) places.old.places.entries) else found (key_eq k) places.old.places.entries) }
     ensures room { spare places.new.places ≡ spare places.old.places }
 {
-    if let Some(known) = places.places.get_mut(key) {
-        *known = moved_to(*known, place);
-    }
+    let moved = moved_to(places.find(key), place);
+    let _ = places.places.replace(key, moved);
 }
 
 /// The approvals from the gap on stand one place earlier than the index has them.

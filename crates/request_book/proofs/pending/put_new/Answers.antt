@@ -1,14 +1,20 @@
-use Rattle.std.proofs.Common.{rules, Some, sym, ◌∙◌}
-use Rattle.std.specs.Prelude.{IsSome}
-use Rattle.std.specs.HashMap.{Updates, UpdatesBy, get_by}
+use Rattle.std.proofs.Common.{rules, ◌≡◌, Some, true, cond, sym, ap, refl, subst, ◌∙◌}
+use Rattle.std.specs.Prelude.{is_some, ◌&&◌}
+use Rattle.std.specs.Map.{lookup}
+use Rattle.card_digits.specs.declared.key.Key.{Key}
 use Rattle.message_keys.specs.Keys.{key_eq}
+use Rattle.message_keys.proofs.Equality.{key_eq_refl}
 use Rattle.request_book.proofs.Places.{restored}
 use Rattle.request_book.proofs.pending.put_new.Goals as goal
 
-pub returns-in-Some-clause-there : goal.returns-in-Some-clause-there
-returns-in-Some-clause-there c =
-    let e = c.in-Ok-Some.earlier in
-    let put : Updates key_eq c.args.places.now c.insert.new.self c.args.key (Some c.args.place) = c.in-Ok-Some.ensures.updates in
-    let some : IsSome (get_by (key_eq c.args.key) c.insert.new.self) = search rules in
-    let back : UpdatesBy key_eq (key_eq c.args.key) c.insert.new.self (c.get_mut.follows.lender e) (Some e) = (c.get_mut.follows.holds e).3 some in
-    λ is. restored c.args.key c.args.place e c.args.places.now.entries c.insert.new.self.entries (c.get_mut.follows.lender e).entries put.0 back.0 (sym c.in-Ok-Some.field-0-is ∙ c.in-Ok-Some.ensures.old)
+pub returns-clause-there : goal.returns-clause-there
+returns-clause-there c =
+    let e = c.in-Some.earlier in
+    let key = c.args.key in
+    let new = c.insert.new.self.entries in
+    let put : (k : Key) → lookup (key_eq k) new ≡ cond (key_eq key k) (Some c.args.place) (lookup (key_eq k) c.args.places.now.entries) = c.in-Some.ensures.updates in
+    let own : lookup (key_eq key) new ≡ Some c.args.place = put key ∙ rw (key_eq_refl key) refl in
+    let had : is_some c.replace.result ≡ true = ap is_some (c.replace.ensures.old ∙ own) in
+    let back : (k : Key) → lookup (key_eq k) c.replace.new.self.entries ≡ cond (key_eq key k) (Some e) (lookup (key_eq k) new) =
+        λ k. subst (λ b. lookup (key_eq k) c.replace.new.self.entries ≡ cond (b && key_eq key k) (Some e) (lookup (key_eq k) new)) had (c.replace.ensures.updates k) in
+    λ is. restored key c.args.place e c.args.places.now.entries new c.replace.new.self.entries put back c.in-Some.ensures.old

@@ -1,5 +1,5 @@
 use Rattle.std.proofs.Common.{◌≡◌}
-use Rattle.std.specs.HashMap.{spare}
+use Rattle.crowded_map.specs.Values.{spare}
 use Rattle.card_digits.specs.declared.key.Key.{Key}
 use Rattle.book_index.specs.Found.{found, holds_at, Tells}
 use Rattle.message_keys.specs.Keys.{key_eq}

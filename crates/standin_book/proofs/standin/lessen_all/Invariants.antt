@@ -1,5 +1,5 @@
 use Rattle.std.proofs.Common.{◌≡◌, ◌++◌, take, drop, map}
-use Rattle.std.specs.HashMap.{spare}
+use Rattle.crowded_map.specs.Values.{spare}
 use Rattle.standin_book.specs.Approvals.{lessened, used_on}
 use Rattle.standin_book.specs.Sums.{AreSums}
 use Rattle.standin_book.proofs.standin.lessen_all.Given as goal

@@ -1,15 +1,10 @@
-use Rattle.std.proofs.Common.{arith, ◌∙◌, ◌≡◌, refl, ap, true, Result, Ok, Err, IsOk, OnOk}
-use Rattle.std.specs.HashSet.{Updates}
+use Rattle.std.proofs.Common.{arith, ◌∙◌, ◌≡◌, refl, ap}
 use Rattle.book_index.specs.declared.card_day.CardDay.{CardDay}
-use Rattle.standin_book.specs.Lending.{Lending, borrowed_on, number_eq}
+use Rattle.standin_book.specs.Lending.{Lending, borrowed_on}
 use Rattle.standin_book.specs.declared.lending.GrantNumber.{GrantNumber}
 use Rattle.standin_book.proofs.Sums.{sums_more}
 use Rattle.standin_book.proofs.Taken.{numbered_more}
 use Rattle.standin_book.proofs.lending.LendingBook.borrow.Goals as goal
-
-on_ok : {A E P : Type 0} (r : Result A E) → IsOk r → OnOk r P → P
-on_ok (Ok x) e h = h
-on_ok (Err x) e h = absurd (cc)
 
 pub invariant_of-self : goal.invariant_of-self
 invariant_of-self c =
@@ -27,19 +22,18 @@ invariant_of-self c =
     let len = p.len in
     let cap = p.capacity in
     let a = c.add.ensures.room in
-    let s = c.insert.ensures.spare in
+    let s = c.insert.ensures.room in
     let r1 = r.in_loans in
     let r2 = r.in_borrowed in
     let r3 = r.in_lent in
     let r4 = r.in_owed in
     let r5 = r.in_numbers in
     let v : i.room ≡ c.args.self.now.room = ap (λ (l : Lending). l.room) c.self.view_is in
-    let put : Updates number_eq i.taken c.insert.new.self K true = on_ok c.insert.result (c.insert.ensures.succeeds (omega (arith, r5, q, v))) c.insert.ensures.updates in
     rw p.items (
       record {
         lent_sums = h.lent_sums;
         owed_sums = sums_more borrowed_on i.borrowed.items x D x.amount i.borrowed_sums.amounts.entries c.add.new.self.amounts.entries (λ q. refl) (omega (arith, n, few)) (λ q. c.add.ensures.sums q ∙ rw (day, n) refl) h.owed_sums;
-        numbered = numbered_more i.taken.keys c.insert.new.self.keys K i.borrowed.items x c.lender.ensures c.number.ensures put.0 h.numbered;
+        numbered = numbered_more i.taken.keys c.insert.new.self.keys K i.borrowed.items x c.lender.ensures c.number.ensures c.insert.ensures.keys h.numbered;
       },
       record {
         in_loans = omega (arith, r1);
