@@ -1,6 +1,0 @@
-//! A node.
-#![tactic(auto)]
-
-mod messages;
-mod node;
-mod status;
