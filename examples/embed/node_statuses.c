@@ -61,7 +61,7 @@ static void making(void) {
     WANTED(make("", &node) == CS_UNKNOWN && node.node == NULL);
     WANTED(cs_node_new(tables, 7, ranks, ranks_length, (const uint8_t *)"A", 1, &node) == CS_FAULT && node.node == NULL);
     WANTED(cs_node_new(tables, tables_length, ranks, 3, (const uint8_t *)"A", 1, &node) == CS_FAULT && node.node == NULL);
-    WANTED(cs_node_new(tables, tables_length, (const uint8_t *)"RANKS 1\n", 8, (const uint8_t *)"A", 1, &node) == CS_REFUSED && node.node == NULL);
+    WANTED(cs_node_new(tables, tables_length, (const uint8_t *)"RANKS 1\nEND\n", 12, (const uint8_t *)"A", 1, &node) == CS_REFUSED && node.node == NULL);
     WANTED(make("A", &node) == CS_DONE && node.node != NULL);
     /* The node that stood there is freed. */
     WANTED(make("H", &node) == CS_DONE && node.node != NULL);
