@@ -1,5 +1,5 @@
 -- Counts of keys by stretches of a table.
-use Rattle.std.specs.Prelude.{ℕ, suc, [], ◌∷◌, if◌then◌else◌, ◌+◌, ◌-◌, ◌*◌, ◌/◌, min, Bool, ◌&&◌, nat_lt, cond, List, length, set, slice_get, bit_and, unwrap_or}
+use Rattle.std.specs.Prelude.{ℕ, suc, [], ◌∷◌, ◌≡◌, ◌<◌, ◌+◌, ◌-◌, ◌*◌, ◌/◌, min, Bool, ◌&&◌, nat_lt, List, length, set, slice_get, bit_and, unwrap_or}
 
 -- the stretch of a hash among so many, a power of two
 abbrev pub place_in : ℕ → ℕ → ℕ
@@ -36,9 +36,9 @@ with_key hash c = record { stretches = raised (place_in hash (length c.stretches
 abbrev pub without_key : ℕ → Counts → Counts
 without_key hash c = record { stretches = lowered (place_in hash (length c.stretches)) c.stretches; finer = lowered (place_in hash (length c.finer)) c.finer; alike = lowered (alike_in hash (length c.alike)) c.alike }
 
--- how many stretches a table has with room for so many keys, and none if it is small
+-- how many stretches a table has with room for so many keys
 abbrev pub stretches_for : ℕ → ℕ
-stretches_for capacity = if nat_lt (capacity / 144) 4 then 0 else capacity / 144
+stretches_for capacity = capacity / 144
 
 -- with a count more at a place
 abbrev pub increased : ℕ → ℕ → List ℕ → List ℕ
@@ -48,3 +48,7 @@ increased i more counts = set counts i (min (count_at counts i + more) 255)
 abbrev pub poured : ℕ → List ℕ → List ℕ → List ℕ
 poured i [] counts = counts
 poured i (c ∷ cs) counts = poured (suc i) cs (increased (bit_and i (length counts - 1)) c counts)
+
+-- there are so many counts, each half of the one that counted its keys and others
+abbrev pub AreHalved : List ℕ → List ℕ → ℕ → Type 0
+AreHalved whole halves n = (length halves ≡ n) × ((i : ℕ) → i < n → count_at halves i ≡ count_at whole (bit_and i (length whole - 1)) / 2)

@@ -1,6 +1,6 @@
 //! How many keys of a table share a stretch of its places.
 ghost use Rattle.std.specs.Prelude.{◌≡◌, ◌*◌, ◌^◌, ◌<◌, [], Some, None, OnOk, OnErr, cond, length, nat_lt, replicate};
-ghost use Rattle.crowded_map.specs.Counts.{place_in, alike_in, count_at, raised, lowered, has_room, with_key, without_key, stretches_for, increased, poured};
+ghost use Rattle.crowded_map.specs.Counts.{place_in, alike_in, count_at, raised, lowered, has_room, with_key, without_key, stretches_for, increased, poured, AreHalved};
 
 use std::alloc::{AllocError, Global};
 use std::marker::Model;
@@ -14,9 +14,6 @@ const MOST: u8 = 192;
 
 /// For how many keys a table grows at each place.
 const KEYS_AT_PLACE: usize = 9;
-
-/// A table with fewer stretches is small, and its keys aren't counted.
-const FEW: usize = 4;
 
 /// Before it compares keys, a table compares the highest bits of their hashes. The keys of a stretch are counted by six of these too.
 const TAGS: usize = 64;
@@ -157,30 +154,30 @@ impl Crowds {
         self.finer = finer;
     }
 
-    /// Makes the counts of the stretches of a table with room for so many keys. By their highest bits keys are counted anew.
+    /// Makes the counts of the stretches of a table with room for so many keys. Of the keys that are alike each new stretch is taken to have half.
     pub fn divide(&mut self, alloc: Global, capacity: usize) -> Result<(), AllocError>
         ensures finer { self.new.finer ≡ self.old.finer }
         ensures stretches { OnOk result (self.new.stretches ≡ poured 0 self.old.finer (replicate (stretches_for capacity) 0)) }
-        ensures alike { OnOk result (self.new.alike ≡ replicate (stretches_for capacity * 64) 0) }
+        ensures alike { OnOk result (AreHalved self.old.alike self.new.alike (stretches_for capacity * 64)) }
         ensures err { OnErr result (self.new ≡ self.old) }
     {
         let count = stretches_for(capacity);
         let mut stretches = vec![in alloc; 0; count]?;
-        let alike = vec![in alloc; 0; count * TAGS]?;
+        let mut alike = vec![in alloc; 0; count * TAGS]?;
         pour(&self.finer, &mut stretches);
+        halve(&self.alike, &mut alike);
         self.stretches = stretches;
         self.alike = alike;
         Ok(())
     }
 }
 
-/// How many stretches a table has with room for so many keys, and none if it is small.
+/// How many stretches a table has with room for so many keys. A table that is smaller than a stretch has none, and its keys aren't counted.
 fn stretches_for(capacity: usize) -> usize
     ensures value { result ≡ stretches_for capacity }
     ensures few { result < 2 ^ 58 }
 {
-    let count = capacity / (KEYS_AT_PLACE * STRETCH);
-    if count < FEW { 0 } else { count }
+    capacity / (KEYS_AT_PLACE * STRETCH)
 }
 
 /// So many more, as far as a byte goes.
@@ -199,6 +196,15 @@ fn pour(finer: &[u8], counts: &mut [u8])
     for i in 0..finer.len() {
         let place = i & counts.len().saturating_sub(1);
         increase(counts, place, finer[i]);
+    }
+}
+
+/// Makes counts of halves of others.
+fn halve(whole: &[u8], halves: &mut [u8])
+    ensures { AreHalved whole.now halves.new (length halves.old) }
+{
+    for i in 0..halves.len() {
+        halves[i] = count_at(whole, i & whole.len().saturating_sub(1)) / 2;
     }
 }
 

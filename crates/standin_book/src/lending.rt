@@ -7,8 +7,8 @@ ghost use Rattle.standin_book.specs.Lending.{is_grant};
 ghost use Rattle.node_machine.specs.Machine.{borrowed_for, is_number_of, lent_for, packet_borrowed};
 
 use book_index::{CardDay, Sums};
-use crowded_map::CrowdedSet;
 use card_digits::{Amount, Card, DateLabel};
+use crowded_map::CrowdedSet;
 use network_law::{Grant, GrantPacket};
 use std::alloc::{AllocError, Global};
 use std::marker::Model;

@@ -16,5 +16,5 @@ returns-clause-there c =
     let own : lookup (key_eq key) new ≡ Some c.args.place = put key ∙ rw (key_eq_refl key) refl in
     let had : is_some c.replace.result ≡ true = ap is_some (c.replace.ensures.old ∙ own) in
     let back : (k : Key) → lookup (key_eq k) c.replace.new.self.entries ≡ cond (key_eq key k) (Some e) (lookup (key_eq k) new) =
-        λ k. subst (λ b. lookup (key_eq k) c.replace.new.self.entries ≡ cond (b && key_eq key k) (Some e) (lookup (key_eq k) new)) had (c.replace.ensures.updates k) in
+    λ k. subst (λ b. lookup (key_eq k) c.replace.new.self.entries ≡ cond (b && key_eq key k) (Some e) (lookup (key_eq k) new)) had (c.replace.ensures.updates k) in
     λ is. restored key c.args.place e c.args.places.now.entries new c.replace.new.self.entries put back c.in-Some.ensures.old
