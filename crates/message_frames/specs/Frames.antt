@@ -1,8 +1,8 @@
 -- Frames: a length of two bytes, the high one first, and so many bytes.
-use Rattle.std.specs.Prelude.{ℕ, ◌<◌, ◌≤◌, List, [], ◌∷◌, ◌++◌, length, Option, Some, None, IfSome}
+use Rattle.std.specs.Prelude.{◌≡◌, ℕ, ◌<◌, ◌≤◌, List, [], ◌∷◌, ◌++◌, length, Option, Some, None, IfSome}
 use Rattle.std.specs.Int.{w16, to_be_bytes, from_be_bytes}
 use Rattle.std.specs.Io.KnownBytes.{Consumes, IsAtEnd, Keeps}
-use Rattle.card_digits.specs.Stream.{AppendsFront}
+use Rattle.card_digits.specs.Stream.{AppendsFront, one_more}
 use Rattle.message_frames.specs.declared.frame.FrameFault.{FrameFault}
 use Rattle.message_frames.specs.declared.frame.FrameFault.TheVariants as faults
 
@@ -41,8 +41,8 @@ FailsInBody head old faults.Memory = Unit {0}
 FailsInBody head old faults.Long = ⊥
 FailsInBody head old faults.Write = ⊥
 
--- when each fault of writing comes, and what was written
-abbrev pub FailsToWrite : Option (List ℕ) → Option (List ℕ) → ℕ → List ℕ → FrameFault → Type 0
-FailsToWrite old new failures bytes faults.Long = (65_536 ≤ length bytes) × Keeps old new
-FailsToWrite old new failures bytes faults.Write = (length bytes < 65_536) × AppendsFront old new (frame bytes) × (0 < failures)
-FailsToWrite old new failures bytes _ = ⊥
+-- when each fault of writing comes, what was written, and how many writes had failed before the call and behind it
+abbrev pub FailsToWrite : Option (List ℕ) → Option (List ℕ) → ℕ → ℕ → List ℕ → FrameFault → Type 0
+FailsToWrite old new before after bytes faults.Long = (65_536 ≤ length bytes) × Keeps old new × (after ≡ before)
+FailsToWrite old new before after bytes faults.Write = (length bytes < 65_536) × AppendsFront old new (frame bytes) × (after ≡ one_more before)
+FailsToWrite old new before after bytes _ = ⊥

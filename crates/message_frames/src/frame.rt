@@ -2,7 +2,7 @@
 ghost use Rattle.std.specs.Prelude.{◌≡◌, ◌≤◌, ◌<◌, ◌-◌, ◌⊎◌, length, take, IfOk, OnOk, IfErr, option_map};
 ghost use Rattle.std.specs.Int.{w16, to_be_bytes};
 ghost use Rattle.std.specs.Io.KnownBytes.{Consumes, IsAtEnd, Appends};
-ghost use Rattle.card_digits.specs.Stream.{TookTurns};
+ghost use Rattle.card_digits.specs.Stream.{TookTurns, one_more};
 ghost use Rattle.message_frames.specs.Frames.{frame, ReadsFrame, FailsToWrite, FailsToRead, FailsInBody};
 ghost use Rattle.message_frames.specs.declared.frame.FrameFault.TheVariants.{Read};
 
@@ -60,7 +60,8 @@ impl From<WriteFault> for FrameFault {
 pub fn read_frame<R: Source>(alloc: Global, reader: &mut R) -> Result<Option<Vec<u8>>, FrameFault>
     ensures ok { IfOk result (λ found. ReadsFrame (R.remaining reader.old) (R.remaining reader.new) (option_map (λ v. v.items) found)) }
     ensures fault { IfErr result (λ e. FailsToRead (R.remaining reader.old) e) }
-    ensures cause { IfErr result (λ e. e ≡ Read → (0 < R.failures reader.new) ⊎ TookTurns 131_074 (R.turns reader.old) (R.turns reader.new)) }
+    ensures unfailed { IfOk result (λ _. R.failures reader.new ≡ R.failures reader.old) }
+    ensures cause { IfErr result (λ e. e ≡ Read → (R.failures reader.new ≡ one_more (R.failures reader.old)) ⊎ TookTurns 131_074 (R.turns reader.old) (R.turns reader.new)) }
 {
     let mut turns = MOST_TURNS;
     let mut head = [0; 2];
@@ -88,7 +89,8 @@ fn body_of<R: Source>(
     ensures fault { IfErr result (λ e. FailsInBody head (R.remaining reader.old) e) }
     ensures left { turns.new ≤ turns.old }
     ensures spent { TookTurns (turns.old - turns.new) (R.turns reader.old) (R.turns reader.new) }
-    ensures cause { IfErr result (λ e. e ≡ Read → (0 < R.failures reader.new) ⊎ (turns.new ≡ 0)) }
+    ensures unfailed { IfOk result (λ _. R.failures reader.new ≡ R.failures reader.old) }
+    ensures cause { IfErr result (λ e. e ≡ Read → (R.failures reader.new ≡ one_more (R.failures reader.old)) ⊎ (turns.new ≡ 0)) }
 {
     let len = BigEndian::read_u16(&head) as usize;
     let mut bytes = vec![in alloc; 0; len]?;
@@ -107,7 +109,8 @@ fn fill<R: Source>(reader: &mut R, buffer: &mut [u8], turns: &mut u32) -> Result
     ensures fault { IfErr result (λ e. e ≡ Read) }
     ensures left { turns.new ≤ turns.old }
     ensures spent { TookTurns (turns.old - turns.new) (R.turns reader.old) (R.turns reader.new) }
-    ensures cause { IfErr result (λ e. (0 < R.failures reader.new) ⊎ (turns.new ≡ 0)) }
+    ensures unfailed { IfOk result (λ _. R.failures reader.new ≡ R.failures reader.old) }
+    ensures cause { IfErr result (λ e. (R.failures reader.new ≡ one_more (R.failures reader.old)) ⊎ (turns.new ≡ 0)) }
 {
     let mut done = 0;
     while done < buffer.len() {
@@ -129,7 +132,8 @@ fn fill<R: Source>(reader: &mut R, buffer: &mut [u8], turns: &mut u32) -> Result
 /// frame may have gone out.
 pub fn write_frame<W: Sink>(writer: &mut W, bytes: &[u8]) -> Result<(), FrameFault>
     ensures ok { OnOk result ((length bytes.now < 65_536) × Appends (W.written writer.old) (W.written writer.new) (frame bytes.now)) }
-    ensures fault { IfErr result (λ e. FailsToWrite (W.written writer.old) (W.written writer.new) (W.failures writer.new) bytes.now e) }
+    ensures unfailed { OnOk result (W.failures writer.new ≡ W.failures writer.old) }
+    ensures fault { IfErr result (λ e. FailsToWrite (W.written writer.old) (W.written writer.new) (W.failures writer.old) (W.failures writer.new) bytes.now e) }
 {
     if bytes.len() > 65_535 {
         return Err(FrameFault::Long);

@@ -3,7 +3,7 @@ use Rattle.std.specs.Prelude.{◌≡◌, ℕ, suc, ◌&&◌, Bool, true, is_ok, 
 use Rattle.std.specs.List.{flat_map}
 use Rattle.std.specs.Io.KnownBytes.{Appends}
 use Rattle.hex.specs.Hex.{encode_upper}
-use Rattle.card_digits.specs.Stream.{AppendsFront}
+use Rattle.card_digits.specs.Stream.{AppendsFront, one_more}
 use Rattle.message_elements.specs.declared.fault.DecodeFault.{DecodeFault}
 use Rattle.message_elements.specs.declared.fault.DecodeFault.TheVariants as faults
 use Rattle.message_elements.specs.Types.{kind_text}
@@ -11,6 +11,8 @@ use Rattle.iso_message.specs.Fields.{Fields}
 use Rattle.iso_message.specs.Messages.{read}
 use Rattle.message_elements.specs.Table.{form_of}
 use Rattle.iso_message.specs.Spelling.{is_binary}
+use Rattle.message_text.specs.declared.fault.PrintFault.{PrintFault}
+use Rattle.message_text.specs.declared.fault.PrintFault.TheVariants.{Write, Memory}
 
 -- an element of eight bytes is printed as hexadecimal digits
 abbrev pub value_text : ℕ → List ℕ → List ℕ
@@ -96,3 +98,9 @@ WritesBlocks items start now good = (text : List ℕ) × Printed 1 items text go
 -- a front of such blocks went out
 abbrev pub WritesFront : List (Option (List ℕ)) → Option (List ℕ) → Option (List ℕ) → Type 0
 WritesFront items start now = (text : List ℕ) × (good : Bool) × Printed 1 items text good × AppendsFront start now text
+
+-- how many writes had failed before a text was printed, and how many behind it: one more where the writer failed, and else as many
+abbrev pub CountsPrinted : {A : Type 0} → ℕ → ℕ → Result A PrintFault → Type 0
+CountsPrinted old new (Ok a) = new ≡ old
+CountsPrinted old new (Err Memory) = new ≡ old
+CountsPrinted old new (Err Write) = new ≡ one_more old

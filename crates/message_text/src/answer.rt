@@ -1,8 +1,8 @@
 //! The answer of a decode job.
-ghost use Rattle.std.specs.Prelude.{◌≡◌, ℕ, List, Some, Err, map, Option, IfOk, ◌<◌};
+ghost use Rattle.std.specs.Prelude.{◌≡◌, ℕ, List, Some, Err, map, Option, IfOk};
 ghost use Rattle.card_digits.specs.Lines.{lines};
 ghost use Rattle.message_text.specs.Parts.{AreFrames};
-ghost use Rattle.message_text.specs.Printed.{WritesBlocks, WritesFront};
+ghost use Rattle.message_text.specs.Printed.{CountsPrinted, WritesBlocks, WritesFront};
 
 use crate::fault::PrintFault;
 use crate::parts::first_frame;
@@ -19,7 +19,7 @@ pub fn decode_lines<W: Sink>(
 ) -> Result<bool, PrintFault>
     ensures ok { IfOk result (WritesBlocks (map (λ line. Some line) (lines input.now)) (W.written writer.old) (W.written writer.new)) }
     ensures write { result ≡ Err PrintFault.Write → WritesFront (map (λ line. Some line) (lines input.now)) (W.written writer.old) (W.written writer.new) }
-    ensures failed { result ≡ Err PrintFault.Write → 0 < W.failures writer.new }
+    ensures counts { CountsPrinted (W.failures writer.old) (W.failures writer.new) result }
     ensures memory { result ≡ Err PrintFault.Memory → W.written writer.new ≡ W.written writer.old }
 {
     let Ok(mut buffers) = Buffers::new(alloc) else {
@@ -50,7 +50,7 @@ pub fn decode_frames<W: Sink>(
 ) -> Result<bool, PrintFault>
     ensures ok { IfOk result (λ good. (items : List (Option (List ℕ))) × AreFrames input.now items × WritesBlocks items (W.written writer.old) (W.written writer.new) good) }
     ensures write { result ≡ Err PrintFault.Write → (items : List (Option (List ℕ))) × AreFrames input.now items × WritesFront items (W.written writer.old) (W.written writer.new) }
-    ensures failed { result ≡ Err PrintFault.Write → 0 < W.failures writer.new }
+    ensures counts { CountsPrinted (W.failures writer.old) (W.failures writer.new) result }
     ensures memory { result ≡ Err PrintFault.Memory → W.written writer.new ≡ W.written writer.old }
 {
     let Ok(mut buffers) = Buffers::new(alloc) else {

@@ -10,4 +10,5 @@ mod sending;
 
 pub use answer::{decode_frames, decode_lines};
 pub use fault::PrintFault;
+pub use row::put_words;
 pub use sending::{MOST_WAITING, add_text, send};

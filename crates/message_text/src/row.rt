@@ -61,9 +61,10 @@ fn put_label(row: &mut [u8], at: usize, number: u8) -> usize
     at + LABEL_LENS[place] as usize
 }
 
-/// Writes as many bytes as one word has, or up to twice as many: the first word and the last one.
+/// Writes bytes as `put` does, sooner where they are few: as many as a word of `N` bytes has, or up to twice as many, are written as
+/// two words, the first of them and the last, which may overlap. Fewer bytes than a word has go the way of `put`.
 #[inline(always)]
-fn put_words<const N: usize>(row: &mut [u8], at: usize, bytes: &[u8]) -> usize
+pub fn put_words<const N: usize>(row: &mut [u8], at: usize, bytes: &[u8]) -> usize
     requires word { N ≤ 16 }
     requires few { length bytes.now ≤ N + N }
     requires fits { at + length bytes.now ≤ length row.old }

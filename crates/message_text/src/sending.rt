@@ -1,8 +1,8 @@
 //! Text on its way to a writer.
-ghost use Rattle.std.specs.Prelude.{◌≡◌, ◌<◌, ◌++◌, [], OnOk, OnErr, IfOk, Err};
+ghost use Rattle.std.specs.Prelude.{◌≡◌, ◌++◌, [], OnOk, OnErr, IfOk};
 ghost use Rattle.std.specs.Option.{option_copied};
 ghost use Rattle.std.specs.Io.KnownBytes.{Appends};
-ghost use Rattle.card_digits.specs.Stream.{AppendsFront};
+ghost use Rattle.card_digits.specs.Stream.{AppendsFront, CountsFailure};
 ghost use Rattle.message_elements.specs.declared.fault.DecodeFault.TheVariants.{Memory};
 ghost use Rattle.message_text.specs.Printed.{block, Sends, SendsBlock, SendsFront};
 
@@ -44,7 +44,7 @@ impl Buffers {
     ) -> Result<bool, WriteFault>
         ensures ok { IfOk result (SendsBlock number (option_copied item.entry) (W.written writer.old) (W.written writer.new) self.old.waiting.items self.new.waiting.items) }
         ensures err { OnErr result (SendsFront number (option_copied item.entry) (W.written writer.old) (W.written writer.new) self.old.waiting.items) }
-        ensures failed { OnErr result (0 < W.failures writer.new) }
+        ensures counts { CountsFailure (W.failures writer.old) (W.failures writer.new) result }
     {
         let (end, good) = put_item(&mut self.row, number, item);
         add_text(writer, &mut self.waiting, &self.row[..end])?;
@@ -57,7 +57,7 @@ pub fn send<W: Sink>(writer: &mut W, waiting: &mut Vec<u8>) -> Result<(), WriteF
     ensures sent { OnOk result (Appends (W.written writer.old) (W.written writer.new) waiting.old.items) }
     ensures none { OnOk result (waiting.new.items ≡ []) }
     ensures err { OnErr result (AppendsFront (W.written writer.old) (W.written writer.new) waiting.old.items) }
-    ensures failed { OnErr result (0 < W.failures writer.new) }
+    ensures counts { CountsFailure (W.failures writer.old) (W.failures writer.new) result }
 {
     write_all(writer, waiting)?;
     waiting.clear();
@@ -69,7 +69,7 @@ fn send_with<W: Sink>(writer: &mut W, waiting: &mut Vec<u8>, text: &[u8]) -> Res
     ensures sent { OnOk result (Appends (W.written writer.old) (W.written writer.new) (waiting.old.items ++ text.now)) }
     ensures none { OnOk result (waiting.new.items ≡ []) }
     ensures err { OnErr result (AppendsFront (W.written writer.old) (W.written writer.new) (waiting.old.items ++ text.now)) }
-    ensures failed { OnErr result (0 < W.failures writer.new) }
+    ensures counts { CountsFailure (W.failures writer.old) (W.failures writer.new) result }
 {
     send(writer, waiting)?;
     write_all(writer, text)
@@ -83,7 +83,7 @@ pub fn add_text<W: Sink>(
 ) -> Result<(), WriteFault>
     ensures ok { OnOk result (Sends (W.written writer.old) (W.written writer.new) waiting.old.items text.now waiting.new.items) }
     ensures err { OnErr result (AppendsFront (W.written writer.old) (W.written writer.new) (waiting.old.items ++ text.now)) }
-    ensures failed { OnErr result (0 < W.failures writer.new) }
+    ensures counts { CountsFailure (W.failures writer.old) (W.failures writer.new) result }
 {
     if waiting.extend_from_slice(text).is_err() {
         return send_with(writer, waiting, text);

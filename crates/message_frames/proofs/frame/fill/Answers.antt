@@ -14,6 +14,7 @@ loop-done-preserved-in-Ok g c =
     record {
       within = part_within done c.in-Ok.n buffer part c.loop-done.invariant.within bound;
       taken = rw both (Consumes-trans _ _ _ _ _ c.loop-done.invariant.taken c.in-Ok.ensures.bytes.0);
+      counts = rw c.in-Ok.ensures.counts c.loop-done.invariant.counts;
       left = omega arith;
       spent = omega arith;
     }

@@ -32,6 +32,7 @@ loop-rest-preserved-in-Some g c =
       small = small_behind l.rest.now (frame bytes) later frame_is.1 l.invariant.small;
       sent = l.invariant.sent ++ more;
       sends = Appends-trans _ _ _ l.invariant.sent more l.invariant.sends (Sends.sends (SendsBlock.sends b));
+      counts = rw c.in-Ok-add.ensures.counts l.invariant.counts;
       so_far = frames_step c.args.input.now l.rest.now bytes later l.number (l.number + 1) (l.invariant.sent ++ l.buffers.waiting.items) ((l.invariant.sent ++ more) ++ c.add.new.self.waiting.items) l.good c.in-Ok-add.fine
           (omega arith) frame_is l.invariant.so_far (block_printed (l.number + 1) (Some bytes) _ _ l.invariant.sent l.buffers.waiting.items c.add.new.self.waiting.items c.in-Ok-add.fine b);
     }
@@ -52,6 +53,7 @@ loop-rest-preserved g c =
       small = λ i. omega arith;
       sent = l.invariant.sent ++ more;
       sends = Appends-trans _ _ _ l.invariant.sent more l.invariant.sends (Sends.sends (SendsBlock.sends b));
+      counts = rw c.in-Ok-add-2.ensures.counts l.invariant.counts;
       so_far = cut_step c.args.input.now l.rest.now l.number (l.number + 1) (l.invariant.sent ++ l.buffers.waiting.items) ((l.invariant.sent ++ more) ++ c.add-in-None.new.self.waiting.items) l.good c.in-Ok-add-2.fine
           (omega arith) c.in-None.ensures.frame l.invariant.so_far (block_printed (l.number + 1) None _ _ l.invariant.sent l.buffers.waiting.items c.add-in-None.new.self.waiting.items c.in-Ok-add-2.fine b);
     }

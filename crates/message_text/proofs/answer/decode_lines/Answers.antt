@@ -24,6 +24,7 @@ loop-line-preserved g c =
       few = omega (arith, c.in-Some.ensures.shorter, l.invariant.few);
       sent = l.invariant.sent ++ more;
       sends = Appends-trans _ _ _ l.invariant.sent more l.invariant.sends (Sends.sends (SendsBlock.sends b));
+      counts = rw c.in-Ok-add.ensures.counts l.invariant.counts;
       so_far = lines_step (map (λ line. Some line) (lines c.args.input.now)) l.rest.now c.in-Some.line.now c.in-Some.later.now l.number (l.number + 1)
           (l.invariant.sent ++ l.buffers.waiting.items) ((l.invariant.sent ++ more) ++ c.add.new.self.waiting.items) l.good c.in-Ok-add.fine (omega arith) c.in-Some.ensures.line l.invariant.so_far
           (block_printed (l.number + 1) (Some c.in-Some.line.now) _ _ l.invariant.sent l.buffers.waiting.items c.add.new.self.waiting.items c.in-Ok-add.fine b);
