@@ -3,11 +3,11 @@ ghost use Rattle.std.specs.Prelude.{IfOk};
 ghost use Rattle.std.specs.List.{AllZip};
 ghost use Rattle.net_operate.specs.Sessions.{SessionFits};
 
-use crate::acquirers::{Acquirer, run_session};
 use crate::fitting::fitted;
 use crate::news::Shared;
 use crate::pumping::run_pump;
 use crate::serving::run_host;
+use crate::sessions::run_session;
 use crate::worker::Worker;
 use iso_message::Message;
 use message_elements::Code;
@@ -107,23 +107,20 @@ fn pump_at<'s, 't, 'p>(
     }
 }
 
-/// The session at a place of the plan as a thread, where there is a station at its node's place.
-fn acquirer_of<'s, 't, 'p>(
+/// The thread of the session at a place of the plan, where there is a station at its node's place.
+fn session_at<'s, 't, 'p>(
     alloc: Global,
     stations: &'s Vec<Mutex<Station<'t>>>,
     plan: &'s Plan<'p>,
     shared: &'s Shared,
     place: usize,
     session: &Session<'_>,
-) -> Option<Acquirer<'s, 't, 'p>> {
+) -> Option<Worker<'s, 't, 'p>> {
     let n = session.node.place();
     let station = stations.get(n)?;
     let pump = pump_at(alloc, n, stations, station, plan, shared);
     let thread = shared.threads().session(place);
-    Some(Acquirer {
-        worker: Worker { thread, ..pump },
-        place,
-    })
+    Some(Worker { thread, ..pump })
 }
 
 /// Notes how many entries each station has before the threads start.
@@ -148,7 +145,28 @@ fn lend_and_run<H: Host + Sync, R: Threads + Wait + Sync>(
     }
     let stations = network.stations();
     begin_all(rt, stations, shared);
-    run_all(rt, alloc, stations, plan, hosts, shared)
+    run_all(rt, alloc, stations, plan, hosts, shared)?;
+    match ends_of(rt, alloc, shared, plan.sessions.len()) {
+        Ok(ends) => Ok(ends),
+        Err(_) => Err(OperateFault::Memory),
+    }
+}
+
+/// What the lines of each session ended with, once all threads have.
+fn ends_of<R: Wait>(
+    rt: &R,
+    alloc: Global,
+    shared: &Shared,
+    sessions: usize,
+) -> Result<Vec<Vec<LineEnd>>, AllocError> {
+    let mut ends = Vec::with_capacity(alloc, sessions)?;
+    for place in 0..sessions {
+        match shared.take_desk(rt, place) {
+            Some(desk) => ends.push(desk.into_ends()?)?,
+            None => ends.push(Vec::new(alloc))?,
+        }
+    }
+    Ok(ends)
 }
 
 /// Runs the threads, which have all ended at the return.
@@ -159,11 +177,11 @@ fn run_all<H: Host + Sync, R: Threads + Wait + Sync>(
     plan: &Plan<'_>,
     hosts: &[H],
     shared: &Shared,
-) -> Result<Vec<Vec<LineEnd>>, OperateFault> {
+) -> Result<(), OperateFault> {
     thread::scope(
         thread::scope_env(),
         rt,
-        |scope| -> Result<Vec<Vec<LineEnd>>, OperateFault> {
+        |scope| -> Result<(), OperateFault> {
             let threads = shared.threads();
             for n in 0..stations.len() {
                 let station = &stations[n];
@@ -185,32 +203,17 @@ fn run_all<H: Host + Sync, R: Threads + Wait + Sync>(
                     }
                 }
             }
-            let mut children = Vec::new(alloc);
             for (place, session) in plan.sessions.iter().enumerate() {
-                let acquirer = acquirer_of(alloc, stations, plan, shared, place, session);
-                let Ok(child) = scope.spawn(move || {
-                    run_session(rt, alloc, hosts, acquirer, session, shared)
-                }) else {
+                let worker = session_at(alloc, stations, plan, shared, place, session);
+                if scope
+                    .spawn(move || run_session(rt, worker, hosts, shared))
+                    .is_err()
+                {
                     shared.stop();
                     return Err(OperateFault::Thread);
-                };
-                if children.push(child).is_err() {
-                    shared.stop();
-                    return Err(OperateFault::Memory);
                 }
             }
-            let mut ends = Vec::new(alloc);
-            for child in children {
-                let Ok(lines) = child.join(rt) else {
-                    shared.stop();
-                    return Err(OperateFault::Memory);
-                };
-                if ends.push(lines).is_err() {
-                    shared.stop();
-                    return Err(OperateFault::Memory);
-                }
-            }
-            Ok(ends)
+            Ok(())
         },
     )
 }
