@@ -1,5 +1,6 @@
 //! What is asked of an input, and the way from the input to the answer that is written.
-ghost use Rattle.std.specs.Prelude.{◌≡◌, ◌<◌, Err, OnErr, IfOk};
+ghost use Rattle.std.specs.Prelude.{◌≡◌, Err, OnErr, IfOk};
+ghost use Rattle.card_digits.specs.Stream.{CountsFailure};
 ghost use Rattle.bundle_text.specs.Answers.{Wrote, WroteFront};
 ghost use Rattle.bundle_input.specs.Input.{AnswersOrMemory, IsOutput, WroteWithCode};
 
@@ -30,7 +31,7 @@ fn print_input<Q: Question, W: Sink>(
 ) -> Result<Status, BundleFault>
     ensures ok { IfOk result (Wrote (AnswersOrMemory (Q.is_answer question.now) input.now) (W.written writer.old) (W.written writer.new)) }
     ensures err { OnErr result (WroteFront (AnswersOrMemory (Q.is_answer question.now) input.now) (W.written writer.old) (W.written writer.new)) }
-    ensures failed { OnErr result (0 < W.failures writer.new) }
+    ensures counts { CountsFailure (W.failures writer.old) (W.failures writer.new) result }
 {
     let Ok(answer) = question.answer(alloc, input) else {
         return write_cause(writer, InputFault::Memory);
@@ -48,9 +49,9 @@ fn print_output<Q: Question, R: Source, W: Sink>(
     reader: &mut R,
     writer: &mut W,
 ) -> Result<Status, BundleFault>
-    ensures ok { IfOk result (Wrote (IsOutput (Q.is_answer question.now) (R.remaining reader.old) (R.failures reader.new) (R.turns reader.old) (R.turns reader.new)) (W.written writer.old) (W.written writer.new)) }
-    ensures err { OnErr result (WroteFront (IsOutput (Q.is_answer question.now) (R.remaining reader.old) (R.failures reader.new) (R.turns reader.old) (R.turns reader.new)) (W.written writer.old) (W.written writer.new)) }
-    ensures failed { OnErr result (0 < W.failures writer.new) }
+    ensures ok { IfOk result (Wrote (IsOutput (Q.is_answer question.now) (R.remaining reader.old) (R.failures reader.old) (R.failures reader.new) (R.turns reader.old) (R.turns reader.new)) (W.written writer.old) (W.written writer.new)) }
+    ensures err { OnErr result (WroteFront (IsOutput (Q.is_answer question.now) (R.remaining reader.old) (R.failures reader.old) (R.failures reader.new) (R.turns reader.old) (R.turns reader.new)) (W.written writer.old) (W.written writer.new)) }
+    ensures counts { CountsFailure (W.failures writer.old) (W.failures writer.new) result }
 {
     match read_all(alloc, reader) {
         Ok(input) => print_input(alloc, question, &input, writer),
@@ -66,9 +67,9 @@ pub fn run_answer<Q: Question, R: Source, W: Sink>(
     reader: &mut R,
     writer: &mut W,
 ) -> Result<u8, BundleFault>
-    ensures ok { IfOk result (WroteWithCode (IsOutput (Q.is_answer question.now) (R.remaining reader.old) (R.failures reader.new) (R.turns reader.old) (R.turns reader.new)) (W.written writer.old) (W.written writer.new)) }
-    ensures err { OnErr result (WroteFront (IsOutput (Q.is_answer question.now) (R.remaining reader.old) (R.failures reader.new) (R.turns reader.old) (R.turns reader.new)) (W.written writer.old) (W.written writer.new)) }
-    ensures failed { OnErr result (0 < W.failures writer.new) }
+    ensures ok { IfOk result (WroteWithCode (IsOutput (Q.is_answer question.now) (R.remaining reader.old) (R.failures reader.old) (R.failures reader.new) (R.turns reader.old) (R.turns reader.new)) (W.written writer.old) (W.written writer.new)) }
+    ensures err { OnErr result (WroteFront (IsOutput (Q.is_answer question.now) (R.remaining reader.old) (R.failures reader.old) (R.failures reader.new) (R.turns reader.old) (R.turns reader.new)) (W.written writer.old) (W.written writer.new)) }
+    ensures counts { CountsFailure (W.failures writer.old) (W.failures writer.new) result }
 {
     match print_output(alloc, question, reader, writer) {
         Ok(status) => Ok(status.code()),

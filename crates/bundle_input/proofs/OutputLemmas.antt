@@ -10,6 +10,6 @@ of_input : (IsAnswer : List ℕ → Said → Type 0) (remaining : Option (List �
 of_input IsAnswer None input said is few a = tt
 of_input IsAnswer (Some x) input said is few a = subst (λ z. (length z ≤ 16_777_216) × IsAnswer z said) is (few, a)
 
-pub output_of : (IsAnswer : List ℕ → Said → Type 0) (remaining : Option (List ℕ)) (failures old new : ℕ) (input : List ℕ) → IfSome remaining (λ x. input ≡ x) → length input ≤ 16_777_216 → (said : Said) → AnswersOrMemory IsAnswer input said → IsOutput IsAnswer remaining failures old new said
-output_of IsAnswer remaining failures old new input is few said (inl a) = IsOfInput (of_input IsAnswer remaining input said is few a)
-output_of IsAnswer remaining failures old new input is few said (inr m) = IsCause cause.Memory tt m
+pub output_of : (IsAnswer : List ℕ → Said → Type 0) (remaining : Option (List ℕ)) (failures_old failures_new turns_old turns_new : ℕ) (input : List ℕ) → IfSome remaining (λ x. input ≡ x) → length input ≤ 16_777_216 → (said : Said) → AnswersOrMemory IsAnswer input said → IsOutput IsAnswer remaining failures_old failures_new turns_old turns_new said
+output_of IsAnswer remaining failures_old failures_new turns_old turns_new input is few said (inl a) = IsOfInput (of_input IsAnswer remaining input said is few a)
+output_of IsAnswer remaining failures_old failures_new turns_old turns_new input is few said (inr m) = IsCause cause.Memory tt m

@@ -1,5 +1,6 @@
 //! The line of the cause for which there is no input.
-ghost use Rattle.std.specs.Prelude.{◌≡◌, ◌<◌, OnErr, IfOk};
+ghost use Rattle.std.specs.Prelude.{◌≡◌, OnErr, IfOk};
+ghost use Rattle.card_digits.specs.Stream.{CountsFailure};
 ghost use Rattle.bundle_text.specs.Answers.{Wrote, WroteFront};
 ghost use Rattle.bundle_input.specs.Input.{input_fault};
 
@@ -30,7 +31,7 @@ fn cause_line(cause: InputFault) -> &'static [u8]
 pub fn write_cause<W: Sink>(writer: &mut W, cause: InputFault) -> Result<Status, BundleFault>
     ensures ok { IfOk result (Wrote (λ said. said ≡ input_fault cause) (W.written writer.old) (W.written writer.new)) }
     ensures err { OnErr result (WroteFront (λ said. said ≡ input_fault cause) (W.written writer.old) (W.written writer.new)) }
-    ensures failed { OnErr result (0 < W.failures writer.new) }
+    ensures counts { CountsFailure (W.failures writer.old) (W.failures writer.new) result }
 {
     match write_all(writer, cause_line(cause)) {
         Ok(()) => Ok(Status::Fault),

@@ -1,6 +1,7 @@
 //! What the program answers.
-ghost use Rattle.std.specs.Prelude.{◌≡◌, ◌<◌, Err, IfOk};
+ghost use Rattle.std.specs.Prelude.{◌≡◌, Err, IfOk};
 ghost use Rattle.bundle_text.specs.Answers.{Wrote, WroteFront};
+ghost use Rattle.message_text.specs.Printed.{CountsPrinted};
 
 use card_digits::{Sink, write_all};
 use message_text::PrintFault;
@@ -69,7 +70,7 @@ impl Answer {
 pub fn write_answer<W: Sink>(writer: &mut W, answer: &Answer) -> Result<Status, PrintFault>
     ensures ok { IfOk result (Wrote (λ said. said ≡ answer.now) (W.written writer.old) (W.written writer.new)) }
     ensures write { result ≡ Err PrintFault.Write → WroteFront (λ said. said ≡ answer.now) (W.written writer.old) (W.written writer.new) }
-    ensures failed { result ≡ Err PrintFault.Write → 0 < W.failures writer.new }
+    ensures counts { CountsPrinted (W.failures writer.old) (W.failures writer.new) result }
     ensures memory { result ≡ Err PrintFault.Memory → W.written writer.new ≡ W.written writer.old }
 {
     match write_all(writer, answer.text()) {

@@ -1,6 +1,7 @@
 //! The answer of `decode`.
-ghost use Rattle.std.specs.Prelude.{◌≡◌, ◌<◌, ℕ, List, Some, Err, true, false, IfOk, map};
+ghost use Rattle.std.specs.Prelude.{◌≡◌, ℕ, List, Some, Err, true, false, IfOk, map};
 ghost use Rattle.card_digits.specs.Lines.{lines};
+ghost use Rattle.message_text.specs.Printed.{CountsPrinted};
 ghost use Rattle.bundle_text.specs.Answers.{DecodeAnswers, IsDecoded, IsDecodedParts, Wrote, WroteFront, decode_status, parts_fault};
 
 use crate::answer::Status;
@@ -19,7 +20,7 @@ fn status(good: bool) -> Status
 fn write_lines<W: Sink>(alloc: Global, text: &[u8], writer: &mut W) -> Result<Status, PrintFault>
     ensures ok { IfOk result (Wrote (IsDecoded (map (λ line. Some line) (lines text.now))) (W.written writer.old) (W.written writer.new)) }
     ensures write { result ≡ Err PrintFault.Write → WroteFront (IsDecoded (map (λ line. Some line) (lines text.now))) (W.written writer.old) (W.written writer.new) }
-    ensures failed { result ≡ Err PrintFault.Write → 0 < W.failures writer.new }
+    ensures counts { CountsPrinted (W.failures writer.old) (W.failures writer.new) result }
     ensures memory { result ≡ Err PrintFault.Memory → W.written writer.new ≡ W.written writer.old }
 {
     match decode_lines(alloc, text, writer) {
@@ -32,7 +33,7 @@ fn write_lines<W: Sink>(alloc: Global, text: &[u8], writer: &mut W) -> Result<St
 fn write_frames<W: Sink>(alloc: Global, input: &[u8], writer: &mut W) -> Result<Status, PrintFault>
     ensures ok { IfOk result (Wrote (DecodeAnswers true input.now) (W.written writer.old) (W.written writer.new)) }
     ensures write { result ≡ Err PrintFault.Write → WroteFront (DecodeAnswers true input.now) (W.written writer.old) (W.written writer.new) }
-    ensures failed { result ≡ Err PrintFault.Write → 0 < W.failures writer.new }
+    ensures counts { CountsPrinted (W.failures writer.old) (W.failures writer.new) result }
     ensures memory { result ≡ Err PrintFault.Memory → W.written writer.new ≡ W.written writer.old }
 {
     match decode_frames(alloc, input, writer) {
@@ -45,7 +46,7 @@ fn write_frames<W: Sink>(alloc: Global, input: &[u8], writer: &mut W) -> Result<
 fn write_parts_fault<W: Sink>(writer: &mut W) -> Result<Status, PrintFault>
     ensures ok { IfOk result (Wrote (λ said. said ≡ parts_fault) (W.written writer.old) (W.written writer.new)) }
     ensures write { result ≡ Err PrintFault.Write → WroteFront (λ said. said ≡ parts_fault) (W.written writer.old) (W.written writer.new) }
-    ensures failed { result ≡ Err PrintFault.Write → 0 < W.failures writer.new }
+    ensures counts { CountsPrinted (W.failures writer.old) (W.failures writer.new) result }
     ensures memory { result ≡ Err PrintFault.Memory → W.written writer.new ≡ W.written writer.old }
 {
     match write_all(writer, b"fault bundle 1 parts\n") {
@@ -63,7 +64,7 @@ fn write_parts<W: Sink>(
 ) -> Result<Status, PrintFault>
     ensures ok { IfOk result (Wrote (IsDecodedParts (map (λ p. p.now) parts.now)) (W.written writer.old) (W.written writer.new)) }
     ensures write { result ≡ Err PrintFault.Write → WroteFront (IsDecodedParts (map (λ p. p.now) parts.now)) (W.written writer.old) (W.written writer.new) }
-    ensures failed { result ≡ Err PrintFault.Write → 0 < W.failures writer.new }
+    ensures counts { CountsPrinted (W.failures writer.old) (W.failures writer.new) result }
     ensures memory { result ≡ Err PrintFault.Memory → W.written writer.new ≡ W.written writer.old }
 {
     if parts.len() != 1 {
@@ -76,7 +77,7 @@ fn write_parts<W: Sink>(
 fn write_text<W: Sink>(alloc: Global, input: &[u8], writer: &mut W) -> Result<Status, PrintFault>
     ensures ok { IfOk result (Wrote (DecodeAnswers false input.now) (W.written writer.old) (W.written writer.new)) }
     ensures write { result ≡ Err PrintFault.Write → WroteFront (DecodeAnswers false input.now) (W.written writer.old) (W.written writer.new) }
-    ensures failed { result ≡ Err PrintFault.Write → 0 < W.failures writer.new }
+    ensures counts { CountsPrinted (W.failures writer.old) (W.failures writer.new) result }
     ensures memory { result ≡ Err PrintFault.Memory → W.written writer.new ≡ W.written writer.old }
 {
     let Ok(text) = without_carriage_returns(alloc, input) else {
@@ -98,7 +99,7 @@ pub fn write_decoded<W: Sink>(
 ) -> Result<Status, PrintFault>
     ensures ok { IfOk result (Wrote (DecodeAnswers frames input.now) (W.written writer.old) (W.written writer.new)) }
     ensures write { result ≡ Err PrintFault.Write → WroteFront (DecodeAnswers frames input.now) (W.written writer.old) (W.written writer.new) }
-    ensures failed { result ≡ Err PrintFault.Write → 0 < W.failures writer.new }
+    ensures counts { CountsPrinted (W.failures writer.old) (W.failures writer.new) result }
     ensures memory { result ≡ Err PrintFault.Memory → W.written writer.new ≡ W.written writer.old }
 {
     if frames {

@@ -1,5 +1,5 @@
 //! Names of nodes and links of tables.
-ghost use Rattle.std.specs.Prelude.{◌≡◌, ◌∷◌, Some};
+ghost use Rattle.std.specs.Prelude.{◌≡◌, ◌≤◌, ◌∷◌, length, Some};
 ghost use Rattle.std.specs.List.{flat_map};
 ghost use Rattle.bundle_text.specs.Lines.{node_name, link_name};
 
@@ -9,7 +9,8 @@ use std::fmt;
 
 /// The name of a node of the tables; empty where there is no such node.
 pub fn node_name(tables: &Tables, node: NodeNo) -> &[u8]
-    ensures { result.now ≡ node_name tables.now node }
+    ensures name { result.now ≡ node_name tables.now node }
+    ensures few { length result.now ≤ 8 }
 {
     match tables.nodes().get(node.place()) {
         Some(row) => row.name.as_slice(),
@@ -19,7 +20,8 @@ pub fn node_name(tables: &Tables, node: NodeNo) -> &[u8]
 
 /// The name of a link of the tables; empty where there is no such link.
 pub fn link_name(tables: &Tables, link: LinkNo) -> &[u8]
-    ensures { result.now ≡ link_name tables.now link }
+    ensures name { result.now ≡ link_name tables.now link }
+    ensures few { length result.now ≤ 8 }
 {
     match tables.links().get(link.place()) {
         Some(row) => row.name.as_slice(),

@@ -13,13 +13,14 @@ struct Slow<'a> {
     left: &'a [u8],
     gives: bool,
     fails: bool,
+    failures: u64,
     calls: u64,
 }
 
 impl<'a> Source for Slow<'a> {
     ghost remaining = { λ _. None };
 
-    ghost failures = { λ s. 1 };
+    ghost failures = { λ s. s.failures };
 
     ghost turns = { λ s. s.calls };
 
@@ -40,6 +41,7 @@ impl<'a> Source for Slow<'a> {
             }
             None => {
                 if self.fails {
+                    self.failures = self.failures.saturating_add(1);
                     return Err(ReadFault::Failed);
                 }
                 Ok(0)
@@ -71,17 +73,21 @@ impl Source for Stuck {
 #[derive(Drop)]
 struct Kept {
     bytes: Vec<u8>,
+    failures: u64,
 }
 
 impl Sink for Kept {
     ghost written = { λ s. Some s.bytes.items };
 
-    ghost failures = { λ _. 1 };
+    ghost failures = { λ s. s.failures };
 
     fn write(&mut self, bytes: &[u8]) -> Result<usize, WriteFault> {
         match self.bytes.extend_from_slice(bytes) {
             Ok(()) => Ok(bytes.len()),
-            Err(_) => Err(WriteFault::Failed),
+            Err(_) => {
+                self.failures = self.failures.saturating_add(1);
+                Err(WriteFault::Failed)
+            }
         }
     }
 }
@@ -91,6 +97,7 @@ fn slow_reader(bytes: &[u8], fails: bool) -> Slow<'_> {
         left: bytes,
         gives: false,
         fails,
+        failures: 0,
         calls: 0,
     }
 }
@@ -99,6 +106,7 @@ fn slow_reader(bytes: &[u8], fails: bool) -> Slow<'_> {
 fn two_frames(alloc: Global) -> Result<Vec<u8>, Fail> {
     let mut writer = Kept {
         bytes: Vec::new(alloc),
+        failures: 0,
     };
     write_frame(&mut writer, M)?;
     let before = writer.bytes.len();
