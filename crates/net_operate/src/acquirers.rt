@@ -168,21 +168,6 @@ impl<'s, 't, 'p> Acquirer<'s, 't, 'p> {
         found
     }
 
-    /// The next answer that may be the wanted one.
-    fn next_answer<R: Wait>(
-        &self,
-        rt: &R,
-        awaiting: &mut Awaiting,
-        calls: &mut Calls,
-    ) -> Option<Vec<u8>> {
-        if !self.has_news(awaiting) {
-            return None;
-        }
-        let found = self.look(rt, awaiting);
-        self.worker.leave_station(calls);
-        found
-    }
-
     /// Looks for the answer to a line. It is awaited further where it has not come and may come yet.
     fn hear<H: Host, R: Wait>(
         &self,
@@ -199,8 +184,12 @@ impl<'s, 't, 'p> Acquirer<'s, 't, 'p> {
             }
             awaiting.turns.next();
             let last = self.is_last();
-            let found = self.next_answer(rt, &mut awaiting, calls);
-            self.worker.carry_on(rt, hosts, calls);
+            let mut found = None;
+            if self.has_news(&awaiting) {
+                found = self.look(rt, &mut awaiting);
+                self.worker.leave_station(calls);
+                self.worker.carry_on(rt, hosts, calls);
+            }
             match found {
                 Some(bytes) => {
                     if is_answer_to(self.worker.alloc, line, bytes.as_slice()) {
@@ -236,21 +225,6 @@ impl<'s, 't, 'p> Acquirer<'s, 't, 'p> {
         }
     }
 
-    /// Goes on with the line that comes next, or whose answer is awaited.
-    fn go_on_with_line<H: Host, R: Wait>(
-        &self,
-        rt: &R,
-        hosts: &[H],
-        line: &[u8],
-        desk: &mut Desk,
-        calls: &mut Calls,
-    ) -> Result<Line, AllocError> {
-        match desk.awaiting.take() {
-            None => self.enter(rt, hosts, line, calls),
-            Some(awaiting) => Ok(self.hear_more(rt, hosts, line, awaiting, calls)),
-        }
-    }
-
     /// Goes on with the session until it waits, has ended, or was gone on with for so many lines.
     pub(crate) fn go_on<H: Host, R: Wait>(
         &self,
@@ -263,7 +237,11 @@ impl<'s, 't, 'p> Acquirer<'s, 't, 'p> {
             let Some(line) = desk.next_line(self.session.lines.as_slice()) else {
                 return Progress::Ended;
             };
-            match self.go_on_with_line(rt, hosts, line, desk, calls) {
+            let line = match desk.awaiting.take() {
+                None => self.enter(rt, hosts, line, calls),
+                Some(awaiting) => Ok(self.hear_more(rt, hosts, line, awaiting, calls)),
+            };
+            match line {
                 Ok(Line::Ended(end)) => desk.end_line(Ok(end)),
                 Ok(Line::Awaits(awaiting)) => {
                     let due = awaiting.turns.due(self.has_news(&awaiting));

@@ -9,7 +9,7 @@ use crate::fitting::key_in;
 use crate::hearing::{Hearer, who_hears};
 use crate::serving::Service;
 use card_digits::{Key, NodeNo};
-use net_threads::Station;
+use net_threads::{LineEnd, Station};
 use plan_threads::{Calls, Pump, Queue, Shelf, ThreadNumbers};
 use run_plan::Plan;
 use std::alloc::{AllocError, Global};
@@ -178,6 +178,20 @@ fn seats_of(alloc: Global, sessions: usize) -> Result<Vec<Seat>, AllocError> {
         seats.push(seat_of(alloc))?;
     }
     Ok(seats)
+}
+
+/// What the lines of each session ended with, once nobody goes on with any.
+fn ends_of(alloc: Global, seats: Vec<Seat>) -> Result<Vec<Vec<LineEnd>>, AllocError> {
+    let mut ends = Vec::with_capacity(alloc, seats.len())?;
+    for seat in seats {
+        let Seat { awaited: _, desk } = seat;
+        let mut shelf = desk.into_inner();
+        match shelf.take() {
+            Some(desk) => ends.push(desk.into_ends()?)?,
+            None => ends.push(Vec::new(alloc))?,
+        }
+    }
+    Ok(ends)
 }
 
 impl Shared {
@@ -377,6 +391,25 @@ impl Shared {
     pub(crate) fn awaited(&self, place: usize) -> Option<&Awaited> {
         let seat = self.seats.get(place)?;
         Some(&seat.awaited)
+    }
+
+    fn into_seats(self) -> Vec<Seat> {
+        let Shared {
+            clock: _,
+            threads: _,
+            pumps: _,
+            live: _,
+            stopped: _,
+            nodes: _,
+            seats,
+            queue: _,
+        } = self;
+        seats
+    }
+
+    /// What the lines of each session ended with, once all threads have ended.
+    pub(crate) fn into_ends(self, alloc: Global) -> Result<Vec<Vec<LineEnd>>, AllocError> {
+        ends_of(alloc, self.into_seats())
     }
 
     /// The station at a place has so many entries before the plan's threads start: of these only the host has to hear, as pumps look at

@@ -11,7 +11,7 @@ use crate::sessions::run_session;
 use crate::worker::Worker;
 use iso_message::Message;
 use message_elements::Code;
-use net_threads::{Ended, LineEnd, Network, Station};
+use net_threads::{Ended, Network, Station};
 use run_plan::{Loan, Plan, Session};
 use std::alloc::{AllocError, Global};
 use std::sync::{Mutex, Wait};
@@ -139,34 +139,13 @@ fn lend_and_run<H: Host + Sync, R: Threads + Wait + Sync>(
     plan: &Plan<'_>,
     hosts: &[H],
     shared: &Shared,
-) -> Result<Vec<Vec<LineEnd>>, OperateFault> {
+) -> Result<(), OperateFault> {
     if lend_all(rt, alloc, network, plan.loans.as_slice()).is_err() {
         return Err(OperateFault::Memory);
     }
     let stations = network.stations();
     begin_all(rt, stations, shared);
-    run_all(rt, alloc, stations, plan, hosts, shared)?;
-    match ends_of(rt, alloc, shared, plan.sessions.len()) {
-        Ok(ends) => Ok(ends),
-        Err(_) => Err(OperateFault::Memory),
-    }
-}
-
-/// What the lines of each session ended with, once all threads have.
-fn ends_of<R: Wait>(
-    rt: &R,
-    alloc: Global,
-    shared: &Shared,
-    sessions: usize,
-) -> Result<Vec<Vec<LineEnd>>, AllocError> {
-    let mut ends = Vec::with_capacity(alloc, sessions)?;
-    for place in 0..sessions {
-        match shared.take_desk(rt, place) {
-            Some(desk) => ends.push(desk.into_ends()?)?,
-            None => ends.push(Vec::new(alloc))?,
-        }
-    }
-    Ok(ends)
+    run_all(rt, alloc, stations, plan, hosts, shared)
 }
 
 /// Runs the threads, which have all ended at the return.
@@ -220,12 +199,13 @@ fn run_all<H: Host + Sync, R: Threads + Wait + Sync>(
 
 /// Runs a plan on a network: for each node a thread that pumps and one that asks its host, and a thread for each session. The plan's
 /// loans are made before. All threads have ended at the return, also where one could not be started; steps that were made stay. Each
-/// thread ends after the plan's turns at the latest, pumps and hosts as soon as all sessions have ended. A host is called with no
-/// lock held.
+/// thread ends after the plan's turns at the latest, for each line of a session, and as soon as all sessions have ended. A host is called
+/// with no lock held.
 ///
 /// A thread that has nothing to do sleeps. Whoever makes a step carries on what comes of it: he pumps at the other end of a link, and puts
 /// requests to hosts that answer at once, where no other does at that moment; he tells the sessions that have an answer, and the threads of
-/// other hosts. A thread that has more to do for itself leaves that to the threads that are there for it. While anybody works, no turn
+/// other hosts. A thread that has more to do for itself leaves that to the threads that are there for it. One session is gone on with at a
+/// time, and the thread that went on with one goes on with the next that has something to do. While anybody works, no turn
 /// passes for those who sleep; one in which a pump works counts for it alone. Where all sleep, as many turns pass at once as the first of
 /// them waits for: those until a tick, until a packet that was held back is taken, or until a wait or the plan is over. Steps that others
 /// make by `step_at`, `pump_once` and `pump_with` of the network wake its node's pump. Another plan on the same network is not told of what
@@ -250,9 +230,12 @@ pub fn operate<H: Host + Sync, R: Threads + Wait + Sync>(
     let Ok(number) = network.add_plan(rt, shared.clock()) else {
         return Err(OperateFault::Memory);
     };
-    let ends = lend_and_run(rt, alloc, network, plan, hosts, &shared);
+    let ran = lend_and_run(rt, alloc, network, plan, hosts, &shared);
     network.remove_plan(rt, number);
-    let ends = ends?;
+    ran?;
+    let Ok(ends) = shared.into_ends(alloc) else {
+        return Err(OperateFault::Memory);
+    };
     match fitted(alloc, plan.sessions.as_slice(), ends) {
         Ok(sessions) => Ok(Ended { sessions }),
         Err(_) => Err(OperateFault::Memory),

@@ -1,7 +1,6 @@
 //! Threads of sessions: which sessions they go on with.
 
 use crate::acquirers::{Acquirer, Progress};
-use crate::desk::Desk;
 use crate::news::Shared;
 use crate::running::Host;
 use crate::worker::Worker;
@@ -9,21 +8,6 @@ use plan_threads::Calls;
 use std::sync::Wait;
 
 impl<'s, 't, 'p> Worker<'s, 't, 'p> {
-    /// Goes on with the session at a place of the plan as far as it can be gone on with.
-    fn go_on_at<H: Host, R: Wait>(
-        &self,
-        rt: &R,
-        hosts: &[H],
-        place: usize,
-        desk: &mut Desk,
-        calls: &mut Calls,
-    ) -> Progress {
-        match Acquirer::of(self, place) {
-            Some(acquirer) => acquirer.go_on(rt, hosts, desk, calls),
-            None => Progress::Ended,
-        }
-    }
-
     /// Goes on with a session whose turn it is. Returns the one whose turn it is then, if one waits for it. Where another thread goes on with
     /// the session already, that one sees to it, and gives the turn on.
     fn go_on_with<H: Host, R: Wait>(
@@ -35,7 +19,10 @@ impl<'s, 't, 'p> Worker<'s, 't, 'p> {
     ) -> Option<usize> {
         let shared = self.shared;
         let mut desk = shared.take_desk(rt, place)?;
-        let progress = self.go_on_at(rt, hosts, place, &mut desk, calls);
+        let progress = match Acquirer::of(self, place) {
+            Some(acquirer) => acquirer.go_on(rt, hosts, &mut desk, calls),
+            None => Progress::Ended,
+        };
         let due = progress.due(shared.clock().turns());
         let ends = progress.is_end() && desk.end();
         if desk.has_failed {
@@ -68,21 +55,16 @@ impl<'s, 't, 'p> Worker<'s, 't, 'p> {
         }
     }
 
-    /// The thread's own session, where it is its turn. Otherwise that session waits for it.
-    fn take_own_turn<R: Wait>(&self, rt: &R) -> Option<usize> {
-        let clock = self.shared.clock();
-        let place = self.shared.threads().place_of_session(self.thread);
-        clock.set_due(self.thread, clock.turns());
-        if self.shared.take_turn(rt, place) {
-            Some(place)
-        } else {
-            None
-        }
-    }
-
     /// Looks whether there is something to do for its own session, and goes on with sessions until it is told of something or due.
     fn take_turns<H: Host, R: Wait>(&self, rt: &R, hosts: &[H], calls: &mut Calls) {
-        let mut next = self.take_own_turn(rt);
+        let clock = self.shared.clock();
+        let own = self.shared.threads().place_of_session(self.thread);
+        clock.set_due(self.thread, clock.turns());
+        let mut next = if self.shared.take_turn(rt, own) {
+            Some(own)
+        } else {
+            None
+        };
         for _ in rt.forever() {
             self.go_on_from(rt, hosts, next, calls);
             next = self.sleep(rt, hosts, calls);
