@@ -1,5 +1,5 @@
 //! The answer of `replay`.
-ghost use Rattle.std.specs.Prelude.{◌≡◌, ◌<◌, List, map, Ok, Err, IfOk, OnOk};
+ghost use Rattle.std.specs.Prelude.{◌≡◌, List, map, Ok, Err, IfOk, OnOk};
 ghost use Rattle.std.specs.Io.KnownBytes.{Appends};
 ghost use Rattle.card_digits.specs.Stream.{AppendsFront};
 ghost use Rattle.net_tables.specs.Reading.{tables_in};
@@ -10,6 +10,7 @@ ghost use Rattle.net_replay.specs.Outcome.{outcome};
 ghost use Rattle.net_replay.specs.Steps.{Step};
 ghost use Rattle.net_replay.specs.Traces.{AreTraces};
 ghost use Rattle.replay_text.specs.Lines.{steps_text};
+ghost use Rattle.message_text.specs.Printed.{CountsPrinted};
 ghost use Rattle.bundle_text.specs.Answers.{Wrote, WroteFront, fault};
 ghost use Rattle.bundle_text.specs.Lines.{table_fault_line, cert_fault_line};
 ghost use Rattle.replay_text.specs.Lines.{script_fault_line};
@@ -69,7 +70,7 @@ fn write_made<W: Sink>(
 ) -> Result<Status, PrintFault>
     ensures ok { IfOk result (WroteMade made (W.written writer.old) (W.written writer.new)) }
     ensures write { result ≡ Err PrintFault.Write → WroteMadeFront made (W.written writer.old) (W.written writer.new) }
-    ensures failed { result ≡ Err PrintFault.Write → 0 < W.failures writer.new }
+    ensures counts { CountsPrinted (W.failures writer.old) (W.failures writer.new) result }
     ensures memory { result ≡ Err PrintFault.Memory → W.written writer.new ≡ W.written writer.old }
 {
     match made {
@@ -88,7 +89,7 @@ fn write_kept<W: Sink>(
 ) -> Result<(), PrintFault>
     ensures ok { OnOk result ((steps : List Step) → AreTraces tables.now steps traces.entry → Appends (W.written writer.old) (W.written writer.new) (steps_text tables.now steps)) }
     ensures write { result ≡ Err PrintFault.Write → (steps : List Step) → AreTraces tables.now steps traces.entry → AppendsFront (W.written writer.old) (W.written writer.new) (steps_text tables.now steps) }
-    ensures failed { result ≡ Err PrintFault.Write → 0 < W.failures writer.new }
+    ensures counts { CountsPrinted (W.failures writer.old) (W.failures writer.new) result }
     ensures memory { result ≡ Err PrintFault.Memory → W.written writer.new ≡ W.written writer.old }
 {
     match trace_memory {
@@ -112,7 +113,7 @@ fn write_script<W: Sink>(
     requires { accepted.now ≡ tables.now }
     ensures ok { IfOk result (Wrote (λ said. ReplayAnswers said (outcome_said tables.now (outcome tables.now (lines script.now)))) (W.written writer.old) (W.written writer.new)) }
     ensures write { result ≡ Err PrintFault.Write → WroteFront (λ said. ReplayAnswers said (outcome_said tables.now (outcome tables.now (lines script.now)))) (W.written writer.old) (W.written writer.new) }
-    ensures failed { result ≡ Err PrintFault.Write → 0 < W.failures writer.new }
+    ensures counts { CountsPrinted (W.failures writer.old) (W.failures writer.new) result }
     ensures memory { result ≡ Err PrintFault.Memory → W.written writer.new ≡ W.written writer.old }
 {
     match replay(alloc, accepted, script) {
@@ -135,7 +136,7 @@ fn write_checked<W: Sink>(
 ) -> Result<Status, PrintFault>
     ensures ok { IfOk result (Wrote (λ said. ReplayAnswers said (checked_said tables.now (first_refusal tables.now cert.now) script.now)) (W.written writer.old) (W.written writer.new)) }
     ensures write { result ≡ Err PrintFault.Write → WroteFront (λ said. ReplayAnswers said (checked_said tables.now (first_refusal tables.now cert.now) script.now)) (W.written writer.old) (W.written writer.new) }
-    ensures failed { result ≡ Err PrintFault.Write → 0 < W.failures writer.new }
+    ensures counts { CountsPrinted (W.failures writer.old) (W.failures writer.new) result }
     ensures memory { result ≡ Err PrintFault.Memory → W.written writer.new ≡ W.written writer.old }
 {
     match check(alloc, tables, cert) {
@@ -156,7 +157,7 @@ fn write_ranked<W: Sink>(
 ) -> Result<Status, PrintFault>
     ensures ok { IfOk result (Wrote (λ said. ReplayAnswers said (read_said (Ok tables.now) (cert_in ranks.now) script.now)) (W.written writer.old) (W.written writer.new)) }
     ensures write { result ≡ Err PrintFault.Write → WroteFront (λ said. ReplayAnswers said (read_said (Ok tables.now) (cert_in ranks.now) script.now)) (W.written writer.old) (W.written writer.new) }
-    ensures failed { result ≡ Err PrintFault.Write → 0 < W.failures writer.new }
+    ensures counts { CountsPrinted (W.failures writer.old) (W.failures writer.new) result }
     ensures memory { result ≡ Err PrintFault.Memory → W.written writer.new ≡ W.written writer.old }
 {
     match read_cert(alloc, ranks) {
@@ -176,7 +177,7 @@ fn write_read<W: Sink>(
 ) -> Result<Status, PrintFault>
     ensures ok { IfOk result (Wrote (λ said. ReplayAnswers said (read_said (tables_in tables.now) (cert_in ranks.now) script.now)) (W.written writer.old) (W.written writer.new)) }
     ensures write { result ≡ Err PrintFault.Write → WroteFront (λ said. ReplayAnswers said (read_said (tables_in tables.now) (cert_in ranks.now) script.now)) (W.written writer.old) (W.written writer.new) }
-    ensures failed { result ≡ Err PrintFault.Write → 0 < W.failures writer.new }
+    ensures counts { CountsPrinted (W.failures writer.old) (W.failures writer.new) result }
     ensures memory { result ≡ Err PrintFault.Memory → W.written writer.new ≡ W.written writer.old }
 {
     match read_tables(alloc, tables) {
@@ -194,7 +195,7 @@ fn write_parts<W: Sink>(
 ) -> Result<Status, PrintFault>
     ensures ok { IfOk result (Wrote (λ said. ReplayAnswers said (replay_parts (map (λ p. p.now) parts.now))) (W.written writer.old) (W.written writer.new)) }
     ensures write { result ≡ Err PrintFault.Write → WroteFront (λ said. ReplayAnswers said (replay_parts (map (λ p. p.now) parts.now))) (W.written writer.old) (W.written writer.new) }
-    ensures failed { result ≡ Err PrintFault.Write → 0 < W.failures writer.new }
+    ensures counts { CountsPrinted (W.failures writer.old) (W.failures writer.new) result }
     ensures memory { result ≡ Err PrintFault.Memory → W.written writer.new ≡ W.written writer.old }
 {
     if parts.len() != 3 {
@@ -214,7 +215,7 @@ pub fn write_replayed<W: Sink>(
 ) -> Result<Status, PrintFault>
     ensures ok { IfOk result (Wrote (λ said. ReplayAnswers said (replay_said input.now)) (W.written writer.old) (W.written writer.new)) }
     ensures write { result ≡ Err PrintFault.Write → WroteFront (λ said. ReplayAnswers said (replay_said input.now)) (W.written writer.old) (W.written writer.new) }
-    ensures failed { result ≡ Err PrintFault.Write → 0 < W.failures writer.new }
+    ensures counts { CountsPrinted (W.failures writer.old) (W.failures writer.new) result }
     ensures memory { result ≡ Err PrintFault.Memory → W.written writer.new ≡ W.written writer.old }
 {
     let Ok(text) = without_carriage_returns(alloc, input) else {

@@ -1,6 +1,7 @@
 //! Text in pieces, on its way to a writer.
-ghost use Rattle.std.specs.Prelude.{◌≡◌, ◌<◌, ◌++◌, [], map, OnOk, OnErr};
+ghost use Rattle.std.specs.Prelude.{◌≡◌, ◌++◌, [], map, OnOk, OnErr};
 ghost use Rattle.std.specs.List.{concat};
+ghost use Rattle.card_digits.specs.Stream.{CountsFailure};
 ghost use Rattle.message_text.specs.Printed.{Sends};
 ghost use Rattle.replay_text.specs.Fronts.{SendsFront};
 
@@ -42,7 +43,7 @@ fn add_each<W: Sink>(
 ) -> Result<(), WriteFault>
     ensures ok { OnOk result (Sends (W.written writer.old) (W.written writer.new) waiting.old.items (concat (map (λ p. p.now) pieces.now)) waiting.new.items) }
     ensures err { OnErr result (SendsFront (W.written writer.old) (W.written writer.new) waiting.old.items (concat (map (λ p. p.now) pieces.now))) }
-    ensures failed { OnErr result (0 < W.failures writer.new) }
+    ensures counts { CountsFailure (W.failures writer.old) (W.failures writer.new) result }
 {
     for piece in pieces {
         add_text(writer, waiting, piece)?;
@@ -58,7 +59,7 @@ pub(crate) fn add_pieces<W: Sink>(
 ) -> Result<(), WriteFault>
     ensures ok { OnOk result (Sends (W.written writer.old) (W.written writer.new) waiting.old.items (concat (map (λ p. p.now) pieces.now)) waiting.new.items) }
     ensures err { OnErr result (SendsFront (W.written writer.old) (W.written writer.new) waiting.old.items (concat (map (λ p. p.now) pieces.now))) }
-    ensures failed { OnErr result (0 < W.failures writer.new) }
+    ensures counts { CountsFailure (W.failures writer.old) (W.failures writer.new) result }
 {
     if push_pieces(waiting, pieces).is_err() {
         return add_each(writer, waiting, pieces);

@@ -3,8 +3,8 @@ ghost use Rattle.std.specs.Prelude.{◌≡◌, ◌<◌, ◌^◌, List, [], ◌�
 ghost use Rattle.std.specs.List.{concat, flat_map};
 ghost use Rattle.bundle_text.specs.Lines.{node_name};
 ghost use Rattle.std.specs.Io.KnownBytes.{Appends};
-ghost use Rattle.card_digits.specs.Stream.{AppendsFront};
-ghost use Rattle.message_text.specs.Printed.{Sends};
+ghost use Rattle.card_digits.specs.Stream.{AppendsFront, CountsFailure};
+ghost use Rattle.message_text.specs.Printed.{CountsPrinted, Sends};
 ghost use Rattle.net_replay.specs.Steps.{Step};
 ghost use Rattle.net_replay.specs.Traces.{AreTraces};
 ghost use Rattle.replay_text.specs.Fronts.{SendsFront};
@@ -12,43 +12,12 @@ ghost use Rattle.replay_text.specs.Lines.{ordered_text, output_text, step_text, 
 
 use crate::row::{ROW, put_heading, put_way};
 use crate::sending::add_pieces;
-use bundle_text::{MOST_WAITING, PrintFault, link_name, node_name, send};
+use bundle_text::{MOST_WAITING, PrintFault, add_text, node_name, send};
 use card_digits::{NodeNo, Sink, WriteFault};
-use itoa::Buffer;
 use net_replay::{Steps, Traces};
 use net_rows::Tables;
-use request_book::Way;
 use std::alloc::Global;
 use switch_node::{Entry, Output};
-
-/// Adds the line of an output to what waits, piece by piece: its way, and the bytes.
-fn add_pieces_of<W: Sink>(
-    writer: &mut W,
-    waiting: &mut Vec<u8>,
-    tables: &Tables,
-    output: &Output,
-) -> Result<(), WriteFault>
-    ensures ok { OnOk result (Sends (W.written writer.old) (W.written writer.new) waiting.old.items (output_text tables.now output.now) waiting.new.items) }
-    ensures err { OnErr result (SendsFront (W.written writer.old) (W.written writer.new) waiting.old.items (output_text tables.now output.now)) }
-    ensures failed { OnErr result (0 < W.failures writer.new) }
-{
-    let bytes = output.bytes();
-    let mut buffer = Buffer::new();
-    match output.way() {
-        Way::Put(link, serial) => {
-            let name = link_name(tables, link);
-            let digits = buffer.format(serial).as_bytes();
-            let pieces: [&[u8]; 7] = [b"  put ", name, b" ", digits, b" ", bytes, b"\n"];
-            add_pieces(writer, waiting, &pieces)
-        }
-        Way::Answer => add_pieces(writer, waiting, &[b"  answer ", bytes, b"\n"]),
-        Way::Ask(ask) => {
-            let digits = buffer.format(ask).as_bytes();
-            add_pieces(writer, waiting, &[b"  ask ", digits, b" ", bytes, b"\n"])
-        }
-        Way::Post => add_pieces(writer, waiting, &[b"  post ", bytes, b"\n"]),
-    }
-}
 
 /// Adds the line of an output to what waits. Its way is put together in a row.
 fn add_output<W: Sink>(
@@ -59,13 +28,11 @@ fn add_output<W: Sink>(
 ) -> Result<(), WriteFault>
     ensures ok { OnOk result (Sends (W.written writer.old) (W.written writer.new) waiting.old.items (output_text tables.now output.now) waiting.new.items) }
     ensures err { OnErr result (SendsFront (W.written writer.old) (W.written writer.new) waiting.old.items (output_text tables.now output.now)) }
-    ensures failed { OnErr result (0 < W.failures writer.new) }
+    ensures counts { CountsFailure (W.failures writer.old) (W.failures writer.new) result }
 {
     let mut row = [0u8; ROW];
-    match put_way(&mut row, tables, output) {
-        Some(end) => add_pieces(writer, waiting, &[&row[..end], output.bytes(), b"\n"]),
-        None => add_pieces_of(writer, waiting, tables, output),
-    }
+    let end = put_way(&mut row, tables, output);
+    add_pieces(writer, waiting, &[&row[..end], output.bytes(), b"\n"])
 }
 
 fn add_outputs<W: Sink>(
@@ -76,7 +43,7 @@ fn add_outputs<W: Sink>(
 ) -> Result<(), WriteFault>
     ensures ok { OnOk result (Sends (W.written writer.old) (W.written writer.new) waiting.old.items (flat_map (output_text tables.now) outputs.now) waiting.new.items) }
     ensures err { OnErr result (SendsFront (W.written writer.old) (W.written writer.new) waiting.old.items (flat_map (output_text tables.now) outputs.now)) }
-    ensures failed { OnErr result (0 < W.failures writer.new) }
+    ensures counts { CountsFailure (W.failures writer.old) (W.failures writer.new) result }
 {
     for output in outputs {
         add_output(writer, waiting, tables, output)?;
@@ -84,7 +51,7 @@ fn add_outputs<W: Sink>(
     Ok(())
 }
 
-/// Adds the line with a step's number and its node. It is put together in a row, where that has room for the name.
+/// Adds the line with a step's number and its node. It is put together in a row.
 fn add_heading<W: Sink>(
     writer: &mut W,
     waiting: &mut Vec<u8>,
@@ -94,18 +61,11 @@ fn add_heading<W: Sink>(
 ) -> Result<(), WriteFault>
     ensures ok { OnOk result (Sends (W.written writer.old) (W.written writer.new) waiting.old.items (concat (decimal number ∷ codes " " ∷ node_name tables.now node ∷ codes "\n" ∷ [])) waiting.new.items) }
     ensures err { OnErr result (SendsFront (W.written writer.old) (W.written writer.new) waiting.old.items (concat (decimal number ∷ codes " " ∷ node_name tables.now node ∷ codes "\n" ∷ []))) }
-    ensures failed { OnErr result (0 < W.failures writer.new) }
+    ensures counts { CountsFailure (W.failures writer.old) (W.failures writer.new) result }
 {
-    let name = node_name(tables, node);
     let mut row = [0u8; ROW];
-    match put_heading(&mut row, number, name) {
-        Some(end) => add_pieces(writer, waiting, &[&row[..end]]),
-        None => {
-            let mut buffer = Buffer::new();
-            let digits = buffer.format(number).as_bytes();
-            add_pieces(writer, waiting, &[digits, b" ", name, b"\n"])
-        }
-    }
+    let end = put_heading(&mut row, number, node_name(tables, node));
+    add_text(writer, waiting, &row[..end])
 }
 
 /// Adds the lines of a step: the number of its line and its node, and what went out.
@@ -119,7 +79,7 @@ fn add_step<W: Sink>(
 ) -> Result<(), WriteFault>
     ensures ok { OnOk result (Sends (W.written writer.old) (W.written writer.new) waiting.old.items (step_text tables.now number (record { node = node; entry = entry.now })) waiting.new.items) }
     ensures err { OnErr result (SendsFront (W.written writer.old) (W.written writer.new) waiting.old.items (step_text tables.now number (record { node = node; entry = entry.now }))) }
-    ensures failed { OnErr result (0 < W.failures writer.new) }
+    ensures counts { CountsFailure (W.failures writer.old) (W.failures writer.new) result }
 {
     add_heading(writer, waiting, tables, number, node)?;
     add_outputs(writer, waiting, tables, entry.outputs().as_slice())
@@ -136,7 +96,7 @@ fn write_steps<W: Sink>(
     requires few { length steps.old < 2 ^ 63 }
     ensures ok { OnOk result (Appends (W.written writer.old) (W.written writer.new) (ordered_text tables.now 1 steps.old)) }
     ensures err { OnErr result (AppendsFront (W.written writer.old) (W.written writer.new) (ordered_text tables.now 1 steps.old)) }
-    ensures failed { OnErr result (0 < W.failures writer.new) }
+    ensures counts { CountsFailure (W.failures writer.old) (W.failures writer.new) result }
 {
     let mut number = 0u64;
     while let Some(step) = steps.next_step() {
@@ -156,7 +116,7 @@ pub fn write_traces<W: Sink>(
 ) -> Result<(), PrintFault>
     ensures ok { OnOk result ((steps : List Step) → AreTraces tables.now steps traces.now → Appends (W.written writer.old) (W.written writer.new) (steps_text tables.now steps)) }
     ensures write { result ≡ Err PrintFault.Write → (steps : List Step) → AreTraces tables.now steps traces.now → AppendsFront (W.written writer.old) (W.written writer.new) (steps_text tables.now steps) }
-    ensures failed { result ≡ Err PrintFault.Write → 0 < W.failures writer.new }
+    ensures counts { CountsPrinted (W.failures writer.old) (W.failures writer.new) result }
     ensures memory { result ≡ Err PrintFault.Memory → W.written writer.new ≡ W.written writer.old }
 {
     let Ok(mut waiting) = Vec::with_capacity(alloc, MOST_WAITING) else {

@@ -1,5 +1,6 @@
 //! From the bytes of an input to those of an answer.
-ghost use Rattle.std.specs.Prelude.{◌<◌, OnErr, IfOk};
+ghost use Rattle.std.specs.Prelude.{OnErr, IfOk};
+ghost use Rattle.card_digits.specs.Stream.{CountsFailure};
 ghost use Rattle.bundle_text.specs.Answers.{WroteFront};
 ghost use Rattle.bundle_input.specs.Input.{IsOutput, WroteWithCode};
 ghost use Rattle.trace_view.specs.Answers.{IsTraceAnswer};
@@ -29,9 +30,9 @@ pub fn run_trace<R: Source, W: Sink>(
     reader: &mut R,
     writer: &mut W,
 ) -> Result<u8, BundleFault>
-    ensures ok { IfOk result (WroteWithCode (IsOutput IsTraceAnswer (R.remaining reader.old) (R.failures reader.new) (R.turns reader.old) (R.turns reader.new)) (W.written writer.old) (W.written writer.new)) }
-    ensures err { OnErr result (WroteFront (IsOutput IsTraceAnswer (R.remaining reader.old) (R.failures reader.new) (R.turns reader.old) (R.turns reader.new)) (W.written writer.old) (W.written writer.new)) }
-    ensures failed { OnErr result (0 < W.failures writer.new) }
+    ensures ok { IfOk result (WroteWithCode (IsOutput IsTraceAnswer (R.remaining reader.old) (R.failures reader.old) (R.failures reader.new) (R.turns reader.old) (R.turns reader.new)) (W.written writer.old) (W.written writer.new)) }
+    ensures err { OnErr result (WroteFront (IsOutput IsTraceAnswer (R.remaining reader.old) (R.failures reader.old) (R.failures reader.new) (R.turns reader.old) (R.turns reader.new)) (W.written writer.old) (W.written writer.new)) }
+    ensures counts { CountsFailure (W.failures writer.old) (W.failures writer.new) result }
 {
     run_answer(alloc, &TraceTable, reader, writer)
 }

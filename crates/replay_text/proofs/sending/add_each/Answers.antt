@@ -19,5 +19,6 @@ loop-piece-preserved g c =
     record {
       done = l.invariant.done ++ _;
       sends = both_sent _ _ _ _ _ _ l.invariant.done _ _ l.invariant.sends c.in_ok-add_text.ensures.ok refl;
+      counts = rw c.in_ok-add_text.ensures.counts l.invariant.counts;
       whole = append_assoc l.invariant.done _ (texts (drop (l.piece-index + 1) c.args.pieces.now)) ∙ next_text texts (λ p. p.now) (λ x xs. refl) c.args.pieces.now l.piece-index _ l.invariant.done _ c.loop-piece-test.true l.invariant.whole;
     }

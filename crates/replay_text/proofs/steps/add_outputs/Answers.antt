@@ -19,5 +19,6 @@ loop-output-preserved g c =
     record {
       done = l.invariant.done ++ output_text t c.output-item.result;
       sends = both_sent _ _ _ _ _ _ l.invariant.done (output_text t c.output-item.result) _ l.invariant.sends c.in_ok-add_output.ensures.ok refl;
+      counts = rw c.in_ok-add_output.ensures.counts l.invariant.counts;
       whole = append_assoc l.invariant.done (output_text t c.output-item.result) (flat_map (output_text t) (drop (l.output-index + 1) c.args.outputs.now)) ∙ next_item (flat_map (output_text t)) (output_text t) (λ x xs. refl) c.args.outputs.now l.output-index c.output-item.result l.invariant.done _ c.loop-output-test.true c.output-item.is l.invariant.whole;
     }

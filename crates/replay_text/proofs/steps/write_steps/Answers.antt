@@ -27,6 +27,7 @@ loop-step-preserved g c =
     record {
       done = l.invariant.done ++ text;
       sends = both_sent _ _ _ _ _ _ l.invariant.done text _ l.invariant.sends c.in_ok-add_step.ensures.ok refl;
+      counts = rw c.in_ok-add_step.ensures.counts l.invariant.counts;
       whole = append_assoc l.invariant.done text (ordered_text t (l.number + 1 + 1) left) ∙ next_ordered t l.number s l.steps left l.invariant.done _ c.in-Some.ensures l.invariant.whole;
       few = omega (arith, l.invariant.few, ap length c.in-Some.ensures);
     }
