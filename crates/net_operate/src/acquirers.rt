@@ -1,9 +1,8 @@
 //! Sessions: who enters the lines of an acquirer, and waits for their answers.
 
-ghost use Rattle.std.specs.Prelude.{◌≤◌};
-
+use crate::desk::{Awaiting, Desk};
 use crate::fitting::is_answer_to;
-use crate::news::{Awaited, Shared};
+use crate::news::Awaited;
 use crate::running::Host;
 use crate::search::Search;
 use crate::waiting::{Wanted, next_answer};
@@ -11,249 +10,247 @@ use crate::worker::Worker;
 use iso_message::decode;
 use message_keys::key_of;
 use net_threads::{LineEnd, StationFault};
-use plan_threads::{Calls, Standing, Turns};
+use plan_threads::{Calls, ClockTurns};
 use run_plan::Session;
 use shared_bytes::SharedBytes;
-use std::alloc::{AllocError, Global};
+use std::alloc::AllocError;
 use std::sync::Wait;
 use switch_node::{Case, Input};
 
-/// How many lines a session enters until it is the turn of another.
+/// How many lines of a session are gone on with until it is the turn of another.
 const LINES_OF_A_TURN: usize = 256;
 
-/// What a session looks for at its node, and what it is told of, where its line has a key.
+/// What is left to do for a session.
 #[derive(Clone, Copy)]
-struct Sought<'s> {
-    wanted: Wanted,
-    awaited: Option<&'s Awaited>,
+pub(crate) enum Progress {
+    /// There is more to do at once.
+    More,
+    /// Nothing, until it is told of an answer, or the clock has come to this turn.
+    Waits(u64),
+    /// All its lines have ended.
+    Ended,
 }
 
-/// The session at a place of the plan, as a thread.
+impl Progress {
+    /// The turn of the clock at which there is something to do, whatever the session is told of.
+    pub(crate) fn due(&self, now: u64) -> u64 {
+        match self {
+            Progress::More => now,
+            Progress::Waits(due) => *due,
+            Progress::Ended => u64::MAX,
+        }
+    }
+
+    pub(crate) fn is_more(&self) -> bool {
+        match self {
+            Progress::More => true,
+            _ => false,
+        }
+    }
+
+    pub(crate) fn is_end(&self) -> bool {
+        match self {
+            Progress::Ended => true,
+            _ => false,
+        }
+    }
+}
+
+/// How far a line has come.
+enum Line {
+    Ended(LineEnd),
+    Awaits(Awaiting),
+}
+
+/// The session at a place of the plan, for a thread that goes on with it: its own, or that of another session.
 #[derive(Clone, Copy)]
 pub(crate) struct Acquirer<'s, 't, 'p> {
-    pub worker: Worker<'s, 't, 'p>,
-    pub place: usize,
+    /// The thread at the session's node.
+    worker: Worker<'s, 't, 'p>,
+    session: &'s Session<'p>,
+    /// What it waits for, and what it was told of.
+    awaited: &'s Awaited,
 }
 
 impl<'s, 't, 'p> Acquirer<'s, 't, 'p> {
-    /// What is looked for once a line was entered. Called before it is.
-    fn sought(&self, line: &[u8]) -> Option<Sought<'s>> {
-        let message = decode(self.worker.alloc, line).ok()?;
-        let wanted = Wanted::new(line, message.get(7)?, message.get(11)?)?;
-        let awaited = match key_of(&message) {
-            Some(key) => {
-                let awaited = self.worker.shared.awaited(self.place)?;
-                awaited.begin(&key);
-                Some(awaited)
-            }
-            None => None,
-        };
-        Some(Sought { wanted, awaited })
+    /// None where there is no station at the place of the session's node.
+    pub(crate) fn of(worker: &Worker<'s, 't, 'p>, place: usize) -> Option<Acquirer<'s, 't, 'p>> {
+        let session = worker.plan.sessions.get(place)?;
+        Some(Acquirer {
+            worker: worker.at(session.node.place())?,
+            session,
+            awaited: worker.shared.awaited(place)?,
+        })
     }
 
-    /// Enters a line, and says where the search for its answer begins.
-    fn enter<R: Wait>(
+    /// What is looked for once a line was entered, and whether the session is told of it. Called before it is entered.
+    fn sought(&self, line: &[u8]) -> Option<(Wanted, bool)> {
+        let message = decode(self.worker.alloc, line).ok()?;
+        let wanted = Wanted::new(line, message.get(7)?, message.get(11)?)?;
+        match key_of(&message) {
+            Some(key) => {
+                self.awaited.begin(&key);
+                Some((wanted, true))
+            }
+            None => Some((wanted, false)),
+        }
+    }
+
+    /// Makes the step of a line, and says where the search for its answer begins.
+    fn apply<R: Wait>(
         &self,
         rt: &R,
         bytes: SharedBytes,
-        sought: Option<&Sought<'_>>,
         calls: &mut Calls,
     ) -> (Search, Result<(), StationFault>) {
         let worker = &self.worker;
         let mut station = worker.wait_for_station(rt);
-        let before = station.trace().len();
-        let search = Search::from(before, count_told(sought));
+        let search = Search::from(station.trace().len(), self.awaited.count());
         let entered = station.apply(Input::new(Case::Enter(bytes)));
         worker.shared.tell(worker.alloc, worker.n, &station, calls);
         (search, entered)
     }
 
-    /// The next answer that may be the wanted one. Where a single one was told of, the entries before it have none.
-    fn next_answer<R: Wait>(
+    /// Enters a line, carries on what comes of it, and looks for its answer.
+    fn enter<H: Host, R: Wait>(
         &self,
         rt: &R,
-        search: &mut Search,
-        sought: &Sought<'_>,
+        hosts: &[H],
+        line: &[u8],
         calls: &mut Calls,
-    ) -> Option<Vec<u8>> {
-        let awaited = sought.awaited?;
-        if !search.is_told(awaited.count()) {
-            return None;
+    ) -> Result<Line, AllocError> {
+        let worker = &self.worker;
+        let bytes = SharedBytes::from_slice(worker.alloc, line)?;
+        let sought = self.sought(line);
+        let (search, entered) = self.apply(rt, bytes, calls);
+        worker.leave_station(calls);
+        worker.carry_on(rt, hosts, calls);
+        if let Err(fault) = entered {
+            return Ok(Line::Ended(LineEnd::Refused(fault)));
         }
-        let found = self.look(rt, search, sought, awaited);
-        self.worker.leave_station(calls);
-        found
+        let Some((wanted, is_told)) = sought else {
+            return Ok(Line::Ended(LineEnd::Nothing));
+        };
+        let awaiting = Awaiting {
+            wanted,
+            is_told,
+            search,
+            turns: ClockTurns::new(worker.plan.turns, worker.shared.clock().turns()),
+        };
+        Ok(self.hear(rt, hosts, line, awaiting, calls))
     }
 
-    /// Looks for an answer among the entries that were told of.
-    fn look<R: Wait>(
-        &self,
-        rt: &R,
-        search: &mut Search,
-        sought: &Sought<'_>,
-        awaited: &Awaited,
-    ) -> Option<Vec<u8>> {
+    /// Whether the session was told of another answer than it has seen.
+    fn has_news(&self, awaiting: &Awaiting) -> bool {
+        awaiting.is_told && awaiting.search.is_told(self.awaited.count())
+    }
+
+    /// Whether nothing can come for the session any more.
+    fn is_last(&self) -> bool {
+        let shared = self.worker.shared;
+        shared.is_stopped() || shared.is_idle(self.worker.n)
+    }
+
+    /// Looks for an answer among the entries that were told of. Where a single one was told of, the entries before it have none.
+    fn look<R: Wait>(&self, rt: &R, awaiting: &mut Awaiting) -> Option<Vec<u8>> {
         let worker = &self.worker;
         let station = worker.wait_for_station(rt);
-        let count = awaited.count();
-        search.skip(count, awaited.newest() as usize);
+        let count = self.awaited.count();
+        let search = &mut awaiting.search;
+        search.skip(count, self.awaited.newest() as usize);
         let found = next_answer(
             worker.alloc,
             station.trace(),
             &mut search.cursor,
-            &sought.wanted,
+            &awaiting.wanted,
         );
         search.end_look(count, station.trace().len());
         found
     }
 
-    /// Waits until it is the session's turn, and no longer than anybody works.
-    fn take_turn<H: Host, R: Wait>(&self, rt: &R, hosts: &[H], calls: &mut Calls) {
-        let worker = &self.worker;
-        worker.listen();
-        if !worker.shared.take_turn(rt, self.place) {
-            worker.nap(rt, hosts, calls);
-            worker.shared.go_on(rt, self.place);
-        }
-    }
-
-    /// Another session goes on, and this one sleeps until it has an answer, or so many turns have passed.
-    fn rest<H: Host, R: Wait>(&self, rt: &R, hosts: &[H], turns: u64, calls: &mut Calls) -> u64
-        ensures { result ≤ turns }
-    {
-        let worker = &self.worker;
-        self.leave_turn(rt, Standing::Away);
-        worker.rest(rt, hosts, turns, calls)
-    }
-
-    /// Waits for the answer to a line, for the plan's turns, and no longer than something can come.
-    fn await_answer<H: Host, R: Wait>(
+    /// Looks for the answer to a line. It is awaited further where it has not come and may come yet.
+    fn hear<H: Host, R: Wait>(
         &self,
         rt: &R,
         hosts: &[H],
         line: &[u8],
-        sought: &Sought<'_>,
-        search: &mut Search,
+        awaiting: Awaiting,
         calls: &mut Calls,
-    ) -> LineEnd {
-        let worker = &self.worker;
-        let shared = worker.shared;
-        let mut turns = Turns::new(worker.plan.turns);
-        for _ in 0..worker.plan.turns {
-            if turns.are_over() {
+    ) -> Line {
+        let mut awaiting = awaiting;
+        for _ in 0..self.worker.plan.turns {
+            if awaiting.turns.are_over() {
                 break;
             }
-            self.take_turn(rt, hosts, calls);
-            worker.listen();
-            turns.pass(1);
-            let last = shared.is_stopped() || shared.is_idle(worker.n);
-            let found = self.next_answer(rt, search, sought, calls);
-            worker.carry_on(rt, hosts, calls);
+            awaiting.turns.next();
+            let last = self.is_last();
+            let mut found = None;
+            if self.has_news(&awaiting) {
+                found = self.look(rt, &mut awaiting);
+                self.worker.leave_station(calls);
+                self.worker.carry_on(rt, hosts, calls);
+            }
             match found {
                 Some(bytes) => {
-                    if is_answer_to(worker.alloc, line, bytes.as_slice()) {
-                        return LineEnd::Answer(bytes);
+                    if is_answer_to(self.worker.alloc, line, bytes.as_slice()) {
+                        return Line::Ended(LineEnd::Answer(bytes));
                     }
                 }
                 None => {
                     if last {
-                        return LineEnd::Nothing;
+                        break;
                     }
-                    let told = count_told(Some(sought));
-                    let left = search.rest(told, turns.left());
-                    let passed = self.rest(rt, hosts, left, calls);
-                    turns.pass(passed);
+                    return Line::Awaits(awaiting);
                 }
             }
         }
-        LineEnd::Nothing
+        Line::Ended(LineEnd::Nothing)
     }
 
-    /// Enters a line, and waits for its answer.
-    fn run_line<H: Host, R: Wait>(
+    /// Looks for the answer that the session waits for, where there is something to do. Where there is nothing, no turn is counted.
+    fn hear_more<H: Host, R: Wait>(
         &self,
         rt: &R,
         hosts: &[H],
         line: &[u8],
+        awaiting: Awaiting,
         calls: &mut Calls,
-    ) -> Result<LineEnd, AllocError> {
-        let bytes = SharedBytes::from_slice(self.worker.alloc, line)?;
-        self.take_turn(rt, hosts, calls);
-        let sought = self.sought(line);
-        let (mut search, entered) = self.enter(rt, bytes, sought.as_ref(), calls);
-        self.worker.leave_station(calls);
-        self.worker.carry_on(rt, hosts, calls);
-        if let Err(fault) = entered {
-            return Ok(LineEnd::Refused(fault));
+    ) -> Line {
+        let mut awaiting = awaiting;
+        awaiting.turns.catch_up(self.worker.shared.clock().turns());
+        if awaiting.turns.are_over() || self.has_news(&awaiting) || self.is_last() {
+            self.hear(rt, hosts, line, awaiting, calls)
+        } else {
+            Line::Awaits(awaiting)
         }
-        let Some(sought) = sought else {
-            return Ok(LineEnd::Nothing);
-        };
-        Ok(self.await_answer(rt, hosts, line, &sought, &mut search, calls))
     }
 
-    /// Enters the lines of the session, one after the other.
-    fn run_lines<H: Host, R: Wait>(
+    /// Goes on with the session until it waits, has ended, or was gone on with for so many lines.
+    pub(crate) fn go_on<H: Host, R: Wait>(
         &self,
         rt: &R,
         hosts: &[H],
-        session: &Session<'_>,
-    ) -> Result<Vec<LineEnd>, AllocError> {
-        let mut ends = Vec::new(self.worker.alloc);
-        let mut calls = Calls::none(self.worker.alloc);
-        for (number, line) in session.lines.iter().enumerate() {
-            if number % LINES_OF_A_TURN == LINES_OF_A_TURN - 1 {
-                self.leave_turn(rt, Standing::Queued);
+        desk: &mut Desk,
+        calls: &mut Calls,
+    ) -> Progress {
+        for _ in 0..LINES_OF_A_TURN {
+            let Some(line) = desk.next_line(self.session.lines.as_slice()) else {
+                return Progress::Ended;
+            };
+            let line = match desk.awaiting.take() {
+                None => self.enter(rt, hosts, line, calls),
+                Some(awaiting) => Ok(self.hear_more(rt, hosts, line, awaiting, calls)),
+            };
+            match line {
+                Ok(Line::Ended(end)) => desk.end_line(Ok(end)),
+                Ok(Line::Awaits(awaiting)) => {
+                    let due = awaiting.turns.due(self.has_news(&awaiting));
+                    desk.awaiting = Some(awaiting);
+                    return Progress::Waits(due);
+                }
+                Err(fault) => desk.end_line(Err(fault)),
             }
-            ends.push(self.run_line(rt, hosts, *line, &mut calls)?)?;
         }
-        Ok(ends)
+        Progress::More
     }
-
-    /// Enters the lines of the session, after which it is the turn of the others.
-    fn run<H: Host, R: Wait>(
-        &self,
-        rt: &R,
-        hosts: &[H],
-        session: &Session<'_>,
-    ) -> Result<Vec<LineEnd>, AllocError> {
-        let ends = self.run_lines(rt, hosts, session);
-        self.leave_turn(rt, Standing::Out);
-        ends
-    }
-
-    /// The session goes on no more, and stands so from now on.
-    fn leave_turn<R: Wait>(&self, rt: &R, standing: Standing) {
-        self.worker.shared.leave_turn(rt, self.place, standing);
-    }
-}
-
-fn count_told(sought: Option<&Sought<'_>>) -> u64 {
-    match sought {
-        Some(
-            Sought {
-                wanted: _,
-                awaited: Some(awaited),
-            },
-        ) => awaited.count(),
-        _ => 0,
-    }
-}
-
-/// Runs a session, at the node that it has, and says that it has ended.
-pub(crate) fn run_session<H: Host, R: Wait>(
-    rt: &R,
-    alloc: Global,
-    hosts: &[H],
-    acquirer: Option<Acquirer<'_, '_, '_>>,
-    session: &Session<'_>,
-    shared: &Shared,
-) -> Result<Vec<LineEnd>, AllocError> {
-    let ends = match acquirer {
-        Some(acquirer) => acquirer.run(rt, hosts, session),
-        None => Ok(Vec::new(alloc)),
-    };
-    shared.session_ends();
-    shared.clock().leave(rt);
-    ends
 }

@@ -2,6 +2,7 @@
 #![tactic(auto)]
 
 mod acquirers;
+mod desk;
 mod fitting;
 mod hearing;
 mod news;
@@ -9,6 +10,7 @@ mod pumping;
 mod running;
 mod search;
 mod serving;
+mod sessions;
 mod waiting;
 mod worker;
 

@@ -4,12 +4,13 @@ ghost use Rattle.std.specs.Prelude.{◌≡◌, nat_lt};
 #[cfg(test)]
 mod tests;
 
+use crate::desk::Desk;
 use crate::fitting::key_in;
 use crate::hearing::{Hearer, who_hears};
 use crate::serving::Service;
 use card_digits::{Key, NodeNo};
-use net_threads::Station;
-use plan_threads::{Calls, Pump, Queue, Shelf, Standing, ThreadNumbers};
+use net_threads::{LineEnd, Station};
+use plan_threads::{Calls, Pump, Queue, Shelf, ThreadNumbers};
 use run_plan::Plan;
 use std::alloc::{AllocError, Global};
 use std::sync::atomic::{AtomicBool, AtomicU64, Ordering};
@@ -55,6 +56,14 @@ impl Awaited {
     }
 }
 
+/// What is kept of a session.
+#[derive(Drop)]
+struct Seat {
+    awaited: Awaited,
+    /// Where it lies how far the session has come, while nobody goes on with it.
+    desk: Mutex<Shelf<Desk>>,
+}
+
 /// What is told of a node.
 #[derive(Drop)]
 struct News {
@@ -88,7 +97,7 @@ pub(crate) struct Shared {
     /// Everything is to end.
     stopped: AtomicBool,
     nodes: Vec<News>,
-    awaited: Vec<Awaited>,
+    seats: Vec<Seat>,
     /// Whose turn it is among the plan's sessions.
     queue: Mutex<Queue>,
 }
@@ -154,12 +163,35 @@ fn nodes_of(alloc: Global, count: usize, plan: &Plan<'_>) -> Result<Vec<News>, A
     Ok(nodes)
 }
 
-fn nothing_awaited(alloc: Global, sessions: usize) -> Result<Vec<Awaited>, AllocError> {
-    let mut awaited = Vec::with_capacity(alloc, sessions)?;
-    for _ in 0..sessions {
-        awaited.push(Awaited::nothing())?;
+fn seat_of(alloc: Global) -> Seat {
+    let mut shelf = Shelf::empty();
+    let _ = shelf.put(Desk::new(alloc));
+    Seat {
+        awaited: Awaited::nothing(),
+        desk: Mutex::new(shelf),
     }
-    Ok(awaited)
+}
+
+fn seats_of(alloc: Global, sessions: usize) -> Result<Vec<Seat>, AllocError> {
+    let mut seats = Vec::with_capacity(alloc, sessions)?;
+    for _ in 0..sessions {
+        seats.push(seat_of(alloc))?;
+    }
+    Ok(seats)
+}
+
+/// What the lines of each session ended with, once nobody goes on with any.
+fn ends_of(alloc: Global, seats: Vec<Seat>) -> Result<Vec<Vec<LineEnd>>, AllocError> {
+    let mut ends = Vec::with_capacity(alloc, seats.len())?;
+    for seat in seats {
+        let Seat { awaited: _, desk } = seat;
+        let mut shelf = desk.into_inner();
+        match shelf.take() {
+            Some(desk) => ends.push(desk.into_ends()?)?,
+            None => ends.push(Vec::new(alloc))?,
+        }
+    }
+    Ok(ends)
 }
 
 impl Shared {
@@ -185,7 +217,7 @@ impl Shared {
             live: AtomicU64::new(sessions as u64),
             stopped: AtomicBool::new(false),
             nodes,
-            awaited: nothing_awaited(alloc, sessions)?,
+            seats: seats_of(alloc, sessions)?,
             queue: Mutex::new(Queue::new(alloc, sessions)?),
         })
     }
@@ -207,17 +239,15 @@ impl Shared {
         self.stopped.load(Ordering::SeqCst)
     }
 
-    /// Whether a pump or a host has nothing more to do.
+    /// Whether no thread has anything more to do.
     pub(crate) fn is_over(&self) -> bool {
         self.is_stopped() || self.live.load(Ordering::SeqCst) == 0
     }
 
-    /// A session has ended. Behind the last one pumps and hosts end.
+    /// A session has ended. Behind the last one all threads end.
     pub(crate) fn session_ends(&self) {
         if self.live.fetch_sub(1, Ordering::SeqCst) == 1 {
-            for thread in 0..self.threads.first_session() {
-                self.clock.tell(thread);
-            }
+            self.clock.tell_all();
         }
     }
 
@@ -247,30 +277,40 @@ impl Shared {
         }
     }
 
-    /// Whether it is the turn of the session at a place of the plan. Otherwise it is told once it is: one session goes on at a time.
+    /// Whether it is the turn of the session at a place of the plan. Otherwise it waits for it: one session goes on at a time.
     pub(crate) fn take_turn<R: Wait>(&self, rt: &R, session: usize) -> bool {
         self.queue.lock(rt).take(session)
     }
 
-    /// The session at a place of the plan goes on, whether or not it is its turn: from here on it is told of its answers at once.
-    pub(crate) fn go_on<R: Wait>(&self, rt: &R, session: usize) {
-        self.queue.lock(rt).go_on(session);
+    /// Where it is no session's turn, it is that of one that waits for it, if one does. Whoever calls this sees to it that a thread goes on
+    /// with that one.
+    pub(crate) fn begin_turn<R: Wait>(&self, rt: &R) -> Option<usize> {
+        self.queue.lock(rt).begin()
     }
 
-    /// The session at a place of the plan goes on no more, and stands so from now on. If it was its turn, the next is told.
-    pub(crate) fn leave_turn<R: Wait>(&self, rt: &R, session: usize, standing: Standing) {
-        let next = self.queue.lock(rt).leave(session, standing);
-        if let Some(next) = next {
-            self.clock.tell(self.threads.session(next));
-        }
+    /// The session at a place of the plan is gone on with no more. It waits for its turn where there is more to do for it, or it has been told
+    /// of an answer since its turn began. Unless it is the turn of another, it is that of one that waits for it, which the caller goes on with.
+    pub(crate) fn leave_turn<R: Wait>(&self, rt: &R, session: usize, more: bool) -> Option<usize> {
+        self.queue.lock(rt).leave(session, more)
     }
 
-    /// Tells a session that there is an answer, by its number on the clock: at once, or as soon as it is its turn.
+    /// There is an answer for a session, by its number on the clock: it waits for its turn.
     pub(crate) fn recall<R: Wait>(&self, rt: &R, thread: usize) {
         let session = self.threads.place_of_session(thread);
-        let is_told = self.queue.lock(rt).recall(session);
-        if is_told {
-            self.clock.tell(thread);
+        self.queue.lock(rt).call(session);
+    }
+
+    /// Takes out how far the session at a place of the plan has come, unless somebody has it, who is noted to have been asked for it then.
+    pub(crate) fn take_desk<R: Wait>(&self, rt: &R, session: usize) -> Option<Desk> {
+        self.seats.get(session)?.desk.lock(rt).take()
+    }
+
+    /// Puts it back, and says whether somebody wanted it meanwhile. The session's thread wakes up by itself at this turn.
+    pub(crate) fn put_desk<R: Wait>(&self, rt: &R, session: usize, due: u64, desk: Desk) -> bool {
+        self.clock.set_due(self.threads.session(session), due);
+        match self.seats.get(session) {
+            Some(seat) => seat.desk.lock(rt).put(desk),
+            None => false,
         }
     }
 
@@ -349,7 +389,27 @@ impl Shared {
 
     /// What the session at a place of the plan waits for.
     pub(crate) fn awaited(&self, place: usize) -> Option<&Awaited> {
-        self.awaited.get(place)
+        let seat = self.seats.get(place)?;
+        Some(&seat.awaited)
+    }
+
+    fn into_seats(self) -> Vec<Seat> {
+        let Shared {
+            clock: _,
+            threads: _,
+            pumps: _,
+            live: _,
+            stopped: _,
+            nodes: _,
+            seats,
+            queue: _,
+        } = self;
+        seats
+    }
+
+    /// What the lines of each session ended with, once all threads have ended.
+    pub(crate) fn into_ends(self, alloc: Global) -> Result<Vec<Vec<LineEnd>>, AllocError> {
+        ends_of(alloc, self.into_seats())
     }
 
     /// The station at a place has so many entries before the plan's threads start: of these only the host has to hear, as pumps look at
@@ -424,7 +484,7 @@ impl Shared {
             None => None,
         };
         for session in news.sessions.iter() {
-            if let Some(awaited) = self.awaited.get(*session) {
+            if let Some(awaited) = self.awaited(*session) {
                 if hash.is_none() || hash == Some(awaited.hash.load(Ordering::SeqCst)) {
                     awaited.add(place);
                     calls.add_session(self.threads.session(*session));

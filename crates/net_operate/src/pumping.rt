@@ -96,7 +96,9 @@ impl<'s, 't, 'p> Worker<'s, 't, 'p> {
                 break;
             }
             match self.pump_own(rt, hosts, &mut calls) {
-                Turn::Done => self.sleep(rt, hosts, &mut calls),
+                Turn::Done => {
+                    let _ = self.sleep(rt, hosts, &mut calls);
+                }
                 Turn::More | Turn::Locked => {}
                 Turn::Over => break,
             }

@@ -3,15 +3,15 @@ ghost use Rattle.std.specs.Prelude.{IfOk};
 ghost use Rattle.std.specs.List.{AllZip};
 ghost use Rattle.net_operate.specs.Sessions.{SessionFits};
 
-use crate::acquirers::{Acquirer, run_session};
 use crate::fitting::fitted;
 use crate::news::Shared;
 use crate::pumping::run_pump;
 use crate::serving::run_host;
+use crate::sessions::run_session;
 use crate::worker::Worker;
 use iso_message::Message;
 use message_elements::Code;
-use net_threads::{Ended, LineEnd, Network, Station};
+use net_threads::{Ended, Network, Station};
 use run_plan::{Loan, Plan, Session};
 use std::alloc::{AllocError, Global};
 use std::sync::{Mutex, Wait};
@@ -107,23 +107,20 @@ fn pump_at<'s, 't, 'p>(
     }
 }
 
-/// The session at a place of the plan as a thread, where there is a station at its node's place.
-fn acquirer_of<'s, 't, 'p>(
+/// The thread of the session at a place of the plan, where there is a station at its node's place.
+fn session_at<'s, 't, 'p>(
     alloc: Global,
     stations: &'s Vec<Mutex<Station<'t>>>,
     plan: &'s Plan<'p>,
     shared: &'s Shared,
     place: usize,
     session: &Session<'_>,
-) -> Option<Acquirer<'s, 't, 'p>> {
+) -> Option<Worker<'s, 't, 'p>> {
     let n = session.node.place();
     let station = stations.get(n)?;
     let pump = pump_at(alloc, n, stations, station, plan, shared);
     let thread = shared.threads().session(place);
-    Some(Acquirer {
-        worker: Worker { thread, ..pump },
-        place,
-    })
+    Some(Worker { thread, ..pump })
 }
 
 /// Notes how many entries each station has before the threads start.
@@ -142,7 +139,7 @@ fn lend_and_run<H: Host + Sync, R: Threads + Wait + Sync>(
     plan: &Plan<'_>,
     hosts: &[H],
     shared: &Shared,
-) -> Result<Vec<Vec<LineEnd>>, OperateFault> {
+) -> Result<(), OperateFault> {
     if lend_all(rt, alloc, network, plan.loans.as_slice()).is_err() {
         return Err(OperateFault::Memory);
     }
@@ -159,11 +156,11 @@ fn run_all<H: Host + Sync, R: Threads + Wait + Sync>(
     plan: &Plan<'_>,
     hosts: &[H],
     shared: &Shared,
-) -> Result<Vec<Vec<LineEnd>>, OperateFault> {
+) -> Result<(), OperateFault> {
     thread::scope(
         thread::scope_env(),
         rt,
-        |scope| -> Result<Vec<Vec<LineEnd>>, OperateFault> {
+        |scope| -> Result<(), OperateFault> {
             let threads = shared.threads();
             for n in 0..stations.len() {
                 let station = &stations[n];
@@ -185,44 +182,30 @@ fn run_all<H: Host + Sync, R: Threads + Wait + Sync>(
                     }
                 }
             }
-            let mut children = Vec::new(alloc);
             for (place, session) in plan.sessions.iter().enumerate() {
-                let acquirer = acquirer_of(alloc, stations, plan, shared, place, session);
-                let Ok(child) = scope.spawn(move || {
-                    run_session(rt, alloc, hosts, acquirer, session, shared)
-                }) else {
+                let worker = session_at(alloc, stations, plan, shared, place, session);
+                if scope
+                    .spawn(move || run_session(rt, worker, hosts, shared))
+                    .is_err()
+                {
                     shared.stop();
                     return Err(OperateFault::Thread);
-                };
-                if children.push(child).is_err() {
-                    shared.stop();
-                    return Err(OperateFault::Memory);
                 }
             }
-            let mut ends = Vec::new(alloc);
-            for child in children {
-                let Ok(lines) = child.join(rt) else {
-                    shared.stop();
-                    return Err(OperateFault::Memory);
-                };
-                if ends.push(lines).is_err() {
-                    shared.stop();
-                    return Err(OperateFault::Memory);
-                }
-            }
-            Ok(ends)
+            Ok(())
         },
     )
 }
 
 /// Runs a plan on a network: for each node a thread that pumps and one that asks its host, and a thread for each session. The plan's
 /// loans are made before. All threads have ended at the return, also where one could not be started; steps that were made stay. Each
-/// thread ends after the plan's turns at the latest, pumps and hosts as soon as all sessions have ended. A host is called with no
-/// lock held.
+/// thread ends after the plan's turns at the latest, for each line of a session, and as soon as all sessions have ended. A host is called
+/// with no lock held.
 ///
 /// A thread that has nothing to do sleeps. Whoever makes a step carries on what comes of it: he pumps at the other end of a link, and puts
 /// requests to hosts that answer at once, where no other does at that moment; he tells the sessions that have an answer, and the threads of
-/// other hosts. A thread that has more to do for itself leaves that to the threads that are there for it. While anybody works, no turn
+/// other hosts. A thread that has more to do for itself leaves that to the threads that are there for it. One session is gone on with at a
+/// time, and the thread that went on with one goes on with the next that has something to do. While anybody works, no turn
 /// passes for those who sleep; one in which a pump works counts for it alone. Where all sleep, as many turns pass at once as the first of
 /// them waits for: those until a tick, until a packet that was held back is taken, or until a wait or the plan is over. Steps that others
 /// make by `step_at`, `pump_once` and `pump_with` of the network wake its node's pump. Another plan on the same network is not told of what
@@ -247,9 +230,12 @@ pub fn operate<H: Host + Sync, R: Threads + Wait + Sync>(
     let Ok(number) = network.add_plan(rt, shared.clock()) else {
         return Err(OperateFault::Memory);
     };
-    let ends = lend_and_run(rt, alloc, network, plan, hosts, &shared);
+    let ran = lend_and_run(rt, alloc, network, plan, hosts, &shared);
     network.remove_plan(rt, number);
-    let ends = ends?;
+    ran?;
+    let Ok(ends) = shared.into_ends(alloc) else {
+        return Err(OperateFault::Memory);
+    };
     match fitted(alloc, plan.sessions.as_slice(), ends) {
         Ok(sessions) => Ok(Ended { sessions }),
         Err(_) => Err(OperateFault::Memory),

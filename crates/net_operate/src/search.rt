@@ -1,5 +1,5 @@
 //! Where a session has come that looks for an answer.
-ghost use Rattle.std.specs.Prelude.{◌≡◌, ◌==◌, ◌+◌, min, not, nat_le, if◌then◌else◌};
+ghost use Rattle.std.specs.Prelude.{◌≡◌, ◌==◌, ◌+◌, not, nat_le, if◌then◌else◌};
 ghost use Rattle.net_operate.specs.Cursors.{skipped};
 
 use crate::waiting::Cursor;
@@ -37,18 +37,6 @@ impl Search {
     {
         if told.saturating_sub(self.seen) == 1 {
             self.cursor.skip_to(newest);
-        }
-    }
-
-    /// For how many turns a session may sleep behind a look, where it has so many left: for one where there was no memory to copy an answer
-    /// that it was told of.
-    pub(crate) fn rest(&self, told: u64, left: u64) -> u64
-        ensures { result ≡ (if told == self.now.seen then left else min left 1) }
-    {
-        if self.is_told(told) {
-            left.min(1)
-        } else {
-            left
         }
     }
 

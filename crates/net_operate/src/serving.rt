@@ -4,14 +4,14 @@ use crate::running::Host;
 use crate::waiting::{Ask, Cursor, next_ask};
 use crate::worker::{Locking, Turn, Worker};
 use iso_message::decode;
-use plan_threads::{Calls, HostTurns};
+use plan_threads::{Calls, ClockTurns};
 use std::sync::Wait;
 use switch_node::{Case, Input};
 
 /// What is kept of a host between its turns.
 #[derive(Drop)]
 pub(crate) struct Service {
-    turns: HostTurns,
+    turns: ClockTurns,
     /// How far the trace was gone along.
     cursor: Cursor,
     /// A request that was found there, and was not put to the host yet.
@@ -182,7 +182,9 @@ impl<'s, 't, 'p> Worker<'s, 't, 'p> {
                 break;
             }
             match self.serve_own(rt, hosts, host, &mut calls) {
-                Turn::Done => self.sleep(rt, hosts, &mut calls),
+                Turn::Done => {
+                    let _ = self.sleep(rt, hosts, &mut calls);
+                }
                 Turn::More | Turn::Locked => {}
                 Turn::Over => break,
             }
@@ -198,7 +200,7 @@ pub(crate) fn run_host<H: Host, R: Wait>(
     host: &H,
 ) {
     let service = Service {
-        turns: HostTurns::new(worker.plan.turns, worker.shared.clock().turns()),
+        turns: ClockTurns::new(worker.plan.turns, worker.shared.clock().turns()),
         cursor: Cursor::at(0),
         next: None,
         answer: None,

@@ -1,6 +1,4 @@
 //! What the threads of a plan have in common.
-ghost use Rattle.std.specs.Prelude.{◌≤◌};
-
 use crate::news::Shared;
 use crate::running::Host;
 use net_threads::Station;
@@ -67,46 +65,45 @@ impl<'s, 't, 'p> Worker<'s, 't, 'p> {
     }
 
     /// Sleeps until it is told of something, or it is due. Where all threads of the plan sleep and turns pass until pumps are due, the last one
-    /// pumps there, and no pump wakes up for a tick.
-    pub(crate) fn sleep<H: Host, R: Wait>(&self, rt: &R, hosts: &[H], calls: &mut Calls) {
+    /// pumps there, and no pump wakes up for a tick. If it is the thread of a session and one waits for its turn then, it doesn't sleep any
+    /// longer, and that one's turn it is: so no thread wakes up for that either.
+    pub(crate) fn sleep<H: Host, R: Wait>(
+        &self,
+        rt: &R,
+        hosts: &[H],
+        calls: &mut Calls,
+    ) -> Option<usize> {
         let clock = self.shared.clock();
         let pumps = self.shared.threads().pumps;
         for _ in 0..self.plan.turns {
             if !clock.sleep_or_help(rt, self.thread, pumps) {
-                return;
+                return None;
             }
             self.pump_due(rt, hosts, calls);
-            if clock.is_due(self.thread) {
-                return;
+            let next = self.begin_turn(rt);
+            if next.is_some() || clock.is_due(self.thread) {
+                return next;
             }
         }
+        None
     }
 
-    /// The same for so many turns; says how many have passed.
-    pub(crate) fn rest<H: Host, R: Wait>(
-        &self,
-        rt: &R,
-        hosts: &[H],
-        turns: u64,
-        calls: &mut Calls,
-    ) -> u64
-        ensures { result ≤ turns }
-    {
-        if turns == 0 {
-            return 0;
+    /// Whether it is the thread of a session, which goes on with sessions itself.
+    fn is_of_session(&self) -> bool {
+        self.thread >= self.shared.threads().first_session()
+    }
+
+    /// Where it is no session's turn and one waits for it, its turn begins. The thread of a session is given it back to go on with it; any other
+    /// wakes up that session's own thread for it.
+    fn begin_turn<R: Wait>(&self, rt: &R) -> Option<usize> {
+        let next = self.shared.begin_turn(rt)?;
+        if self.is_of_session() {
+            return Some(next);
         }
-        let clock = self.shared.clock();
-        let before = clock.turns();
-        clock.set_due(self.thread, before.saturating_add(turns));
-        self.sleep(rt, hosts, calls);
-        clock.turns().saturating_sub(before).min(turns)
-    }
-
-    /// Sleeps until it is told of something, and no longer than anybody works.
-    pub(crate) fn nap<H: Host, R: Wait>(&self, rt: &R, hosts: &[H], calls: &mut Calls) {
-        let clock = self.shared.clock();
-        clock.set_due(self.thread, clock.turns());
-        self.sleep(rt, hosts, calls);
+        self.shared
+            .clock()
+            .tell(self.shared.threads().session(next));
+        None
     }
 
     /// Pumps wherever a pump is due, and carries on what comes of it.
@@ -148,12 +145,19 @@ impl<'s, 't, 'p> Worker<'s, 't, 'p> {
         self.tell(rt, calls);
     }
 
-    /// Sessions that have an answer go on, each once no other does.
+    /// Sessions that have an answer wait for their turn. The thread of a session goes on with them before it sleeps; any other sees to it that
+    /// one does.
     fn recall_sessions<R: Wait>(&self, rt: &R, calls: &mut Calls) {
+        if calls.count_sessions() == 0 {
+            return;
+        }
         for _ in 0..calls.count_sessions() {
             if let Some(session) = calls.next_session() {
                 self.shared.recall(rt, session);
             }
+        }
+        if !self.is_of_session() {
+            let _ = self.begin_turn(rt);
         }
     }
 

@@ -77,14 +77,41 @@ fn plan_text(alloc: Global, sessions: u32) -> Result<String, AllocError> {
     Ok(text)
 }
 
+/// A session of an acquirer with so many requests.
+fn push_long_session(
+    alloc: Global,
+    text: &mut String,
+    acquirer: u32,
+    requests: u32,
+) -> Result<(), AllocError> {
+    text.push_str(format!(in alloc; "session {acquirer}\n")?.as_str())?;
+    for trace in 0..requests {
+        push_request(alloc, text, acquirer, trace)?;
+    }
+    Ok(())
+}
+
 /// Three sessions with so many requests each.
 fn long_text(alloc: Global, requests: u32) -> Result<String, AllocError> {
     let mut text = String::from_str(alloc, "PLAN 1\nturns 50000000\ntick_every 0\n")?;
     for session in 0..3 {
-        text.push_str(format!(in alloc; "session {}\n", acquirer(session))?.as_str())?;
-        for trace in 0..requests {
-            push_request(alloc, &mut text, acquirer(session), trace)?;
-        }
+        push_long_session(alloc, &mut text, acquirer(session), requests)?;
+    }
+    text.push_str("END\n")?;
+    Ok(text)
+}
+
+/// So many sessions at the first node and one at the home, each with so many requests, behind the first lines of a plan.
+fn text_of_both(
+    alloc: Global,
+    head: &str,
+    sessions: u32,
+    requests: u32,
+) -> Result<String, AllocError> {
+    let mut text = String::from_str(alloc, head)?;
+    push_long_session(alloc, &mut text, AT_HOME, requests)?;
+    for session in 0..sessions {
+        push_long_session(alloc, &mut text, acquirer(session), requests)?;
     }
     text.push_str("END\n")?;
     Ok(text)
@@ -249,6 +276,36 @@ fn sessions_of_many_lines(rt: HostRuntime) -> Result<(), Fail> {
         let way = Way::Once;
         let seen = ran_on_text(&rt, alloc, 3, plan.as_str(), Trial { way, host })?;
         assert_eq!(rt; seen, Some((1_800, Verdict::Linked)));
+    }
+    Ok(())
+}
+
+/// The sessions of two nodes go on by turns, and all want the station of one of them.
+#[test]
+fn sessions_at_both_nodes(rt: HostRuntime) -> Result<(), Fail> {
+    let alloc = rt.alloc();
+    let plan = text_of_both(alloc, "PLAN 1\nturns 50000000\ntick_every 0\n", 3, 200)?;
+    for n in 0..10 {
+        let host = APPROVING[n % 2];
+        let way = Way::Once;
+        let seen = ran_on_text(&rt, alloc, 3, plan.as_str(), Trial { way, host })?;
+        assert_eq!(rt; seen, Some((800, Verdict::Linked)));
+    }
+    Ok(())
+}
+
+/// Each packet is held back, so each line waits until all threads sleep, and the sessions are gone on with one after the other, whoever was
+/// the last to sleep.
+#[test]
+fn sessions_over_a_link_that_delays(rt: HostRuntime) -> Result<(), Fail> {
+    let alloc = rt.alloc();
+    let head = "PLAN 1\nturns 50000000\ntick_every 0\ndelay AH 1 5\n";
+    let plan = text_of_both(alloc, head, 20, 20)?;
+    for n in 0..10 {
+        let host = APPROVING[n % 2];
+        let way = Way::Once;
+        let seen = ran_on_text(&rt, alloc, 20, plan.as_str(), Trial { way, host })?;
+        assert_eq!(rt; seen, Some((420, Verdict::Linked)));
     }
     Ok(())
 }

@@ -1,8 +1,8 @@
--- Whose turn it is among the sessions of a node.
-use Rattle.std.specs.Prelude.{ℕ, ◌+◌, ◌==◌, Bool, true, false, List, drop, Option, Some, None, slice_get, slice_set, if◌then◌else◌}
+-- Whose turn it is among sessions.
+use Rattle.std.specs.Prelude.{ℕ, ◌+◌, ◌==◌, Bool, true, false, List, drop, Option, Some, None, slice_set, if◌then◌else◌}
 use Rattle.std.specs.List.{position}
 use Rattle.plan_threads.specs.declared.queue.Standing.{Standing}
-use Rattle.plan_threads.specs.declared.queue.Standing.TheVariants.{Out, Queued, Away}
+use Rattle.plan_threads.specs.declared.queue.Standing.TheVariants.{Out, Queued}
 
 -- whose turn it is, and how each session stands
 pub record QueueView : Type 0 where
@@ -17,19 +17,10 @@ whose_turn session q = whose q.turn
     whose None = session
     whose (Some other) = other
 
--- it is the turn of a session
-abbrev pub has_turn : ℕ → QueueView → Bool
-has_turn session q = has q.turn
-  where
-    has : Option ℕ → Bool
-    has None = false
-    has (Some other) = other == session
-
 -- it waits for its turn
 abbrev pub is_queued : Standing → Bool
 is_queued Out = false
 is_queued Queued = true
-is_queued Away = false
 
 -- whose turn it is behind a session: the first behind it that waits, or, where none does there, the first of all
 abbrev pub next_queued : ℕ → List Standing → Option ℕ
@@ -44,26 +35,6 @@ abbrev pub out : Option ℕ → List Standing → List Standing
 out None standings = standings
 out (Some session) standings = slice_set standings session Out
 
--- a session waits for an answer
-abbrev pub is_away : ℕ → QueueView → Bool
-is_away session q = away (slice_get q.standings session)
-  where
-    away : Option Standing → Bool
-    away (Some Out) = false
-    away (Some Queued) = false
-    away (Some Away) = true
-    away None = false
-
--- a session is told of an answer: one that was away if it is nobody else's turn, and none that waits for its turn
-abbrev pub is_told : ℕ → QueueView → Bool
-is_told session q = told (slice_get q.standings session)
-  where
-    told : Option Standing → Bool
-    told (Some Out) = true
-    told (Some Queued) = false
-    told (Some Away) = whose_turn session q == session
-    told None = true
-
--- how each session stands once there is an answer for one: if it was away, it goes on or waits for its turn
-abbrev pub recalled : ℕ → QueueView → List Standing
-recalled session q = if is_away session q then slice_set q.standings session (if whose_turn session q == session then Out else Queued) else q.standings
+-- how the sessions stand once one goes on no more: it waits for its turn where there is more to do for it, and otherwise where it was called
+abbrev pub standing_after : Bool → ℕ → List Standing → List Standing
+standing_after more session standings = if more then slice_set standings session Queued else standings

@@ -8,8 +8,8 @@ pub record PumpTurnsView : Type 0 where
   pub tick_every : ℕ
   pub since_tick : ℕ
 
--- the turns that a host has left, and those of the clock up to which its own are counted
-pub record HostTurnsView : Type 0 where
+-- the turns that a host has left, or a session for one of its lines, and those of the clock up to which these are counted
+pub record ClockTurnsView : Type 0 where
   pub left : ℕ
   pub counted : ℕ
 

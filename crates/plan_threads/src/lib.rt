@@ -2,7 +2,7 @@
 #![tactic(auto)]
 
 mod calls;
-mod host_turns;
+mod clock_turns;
 mod numbers;
 mod pumps;
 mod queue;
@@ -10,9 +10,9 @@ mod shelf;
 mod turns;
 
 pub use calls::Calls;
-pub use host_turns::HostTurns;
+pub use clock_turns::ClockTurns;
 pub use numbers::ThreadNumbers;
 pub use pumps::Pump;
 pub use queue::{Queue, Standing};
 pub use shelf::Shelf;
-pub use turns::{PumpTurns, Turns};
+pub use turns::PumpTurns;

@@ -1,7 +1,8 @@
 //! Whose turn it is among sessions.
 ghost use Rattle.std.specs.Prelude.{◌≡◌, ◌==◌, replicate, slice_set, Some, None, IfOk, if◌then◌else◌};
 ghost use Rattle.std.specs.List.{position};
-ghost use Rattle.plan_threads.specs.Queues.{is_queued, whose_turn, has_turn, is_away, is_told, next_queued, out, recalled};
+ghost use Rattle.std.specs.Option.{is_none};
+ghost use Rattle.plan_threads.specs.Queues.{is_queued, whose_turn, next_queued, out, standing_after};
 ghost use Rattle.plan_threads.specs.declared.queue.Standing.TheVariants.{Out, Queued};
 
 use std::alloc::{AllocError, Global};
@@ -10,12 +11,10 @@ use std::marker::Model;
 /// How a session stands.
 #[derive(Clone, Copy, Debug, PartialEq, Eq)]
 pub enum Standing {
-    /// It waits neither for its turn nor for an answer.
+    /// There is nothing to do for it, as far as anybody knows, or somebody does it.
     Out,
-    /// It waits for its turn.
+    /// There may be something to do for it, and it waits for its turn.
     Queued,
-    /// It waits for an answer, and for its turn once it is told of one.
-    Away,
 }
 
 /// Sessions that take turns, by their places among them. One goes on at a time, so that none waits for a step of another.
@@ -44,7 +43,7 @@ fn place_queued(standings: &[Standing]) -> Option<usize>
 }
 
 impl Queue {
-    /// So many sessions, all of which are out.
+    /// So many sessions, none of which waits.
     pub fn new(alloc: Global, sessions: usize) -> Result<Queue, AllocError>
         ensures { IfOk result (λ q. q ≡ record { turn = None; standings = replicate sessions Out }) }
     {
@@ -87,12 +86,26 @@ impl Queue {
         taken
     }
 
-    /// The session goes on, whether or not it is its turn, and waits for nothing.
-    pub fn go_on(&mut self, session: usize)
+    /// There is something to do for the session: it waits for its turn.
+    pub fn call(&mut self, session: usize)
         ensures turn { self.new.turn ≡ self.old.turn }
-        ensures standings { self.new.standings ≡ slice_set self.old.standings session Out }
+        ensures standings { self.new.standings ≡ slice_set self.old.standings session Queued }
     {
-        self.stand(session, Standing::Out);
+        self.stand(session, Standing::Queued);
+    }
+
+    /// Where it is nobody's turn, it is that of the first that waits, which is the result.
+    pub fn begin(&mut self) -> Option<usize>
+        ensures next { result ≡ (if is_none self.old.turn then position is_queued self.old.standings else None) }
+        ensures turn { self.new.turn ≡ (if is_none self.old.turn then result else self.old.turn) }
+        ensures standings { self.new.standings ≡ out result self.old.standings }
+    {
+        if self.turn.is_some() {
+            return None;
+        }
+        let first = place_queued(self.standings.as_slice());
+        self.give(first);
+        first
     }
 
     /// The one whose turn it is next: one behind the session, where one waits there.
@@ -108,34 +121,32 @@ impl Queue {
         place_queued(self.standings.as_slice())
     }
 
-    /// The session goes on no more, and stands so from now on. If it was its turn, it is that of another who waits, which is the result.
-    pub fn leave(&mut self, session: usize, standing: Standing) -> Option<usize>
-        ensures next { result ≡ (if has_turn session self.old then next_queued session (slice_set self.old.standings session standing) else None) }
-        ensures turn { self.new.turn ≡ (if has_turn session self.old then result else self.old.turn) }
-        ensures standings { self.new.standings ≡ out result (slice_set self.old.standings session standing) }
+    /// From here on it is this one's turn, who waits no more.
+    fn give(&mut self, next: Option<usize>)
+        ensures turn { self.new.turn ≡ next }
+        ensures standings { self.new.standings ≡ out next self.old.standings }
     {
-        self.stand(session, standing);
-        if self.turn != Some(session) {
-            return None;
-        }
-        let next = self.next(session);
         if let Some(place) = next {
             self.stand(place, Standing::Out);
         }
         self.turn = next;
-        next
     }
 
-    /// There is an answer for the session. Whether it is to be told: not as long as it waits for its turn.
-    pub fn recall(&mut self, session: usize) -> bool
-        ensures told { result ≡ is_told session self.old }
-        ensures turn { self.new.turn ≡ (if is_away session self.old then Some (whose_turn session self.old) else self.old.turn) }
-        ensures standings { self.new.standings ≡ recalled session self.old }
+    /// The session goes on no more. It waits for its turn again where there is more to do for it, or it was called meanwhile. Unless it is the
+    /// turn of another, it is that of one that waits, which is the result.
+    pub fn leave(&mut self, session: usize, more: bool) -> Option<usize>
+        ensures next { result ≡ (if whose_turn session self.old == session then next_queued session (standing_after more session self.old.standings) else None) }
+        ensures turn { self.new.turn ≡ (if whose_turn session self.old == session then result else self.old.turn) }
+        ensures standings { self.new.standings ≡ out result (standing_after more session self.old.standings) }
     {
-        match self.standings.get(session) {
-            Some(Standing::Away) => self.take(session),
-            Some(Standing::Queued) => false,
-            _ => true,
+        if more {
+            self.stand(session, Standing::Queued);
         }
+        if self.turn.unwrap_or(session) != session {
+            return None;
+        }
+        let next = self.next(session);
+        self.give(next);
+        next
     }
 }

@@ -1,53 +1,9 @@
-//! The turns that a thread makes, and those that pass while it sleeps.
+//! The turns that a pump makes, and those that pass while it sleeps.
 ghost use Rattle.std.specs.Prelude.{◌≡◌, ◌≤◌, ◌<◌, ◌+◌, ◌-◌, ◌^◌, ◌==◌, min, nat_le, IfSome, if◌then◌else◌};
 ghost use Rattle.plan_threads.specs.Turns.{turns_to_tick, turns_to_event};
 
 use std::marker::Model;
 use turn_clock::sooner;
-
-/// The turns that a session has left.
-#[derive(Drop)]
-pub struct Turns {
-    left: u64,
-}
-
-impl Model for Turns {
-    ghost use Rattle.std.specs.Prelude.{ℕ};
-
-    ghost Value = { ℕ };
-
-    ghost view = { λ t. t.left };
-}
-
-impl Turns {
-    /// So many.
-    pub fn new(turns: u64) -> Turns
-        ensures { result ≡ turns }
-    {
-        Turns { left: turns }
-    }
-
-    /// How many are left.
-    pub fn left(&self) -> u64
-        ensures { result ≡ self.now }
-    {
-        self.left
-    }
-
-    /// Whether none is left.
-    pub fn are_over(&self) -> bool
-        ensures { result ≡ nat_le self.now 0 }
-    {
-        self.left == 0
-    }
-
-    /// So many turns pass.
-    pub fn pass(&mut self, turns: u64)
-        ensures { self.new ≡ self.old - turns }
-    {
-        self.left = self.left.saturating_sub(turns);
-    }
-}
 
 /// The turns that a pump has left, and those until its node's next tick.
 #[derive(Drop)]
