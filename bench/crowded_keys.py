@@ -19,16 +19,13 @@ WHERE is
 - near:   the places are the first eighth of 8,192
 - spread: the lowest 4 bits are alike, so that the keys share each sixteenth place
 
-The second form prints the least seconds of five runs. It needs cc."""
+The second form prints the least processor seconds of nine runs of other keys and of chosen ones, by turns, with the quotient. It needs cc."""
 
+import resource
 import subprocess
 import sys
 import tempfile
 from pathlib import Path
-
-sys.dont_write_bytecode = True
-
-import measuring
 
 TOP = Path(__file__).resolve().parent.parent
 EXAMPLES = TOP / "examples"
@@ -95,11 +92,23 @@ BUNDLES = {
 }
 
 
-def seconds(program, what, where, count, folder):
-    path = Path(folder) / "bundle"
-    path.write_text(BUNDLES[what](where, count))
-    command = [program, "check" if what == "ranks" else "replay"]
-    return min(measuring.measured(command, path)[0] for _ in range(5))
+def processor_seconds(program, what, path):
+    before = resource.getrusage(resource.RUSAGE_CHILDREN)
+    with open(path, "rb") as given:
+        subprocess.run([program, "check" if what == "ranks" else "replay"], stdin=given, stdout=subprocess.DEVNULL, check=False)
+    after = resource.getrusage(resource.RUSAGE_CHILDREN)
+    return after.ru_utime + after.ru_stime - before.ru_utime - before.ru_stime
+
+
+def least_seconds(program, what, where, count, folder):
+    """Of as many keys in their order, and of the chosen ones."""
+    paths = []
+    for kind in ("any", where):
+        path = Path(folder) / kind
+        path.write_text(BUNDLES[what](kind, count))
+        paths.append(path)
+    runs = [[processor_seconds(program, what, path) for path in paths] for _ in range(9)]
+    return [min(seconds) for seconds in zip(*runs)]
 
 
 def print_times(program, counts):
@@ -108,9 +117,8 @@ def print_times(program, counts):
             for count in counts:
                 if what in ("identities", "stored", "cards"):
                     count = min(count, MOST_STORED)
-                plain = seconds(program, what, "any", count, folder)
                 for where in ("place", "near", "spread"):
-                    chosen = seconds(program, what, where, count, folder)
+                    plain, chosen = least_seconds(program, what, where, count, folder)
                     print(f"{what:<10} {count:>7} {where:<6} {plain:8.3f} s {chosen:8.3f} s {chosen / plain:6.2f}", flush=True)
 
 
