@@ -132,5 +132,8 @@ int main(int count, char **words) {
     links(&node);
     inputs(&node);
     cs_node_free(&node);
+    /* A freed node is none. */
+    cs_step made;
+    WANTED(tell(&node, CS_TICK, 0, 0, "", &made) == CS_EMPTY);
     return wrong;
 }
