@@ -1,2 +1,3 @@
 pub mod Lookups
 pub mod Keys
+pub mod ByHash

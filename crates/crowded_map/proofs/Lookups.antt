@@ -1,9 +1,7 @@
 -- Look-ups in two lists.
-use Rattle.std.proofs.Common.{◌≡◌, Bool, true, false, cond, List, [], ◌∷◌, ◌++◌, Option, Some, None, Ordering, refl, sym, ap, ◌∙◌}
-use Rattle.std.specs.Ordering.{is_eq}
+use Rattle.std.proofs.Common.{◌≡◌, Bool, true, false, cond, List, [], ◌∷◌, ◌++◌, Option, Some, None, refl, sym, ap, ◌∙◌}
 use Rattle.std.specs.Option.{option_or}
 use Rattle.std.specs.Cmp.{IsEquivalence}
-use Rattle.std.specs.BTreeMap.{is_at}
 use Rattle.std.specs.Map.{lookup}
 use Rattle.crowded_map.specs.Values.{in_either}
 
@@ -19,10 +17,6 @@ or_none (Some x) = refl
 pub lookup_both : {K X : Type 0} (test : K → Bool) (es fs : List (K × X)) → lookup test (es ++ fs) ≡ in_either es fs test
 lookup_both test [] fs = refl
 lookup_both test (e ∷ es) fs = ap (λ m. cond (test e.0) (Some e.1) m) (lookup_both test es fs) ∙ sym (or_cond (test e.0) e.1 (lookup test es) (lookup test fs))
-
--- keys that are equal by one comparison are so by the other
-pub tied : {K X : Type 0} (E : K → K → Bool) (R : K → K → Ordering) (k : K) (es : List (K × X)) → ((x y : K) → E x y ≡ is_eq (R x y)) → lookup (E k) es ≡ lookup (is_at (R k)) es
-tied E R k es same = λ i. lookup (λ x. same k x i) es
 
 -- equal keys find the same
 pub alike : {K X : Type 0} (E : K → K → Bool) → IsEquivalence E → (k q : K) (es : List (K × X)) → E k q ≡ true → lookup (E q) es ≡ lookup (E k) es
@@ -47,14 +41,6 @@ take_both E key near far new after one other q = ap (λ m. option_or m (lookup (
     go : (b : Bool) → option_or (cond b None (lookup (E q) near)) (cond b None (lookup (E q) far)) ≡ cond b None (in_either near far (E q))
     go true = refl
     go false = refl
-
--- what a tree has after a change at a key, by either comparison
-pub tied_change : {K X : Type 0} (E : K → K → Bool) (R : K → K → Ordering) → ((x y : K) → E x y ≡ is_eq (R x y)) → (key : K) (w : Option X) (es new : List (K × X)) → ((q : K) → lookup (is_at (R q)) new ≡ cond (is_at (R key) q) w (lookup (is_at (R q)) es)) → (q : K) → lookup (E q) new ≡ cond (E key q) w (lookup (E q) es)
-tied_change E R same key w es new change q =
-    tied E R q new same
-    ∙ (change q
-    ∙ (ap (λ b. cond b w (lookup (is_at (R q)) es)) (sym (same key q))
-    ∙ ap (λ m. cond (E key q) w m) (sym (tied E R q es same))))
 
 -- a first list that finds the same
 pub same_first : {K X : Type 0} (E : K → K → Bool) (near new far : List (K × X)) → ((q : K) → lookup (E q) new ≡ lookup (E q) near) → (q : K) → lookup (E q) (new ++ far) ≡ lookup (E q) (near ++ far)

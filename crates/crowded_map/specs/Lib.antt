@@ -1,3 +1,4 @@
 pub mod Values
 pub mod Counts
 pub mod Sets
+pub mod Hashed

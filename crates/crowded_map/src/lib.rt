@@ -2,6 +2,7 @@
 #![tactic(auto)]
 
 mod crowds;
+mod hashed;
 mod map;
 mod set;
 

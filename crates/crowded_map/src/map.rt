@@ -6,8 +6,9 @@ ghost use Rattle.std.specs.Option.{option_copied};
 ghost use Rattle.crowded_map.specs.Values.{spare, in_either};
 
 use crate::crowds::{Crowds, count};
+use crate::hashed::HashedTree;
 use std::alloc::{AllocError, Global};
-use std::collections::{BTreeMap, HashMap};
+use std::collections::HashMap;
 use std::hash::{BuildHasher, Hash};
 use std::marker::Model;
 
@@ -15,7 +16,7 @@ use std::marker::Model;
 #[derive(Drop)]
 pub struct CrowdedMap<K: Eq + Hash + Ord, V> {
     near: HashMap<K, V>,
-    far: BTreeMap<K, V>,
+    far: HashedTree<K, V>,
     crowds: Crowds,
     alloc: Global,
 }
@@ -27,7 +28,7 @@ impl<K: Eq + Hash + Ord, V> Model for CrowdedMap<K, V> {
 
     ghost Value = { Entries K V };
 
-    ghost view = { λ m. record { entries = m.near.entries ++ m.far.entries; room = spare m.near } };
+    ghost view = { λ m. record { entries = m.near.entries ++ m.far; room = spare m.near } };
 }
 
 /// The 32 bits by which a table finds a key.
@@ -53,23 +54,6 @@ fn put_near<K: Eq + Hash + Copy + Drop, V: Copy + Drop>(
     }
 }
 
-/// Puts a value where there is memory for it.
-fn put_far<K: Ord + Copy + Drop, V: Copy + Drop>(
-    far: &mut BTreeMap<K, V>,
-    key: K,
-    value: V,
-) -> Result<Option<V>, AllocError>
-    ensures old { IfOk result (λ old. old ≡ lookup (K.eq key) far.old.entries) }
-    ensures updates { OnOk result ((q : K) → lookup (K.eq q) far.new.entries ≡ cond (K.eq key q) (Some value) (lookup (K.eq q) far.old.entries)) }
-    ensures absent { OnErr result (lookup (K.eq key) far.old.entries ≡ None) }
-    ensures err { OnErr result (far.new.entries ≡ far.old.entries) }
-{
-    match far.insert(key, value) {
-        Ok(old) => Ok(old),
-        Err(_) => Err(AllocError),
-    }
-}
-
 /// Puts a value where the key has one.
 fn replace_near<K: Eq + Hash + Copy + Drop, V: Copy + Drop>(
     near: &mut HashMap<K, V>,
@@ -86,67 +70,31 @@ fn replace_near<K: Eq + Hash + Copy + Drop, V: Copy + Drop>(
     Some(old)
 }
 
-/// The same in a tree.
-fn replace_far<K: Ord + Copy + Drop, V: Copy + Drop>(
-    far: &mut BTreeMap<K, V>,
-    key: &K,
-    value: V,
-) -> Option<V>
-    ensures old { result ≡ lookup (K.eq key.now) far.old.entries }
-    ensures updates { (q : K) → lookup (K.eq q) far.new.entries ≡ cond (is_some result && K.eq key.now q) (Some value) (lookup (K.eq q) far.old.entries) }
-{
-    let place = far.get_mut(key)?;
-    let old = *place;
-    *place = value;
-    Some(old)
-}
-
-/// Takes a key out of a tree.
-fn take_far<K: Ord + Copy + Drop, V: Copy + Drop>(far: &mut BTreeMap<K, V>, key: &K) -> Option<V>
-    ensures old { result ≡ lookup (K.eq key.now) far.old.entries }
-    ensures updates { (q : K) → lookup (K.eq q) far.new.entries ≡ cond (K.eq key.now q) None (lookup (K.eq q) far.old.entries) }
-{
-    far.remove(key)
-}
-
-/// The value of a key in a tree.
-fn get_far<'a, K: Ord + Copy + Drop, V: Copy + Drop>(
-    far: &'a BTreeMap<K, V>,
-    key: &K,
-) -> Option<&'a V>
-    ensures { option_copied result ≡ lookup (K.eq key.now) far.now.entries }
-{
-    if far.is_empty() {
-        return None;
-    }
-    far.get(key)
-}
-
 /// Puts a value where some keys lie in a tree, or where this one belongs there.
 fn put_beside<K: Eq + Hash + Ord + Copy + Drop, V: Copy + Drop>(
     near: &mut HashMap<K, V>,
-    far: &mut BTreeMap<K, V>,
+    far: &mut HashedTree<K, V>,
     crowds: &mut Crowds,
     hash: u32,
     key: K,
     value: V,
 ) -> Option<V>
     requires { 1 ≤ table.spare near.old }
-    ensures old { result ≡ in_either near.old.entries far.old.entries (K.eq key) }
-    ensures updates { (q : K) → in_either near.new.entries far.new.entries (K.eq q) ≡ cond (K.eq key q) (Some value) (in_either near.old.entries far.old.entries (K.eq q)) }
+    ensures old { result ≡ in_either near.old.entries far.old (K.eq key) }
+    ensures updates { (q : K) → in_either near.new.entries far.new (K.eq q) ≡ cond (K.eq key q) (Some value) (in_either near.old.entries far.old (K.eq q)) }
     ensures room { table.spare near.old ≤ table.spare near.new + 1 }
 {
     if near.contains_key(&key) {
         return put_near(near, key, value);
     }
     let is_crowded = !crowds.enter(hash);
-    if !is_crowded && !far.contains_key(&key) {
+    if !is_crowded && far.get(&key).is_none() {
         return put_near(near, key, value);
     }
     if !is_crowded {
         crowds.leave(hash);
     }
-    match put_far(far, key, value) {
+    match far.insert(key, value) {
         Ok(old) => old,
         // Without memory for the tree the table takes the key, where there is room.
         Err(_) => put_near(near, key, value),
@@ -156,15 +104,15 @@ fn put_beside<K: Eq + Hash + Ord + Copy + Drop, V: Copy + Drop>(
 /// Puts a value where there is room for a key.
 fn put<K: Eq + Hash + Ord + Copy + Drop, V: Copy + Drop>(
     near: &mut HashMap<K, V>,
-    far: &mut BTreeMap<K, V>,
+    far: &mut HashedTree<K, V>,
     crowds: &mut Crowds,
     hash: u32,
     key: K,
     value: V,
 ) -> Option<V>
     requires { 1 ≤ table.spare near.old }
-    ensures old { result ≡ in_either near.old.entries far.old.entries (K.eq key) }
-    ensures updates { (q : K) → in_either near.new.entries far.new.entries (K.eq q) ≡ cond (K.eq key q) (Some value) (in_either near.old.entries far.old.entries (K.eq q)) }
+    ensures old { result ≡ in_either near.old.entries far.old (K.eq key) }
+    ensures updates { (q : K) → in_either near.new.entries far.new (K.eq q) ≡ cond (K.eq key q) (Some value) (in_either near.old.entries far.old (K.eq q)) }
     ensures room { table.spare near.old ≤ table.spare near.new + 1 }
 {
     if !far.is_empty() || !crowds.enter(hash) {
@@ -180,30 +128,30 @@ fn put<K: Eq + Hash + Ord + Copy + Drop, V: Copy + Drop>(
 /// Puts a value where the key has one.
 fn put_again<K: Eq + Hash + Ord + Copy + Drop, V: Copy + Drop>(
     near: &mut HashMap<K, V>,
-    far: &mut BTreeMap<K, V>,
+    far: &mut HashedTree<K, V>,
     key: &K,
     value: V,
 ) -> Option<V>
-    ensures old { result ≡ in_either near.old.entries far.old.entries (K.eq key.now) }
-    ensures updates { (q : K) → in_either near.new.entries far.new.entries (K.eq q) ≡ cond (is_some result && K.eq key.now q) (Some value) (in_either near.old.entries far.old.entries (K.eq q)) }
+    ensures old { result ≡ in_either near.old.entries far.old (K.eq key.now) }
+    ensures updates { (q : K) → in_either near.new.entries far.new (K.eq q) ≡ cond (is_some result && K.eq key.now q) (Some value) (in_either near.old.entries far.old (K.eq q)) }
     ensures room { table.spare near.new ≡ table.spare near.old }
 {
     if let Some(old) = replace_near(near, key, value) {
         return Some(old);
     }
-    replace_far(far, key, value)
+    far.replace(key, value)
 }
 
 /// Takes a key out.
 fn take<K: Eq + Hash + Ord + Copy + Drop, V: Copy + Drop>(
     near: &mut HashMap<K, V>,
-    far: &mut BTreeMap<K, V>,
+    far: &mut HashedTree<K, V>,
     crowds: &mut Crowds,
     hash: u32,
     key: &K,
 ) -> Option<V>
-    ensures old { result ≡ in_either near.old.entries far.old.entries (K.eq key.now) }
-    ensures updates { (q : K) → in_either near.new.entries far.new.entries (K.eq q) ≡ cond (K.eq key.now q) None (in_either near.old.entries far.old.entries (K.eq q)) }
+    ensures old { result ≡ in_either near.old.entries far.old (K.eq key.now) }
+    ensures updates { (q : K) → in_either near.new.entries far.new (K.eq q) ≡ cond (K.eq key.now q) None (in_either near.old.entries far.old (K.eq q)) }
     ensures room { table.spare near.old ≤ table.spare near.new }
 {
     let old = near.remove(key);
@@ -213,7 +161,7 @@ fn take<K: Eq + Hash + Ord + Copy + Drop, V: Copy + Drop>(
     if far.is_empty() {
         return old;
     }
-    old.or(take_far(far, key))
+    old.or(far.remove(key))
 }
 
 /// The keys of a table by so many stretches.
@@ -252,7 +200,7 @@ impl<K: Eq + Hash + Ord + Copy + Drop, V: Copy + Drop> CrowdedMap<K, V> {
     {
         CrowdedMap {
             near: HashMap::new(alloc),
-            far: BTreeMap::new(alloc),
+            far: HashedTree::new(alloc),
             crowds: Crowds::new(alloc),
             alloc,
         }
@@ -277,7 +225,10 @@ impl<K: Eq + Hash + Ord + Copy + Drop, V: Copy + Drop> CrowdedMap<K, V> {
         if let Some(value) = self.near.get(key) {
             return Some(value);
         }
-        get_far(&self.far, key)
+        if self.far.is_empty() {
+            return None;
+        }
+        self.far.get(key)
     }
 
     /// Whether a key has a value.

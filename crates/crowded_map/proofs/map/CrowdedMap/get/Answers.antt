@@ -7,11 +7,11 @@ use Rattle.crowded_map.proofs.map.CrowdedMap.get.Goals as goal
 pub returns-in-Some : goal.returns-in-Some
 returns-in-Some g c =
     let i = c.self.inside in
-    let at = lookup_both (g.K.PartialEq.eq c.args.key.now) i.near.entries i.far.entries in
-    rw (← c.self.view_is, at) (ap (λ m. option_or m (lookup (g.K.PartialEq.eq c.args.key.now) i.far.entries)) c.in-Some.ensures.value)
+    let at = lookup_both (g.K.PartialEq.eq c.args.key.now) i.near.entries i.far in
+    rw (← c.self.view_is, at) (ap (λ m. option_or m (lookup (g.K.PartialEq.eq c.args.key.now) i.far)) c.in-Some.ensures.value)
 
 pub returns : goal.returns
 returns g c =
     let i = c.self.inside in
-    let at = lookup_both (g.K.PartialEq.eq c.args.key.now) i.near.entries i.far.entries in
-    rw (← c.self.view_is, at, ← c.in_default.ensures.value) c.get_far.ensures
+    let at = lookup_both (g.K.PartialEq.eq c.args.key.now) i.near.entries i.far in
+    rw (← c.self.view_is, at, ← c.in_default.ensures.value) c.get-2.ensures
