@@ -25,7 +25,7 @@ const MOST_ALIKE: u8 = 15;
 const FINER: usize = 16;
 
 /// How many keys lie in each stretch of a table. Nothing but speed depends on it.
-#[derive(Drop)]
+#[derive(Debug, Drop)]
 pub(crate) struct Crowds {
     stretches: Vec<u8>,
     finer: Vec<u8>,

@@ -18,7 +18,7 @@ pub(crate) struct HashedKey<K> {
 }
 
 /// A map that finds a key by comparisons, of hashes first.
-#[derive(Drop)]
+#[derive(Debug, Drop)]
 pub(crate) struct HashedTree<K: Hash + Ord, V> {
     tree: BTreeMap<HashedKey<K>, V>,
     builder: BuildHasherDefault<FoldHasher>,

@@ -13,7 +13,7 @@ use std::hash::{BuildHasher, Hash};
 use std::marker::Model;
 
 /// A map from keys to values.
-#[derive(Drop)]
+#[derive(Debug, Drop)]
 pub struct CrowdedMap<K: Eq + Hash + Ord, V> {
     near: HashMap<K, V>,
     far: HashedTree<K, V>,

@@ -1,33 +1,16 @@
 -- One row more.
-use Rattle.std.proofs.Common.{◌≡◌, ℕ, suc, ◌+◌, ◌<◌, ◌++◌, length, get_or, drop, drop-cons, add-one, ap, sym, ◌∙◌, true, false, cond, ◌||◌, List, [], ◌∷◌, Option, Some, None, is_some, find, refl, append_assoc, append-nil, rules}
-use Rattle.std.specs.Cmp.{IsEquivalence}
-use Rattle.std.specs.Cmp.Rules.{comparing}
-use Rattle.std.specs.List.{list_any}
-use Rattle.std.specs.Option.{option_map}
+use Rattle.std.proofs.Common.{◌≡◌, ℕ, suc, ◌+◌, ◌<◌, ◌++◌, ◌==◌, ◌&&◌, length, get_or, drop, drop-cons, add-one, ap, sym, ◌∙◌, true, false, cond, List, [], ◌∷◌, Option, Some, None, is_some, refl, append_assoc, append-nil}
+use Rattle.std.specs.Cmp.Lexicographic.{pointwise}
+use Rattle.std.specs.Map.{lookup}
+use Rattle.std.specs.Option.{option_map, option_or}
 use Rattle.std.specs.Prelude.{All, is_none, Bool, Result, Ok, Err, IfOk, OnErr}
-use Rattle.indexmap.specs.IndexSet.{insert_key}
 use Rattle.std.proofs.lemmas.List.Elements.{All-nil, All-cons}
 use Rattle.rank_cert.specs.declared.cert.Rank.{Rank}
-use Rattle.rank_cert.specs.Ranks.{is_of_one_pair, rank_of, IsRow, AddsRows, IsCert}
-
-one_pair : IsEquivalence is_of_one_pair
-one_pair = search (comparing, rules)
-
--- a row of the pair is there where the pair has a rank
-pub is_there : (rows : List Rank) (r : Rank) → list_any (is_of_one_pair r) rows ≡ is_some (rank_of rows r.node r.prefix)
-is_there [] r = refl
-is_there (s ∷ rows) r = rw (one_pair.symm r s) (elim (is_of_one_pair s r) as (λ b. (b || list_any (is_of_one_pair r) rows) ≡ is_some (cond b (Some s.rank) (rank_of rows r.node r.prefix))) [
-  | true ↦ refl
-  | false ↦ is_there rows r
-])
-
--- the row that is found for a pair has its rank
-pub rank_found : (rows : List Rank) (r : Rank) → option_map (λ s. s.rank) (find (is_of_one_pair r) rows) ≡ rank_of rows r.node r.prefix
-rank_found [] r = refl
-rank_found (s ∷ rows) r = rw (one_pair.symm r s) (elim (is_of_one_pair s r) as (λ b. option_map (λ t. t.rank) (cond b (Some s) (find (is_of_one_pair r) rows)) ≡ cond b (Some s.rank) (rank_of rows r.node r.prefix)) [
-  | true ↦ refl
-  | false ↦ rank_found rows r
-])
+use Rattle.rank_cert.specs.declared.apart.Pair.{Pair}
+use Rattle.rank_cert.specs.declared.apart.Found.{Found}
+use Rattle.rank_cert.specs.Apart.{is_same_pair, AreFound}
+use Rattle.rank_cert.specs.Ranks.{rank_of, is_of, IsRow, AddsRows, IsCert}
+use Rattle.rank_cert.proofs.Growing.{rank-push, digits_are}
 
 adds-push : (done rows : List Rank) (r : Rank) → AddsRows done rows → IsRow r → rank_of (done ++ rows) r.node r.prefix ≡ None → AddsRows done (rows ++ r ∷ [])
 adds-push done [] r h row new = (row, rw append-nil at new, tt)
@@ -45,16 +28,51 @@ IsCert-add rows new r (Ok true) h row added longer stays err = rw (longer refl) 
 IsCert-add rows new r (Ok false) h row added longer stays err = rw (stays refl) h
 IsCert-add rows new r (Err e) h row added longer stays err = rw err h
 
-pub added_key : (keys : List Rank) (r : Rank) → rank_of keys r.node r.prefix ≡ None → insert_key is_of_one_pair keys r ≡ keys ++ r ∷ []
-added_key keys r new = rw (is_there keys r, new) refl
-
--- one row more is in the set
-pub moved : (keys rows : List Rank) (i : ℕ) (r : Rank) → i < length rows → r ≡ get_or rows i r → keys ++ drop i rows ≡ rows → AddsRows keys (drop i rows)
-    → (insert_key is_of_one_pair keys r ++ drop (i + 1) rows ≡ rows) × AddsRows (insert_key is_of_one_pair keys r) (drop (i + 1) rows)
-moved keys rows i r within is whole rest =
+-- one row more is among those that are found by their pairs
+pub moved : {E : Type 0} (apart new rows : List Rank) (i : ℕ) (r : Rank) (a : Result Bool E) → i < length rows → r ≡ get_or rows i r → apart ++ drop i rows ≡ rows → AddsRows apart (drop i rows)
+    → IfOk a (λ b. b ≡ is_none (rank_of apart r.node r.prefix)) → (a ≡ Ok true → new ≡ apart ++ r ∷ []) → (b : Bool) → a ≡ Ok b → (new ++ drop (i + 1) rows ≡ rows) × AddsRows new (drop (i + 1) rows)
+moved apart new rows i r a within is whole rest added longer b ok =
     let next : drop i rows ≡ r ∷ drop (i + 1) rows = rw add-one (drop-cons rows i r within ∙ ap (λ s. s ∷ drop (suc i) rows) (sym is)) in
-    let adds : AddsRows keys (r ∷ drop (i + 1) rows) = rw next at rest in
-    rw (added_key keys r adds.1) (append_assoc keys (r ∷ []) (drop (i + 1) rows) ∙ (ap (λ rs. keys ++ rs) (sym next) ∙ whole), adds.2)
+    let adds : AddsRows apart (r ∷ drop (i + 1) rows) = rw next at rest in
+    let fresh : b ≡ true = (rw ok at added) ∙ ap is_none adds.1 in
+    let more : new ≡ apart ++ r ∷ [] = longer (ok ∙ ap Ok fresh) in
+    (rw more (append_assoc apart (r ∷ []) (drop (i + 1) rows) ∙ (ap (λ rs. apart ++ rs) (sym next) ∙ whole)), rw more adds.2)
+
+both : (a b : Bool) → (a && b) ≡ true → (a ≡ true) × (b ≡ true)
+both true true is = (refl, refl)
+both true false is = absurd cc
+both false b is = absurd cc
+
+or_none : (o : Option ℕ) → o ≡ option_or o None
+or_none None = refl
+or_none (Some x) = refl
+
+-- the map has the pair of one row more
+pub found_push : (rows : List Rank) (old new : List (Pair × Found)) (r : Rank) (p : Pair) (f : Found) → p.node ≡ r.node → p.prefix ≡ r.prefix → f.rank ≡ r.rank → rank_of rows r.node r.prefix ≡ None
+    → AreFound rows old → ((q : Pair) → lookup (is_same_pair q) new ≡ cond (is_same_pair p q) (Some f) (lookup (is_same_pair q) old)) → AreFound (rows ++ r ∷ []) new
+found_push rows old new r p f node prefix rank none are put q =
+    rw (put q, rank-push rows r q.node q.prefix, ← node, ← prefix, ← rank) (by (is_same_pair p q) refl)
+  where
+    none_here : is_same_pair p q ≡ true → rank_of rows q.node q.prefix ≡ None
+    none_here is =
+        let same = both (pointwise ◌==◌ p.node q.node) (pointwise ◌==◌ p.prefix q.prefix) is in
+        rw (← digits_are p.node q.node same.0, ← digits_are p.prefix q.prefix same.1, node, prefix) none
+
+    by : (b : Bool) → is_same_pair p q ≡ b → option_map (λ (g : Found). g.rank) (cond b (Some f) (lookup (is_same_pair q) old)) ≡ option_or (rank_of rows q.node q.prefix) (cond b (Some f.rank) None)
+    by true is = rw (none_here is) refl
+    by false is = are q ∙ or_none (rank_of rows q.node q.prefix)
+
+-- a pair that the map hasn't has no rank
+pub none_known : (rows : List Rank) (found : List (Pair × Found)) (p : Pair) → AreFound rows found → is_some (lookup (is_same_pair p) found) ≡ false → rank_of rows p.node p.prefix ≡ None
+none_known rows found p are not = sym (are p) ∙ by (lookup (is_same_pair p) found) not
+  where
+    by : (o : Option Found) → is_some o ≡ false → option_map (λ (f : Found). f.rank) o ≡ None
+    by None h = refl
+    by (Some f) h = absurd cc
+
+-- the map has the same for each pair
+pub found_same : (rows : List Rank) (old new : List (Pair × Found)) → AreFound rows old → ((q : Pair) → lookup (is_same_pair q) new ≡ lookup (is_same_pair q) old) → AreFound rows new
+found_same rows old new are same q = ap (option_map (λ (f : Found). f.rank)) (same q) ∙ are q
 
 pub each_row : (done rows : List Rank) → AddsRows done rows → All IsRow rows
 each_row done [] h = All-nil IsRow

@@ -7,4 +7,4 @@ use Rattle.rank_cert.specs.declared.kept.Kept.TheVariants.{Together, Apart}
 -- the rows in the order in which they were added
 abbrev pub rows_of : Kept → List Rank
 rows_of (Together rows) = rows
-rows_of (Apart set) = set.keys
+rows_of (Apart rows) = rows

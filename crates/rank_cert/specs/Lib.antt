@@ -1,4 +1,5 @@
 pub mod Adding
+pub mod Apart
 pub mod Greatest
 pub mod Kept
 pub mod Like

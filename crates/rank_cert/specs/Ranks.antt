@@ -9,10 +9,6 @@ use Rattle.rank_cert.specs.declared.cert.Rank.{Rank}
 abbrev pub is_of : Rank → List ℕ → List ℕ → Bool
 is_of r name prefix = pointwise ◌==◌ r.node name && pointwise ◌==◌ r.prefix prefix
 
--- of the same name and the same prefix
-abbrev pub is_of_one_pair : Rank → Rank → Bool
-is_of_one_pair r s = pointwise ◌==◌ r.node s.node && pointwise ◌==◌ r.prefix s.prefix
-
 -- the rank of a name at a prefix
 abbrev pub rank_of : List Rank → List ℕ → List ℕ → Option ℕ
 rank_of [] name prefix = None

@@ -7,53 +7,14 @@ use crate::kept::Kept;
 use crate::runs::rows_from;
 use card_digits::{Name, Prefix};
 use std::alloc::{AllocError, Global};
-use std::hash::{Hash, Hasher};
 use std::marker::Model;
 
-/// The rank of the node of that name at a prefix. Two that are of one name and one prefix count as equal, whatever the rank, so a
-/// set holds one of them.
+/// The rank of the node of that name at a prefix.
 #[derive(Clone, Copy, Debug)]
 pub struct Rank {
     pub node: Name,
     pub prefix: Prefix,
     pub rank: u16,
-}
-
-impl PartialEq for Rank {
-    ghost use Rattle.rank_cert.specs.Ranks.{is_of_one_pair};
-    ghost use Rattle.std.proofs.Common.{rules};
-    ghost use Rattle.std.specs.Cmp.Rules.{comparing};
-
-    ghost eq = { is_of_one_pair };
-
-    ghost laws = { Prim.search (comparing, rules) };
-
-    fn eq(&self, other: &Rank) -> bool {
-        self.node == other.node && self.prefix == other.prefix
-    }
-}
-
-impl Eq for Rank {
-    ghost use Rattle.std.proofs.Common.{rules};
-    ghost use Rattle.std.specs.Cmp.Rules.{comparing};
-
-    ghost laws = { Prim.search (comparing, rules) };
-}
-
-// The letters at once and the digits at once.
-impl Hash for Rank {
-    ghost use Rattle.std.specs.Prelude.{[], ◌∷◌};
-    ghost use Rattle.std.proofs.Common.{rules};
-    ghost use Rattle.std.specs.Cmp.Rules.{hashing};
-
-    ghost hash_input = { λ r. r.node ∷ r.prefix ∷ [] };
-
-    ghost respects_eq = { Prim.search (hashing, rules) };
-
-    fn hash<H: Hasher>(&self, state: &mut H) {
-        state.write(self.node.as_slice());
-        state.write(self.prefix.digits());
-    }
 }
 
 /// Ranks in the order in which they were added, at most one for a pair of a name and a prefix. Where the rows of each prefix are added

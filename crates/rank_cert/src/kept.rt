@@ -1,21 +1,21 @@
-//! The rows of a certificate: in runs as long as each prefix's rows stand together, and otherwise in a set.
+//! The rows of a certificate: in runs as long as each prefix's rows stand together, and otherwise each found by its pair.
 ghost use Rattle.std.specs.Prelude.{◌≡◌, ◌≤◌, ◌∷◌, ◌++◌, ◌≢◌, [], true, false, drop, is_none, Ok, IfOk, IfSome, OnErr, if◌then◌else◌};
 ghost use Rattle.rank_cert.specs.Ranks.{rank_of, like_rows, IsCert, EndsWith};
 ghost use Rattle.rank_cert.specs.Kept.{rows_of};
 ghost use Rattle.rank_cert.specs.Runs.{IsRun, CanRepeat};
 
-use crate::cert::{NEAR, Rank};
+use crate::apart::ApartRows;
+use crate::cert::Rank;
 use crate::runs::{Added, Runs, rank_in_run, rows_from};
 use card_digits::{Name, Prefix};
-use indexmap::IndexSet;
 use std::alloc::{AllocError, Global};
 
 /// A certificate that was made has the rows of a prefix together, and is kept without a hash for each row. A text may have them in
-/// any order: from the first row that stands apart from those of its prefix on, all rows are in a set.
+/// any order: from the first row that stands apart from those of its prefix on, each row is found by its pair.
 #[derive(Debug, Drop)]
 pub(crate) enum Kept {
     Together(Runs),
-    Apart(IndexSet<Rank>),
+    Apart(ApartRows),
 }
 
 impl Kept {
@@ -37,7 +37,7 @@ impl Kept {
     {
         match self {
             Kept::Together(runs) => runs.rows(),
-            Kept::Apart(set) => set.as_slice(),
+            Kept::Apart(apart) => apart.rows(),
         }
     }
 
@@ -46,7 +46,7 @@ impl Kept {
     {
         match self {
             Kept::Together(runs) => runs.rank(node, prefix),
-            Kept::Apart(set) => rank_in_set(set, node, prefix),
+            Kept::Apart(apart) => apart.rank(node, prefix),
         }
     }
 
@@ -69,10 +69,7 @@ impl Kept {
                 *near = runs.begin_of(prefix)?;
                 rank_in_run(rows_from(runs.rows(), *near), node, prefix)
             }
-            Kept::Apart(set) => {
-                *near = begin_in_set(set, node, prefix);
-                rank_in_set(set, node, prefix)
-            }
+            Kept::Apart(apart) => apart.rank_near(near, node, prefix),
         }
     }
 
@@ -85,7 +82,7 @@ impl Kept {
         ensures err { OnErr result (rows_of self.new ≡ rows_of self.old) }
     {
         match self {
-            Kept::Apart(set) => add_to_set(set, row),
+            Kept::Apart(apart) => apart.add(row),
             Kept::Together(runs) => match runs.add(row)? {
                 Added::Yes => Ok(true),
                 Added::Twice => Ok(false),
@@ -105,7 +102,7 @@ impl Kept {
         ensures err { OnErr result (rows_of self.new ≡ rows_of self.old) }
     {
         match self {
-            Kept::Apart(set) => add_to_set(set, row),
+            Kept::Apart(apart) => apart.add(row),
             Kept::Together(runs) => match runs.add_to_last(row)? {
                 Added::Yes => Ok(true),
                 Added::Twice => Ok(false),
@@ -140,7 +137,7 @@ impl Kept {
         }
     }
 
-    /// The same, with all rows in a set from here on.
+    /// The same, where each row is found by its pair from here on.
     #[cold]
     #[inline(never)]
     fn move_over(&mut self, row: &Rank) -> Result<bool, AllocError>
@@ -151,81 +148,23 @@ impl Kept {
         ensures err { OnErr result (rows_of self.new ≡ rows_of self.old) }
     {
         match self {
-            Kept::Apart(set) => add_to_set(set, *row),
+            Kept::Apart(apart) => apart.add(*row),
             Kept::Together(runs) => {
-                let (set, added) = moved_over(runs, row)?;
-                *self = Kept::Apart(set);
+                let (apart, added) = moved_over(runs, row)?;
+                *self = Kept::Apart(apart);
                 Ok(added)
             }
         }
     }
 }
 
-/// The rows as a set, with one more at the end, and whether its pair was new.
-fn moved_over(runs: &Runs, row: &Rank) -> Result<(IndexSet<Rank>, bool), AllocError>
+/// The rows, with one more at the end, and whether its pair was new.
+fn moved_over(runs: &Runs, row: &Rank) -> Result<(ApartRows, bool), AllocError>
     requires { IsCert runs.now }
     ensures added { IfOk result (λ moved. moved.1 ≡ is_none (rank_of runs.now row.now.node row.now.prefix)) }
-    ensures rows { IfOk result (λ moved. moved.0.keys ≡ (if moved.1 then runs.now ++ row.now ∷ [] else runs.now)) }
+    ensures rows { IfOk result (λ moved. moved.0 ≡ (if moved.1 then runs.now ++ row.now ∷ [] else runs.now)) }
 {
-    let mut set = runs.to_set()?;
-    let added = add_to_set(&mut set, *row)?;
-    Ok((set, added))
-}
-
-/// Adds a row at the end, but not where its pair is there.
-#[inline(never)]
-fn add_to_set(set: &mut IndexSet<Rank>, row: Rank) -> Result<bool, AllocError>
-    ensures added { IfOk result (λ added. added ≡ is_none (rank_of set.old.keys row.node row.prefix)) }
-    ensures yes { result ≡ Ok true → set.new.keys ≡ set.old.keys ++ row ∷ [] }
-    ensures no { result ≡ Ok false → set.new.keys ≡ set.old.keys }
-    ensures err { OnErr result (set.new.keys ≡ set.old.keys) }
-{
-    Ok(set.insert(row)?)
-}
-
-/// The rank of a pair.
-fn rank_in_set(set: &IndexSet<Rank>, node: &Name, prefix: &Prefix) -> Option<u16>
-    ensures { result ≡ rank_of set.now.keys node.now prefix.now }
-{
-    let sought = Rank {
-        node: *node,
-        prefix: *prefix,
-        rank: 0,
-    };
-    let found = set.get(&sought)?;
-    Some(found.rank)
-}
-
-/// Where the rows begin that stand together with the one of this pair and have its prefix; 0 where there is none.
-fn begin_in_set(set: &IndexSet<Rank>, node: &Name, prefix: &Prefix) -> usize {
-    let sought = Rank {
-        node: *node,
-        prefix: *prefix,
-        rank: 0,
-    };
-    match set.get_index_of(&sought) {
-        Some(place) => place - count_before(set.as_slice(), place, prefix),
-        None => 0,
-    }
-}
-
-/// How many rows of this prefix stand right before a place, of the 64 there.
-fn count_before(rows: &[Rank], place: usize, prefix: &Prefix) -> usize
-    ensures { result ≤ place }
-{
-    let most = place.min(NEAR);
-    for count in 0..most {
-        if !is_at(rows, place - count - 1, prefix) {
-            return count;
-        }
-    }
-    most
-}
-
-/// Whether a row of this prefix stands at a place.
-fn is_at(rows: &[Rank], place: usize, prefix: &Prefix) -> bool {
-    match rows.get(place) {
-        Some(row) => row.prefix == *prefix,
-        None => false,
-    }
+    let mut apart = runs.to_apart()?;
+    let added = apart.add(*row)?;
+    Ok((apart, added))
 }

@@ -1,6 +1,7 @@
 //! Certificates: ranks of nodes at prefixes, and their text.
 #![tactic(auto)]
 
+mod apart;
 mod cert;
 mod fault;
 mod greatest;

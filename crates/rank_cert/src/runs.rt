@@ -7,13 +7,13 @@ ghost use Rattle.rank_cert.specs.Runs.{rank_in_run, begins_with, has_name, begin
 ghost use Rattle.rank_cert.specs.Marks.{AreMarked};
 ghost use Rattle.rank_cert.specs.Greatest.{IsOf};
 
+use crate::apart::ApartRows;
 use crate::cert::{NEAR, Rank};
 use crate::greatest::Greatest;
 use crate::marks::{Marks, place_of};
 use card_digits::{Name, Prefix};
-use indexmap::IndexSet;
+use crowded_map::CrowdedMap;
 use std::alloc::{AllocError, Global};
-use std::collections::HashMap;
 use std::marker::Model;
 
 /// Rows in the order in which they were added. Those of one prefix are a run: no row of another prefix stands among them. So only
@@ -22,7 +22,7 @@ use std::marker::Model;
 pub(crate) struct Runs {
     rows: Vec<Rank>,
     /// The place of the first row of each prefix.
-    begins: HashMap<Prefix, usize>,
+    begins: CrowdedMap<Prefix, usize>,
     /// Where the run of the last row begins.
     last: usize,
     /// The marks of the names in that run: of a name without one no row has to be looked at.
@@ -62,7 +62,7 @@ impl Runs {
     {
         Runs {
             rows: Vec::new(alloc),
-            begins: HashMap::new(alloc),
+            begins: CrowdedMap::new(alloc),
             last: 0,
             marks: Marks::none(),
             greatest: Greatest::none(),
@@ -75,7 +75,7 @@ impl Runs {
     {
         Ok(Runs {
             rows: Vec::with_capacity(alloc, rows)?,
-            begins: HashMap::new(alloc),
+            begins: CrowdedMap::new(alloc),
             last: 0,
             marks: Marks::none(),
             greatest: Greatest::none(),
@@ -181,12 +181,12 @@ impl Runs {
         Ok(true)
     }
 
-    /// The same rows as a set, in which rows of one prefix may stand apart.
-    pub fn to_set(&self) -> Result<IndexSet<Rank>, AllocError>
+    /// The same rows, where those of one prefix may stand apart.
+    pub fn to_apart(&self) -> Result<ApartRows, AllocError>
         requires { IsCert self.now }
-        ensures { IfOk result (λ set. set.keys ≡ self.now) }
+        ensures { IfOk result (λ apart. apart ≡ self.now) }
     {
-        set_of(*self.rows.allocator(), &self.rows)
+        ApartRows::of_rows(*self.rows.allocator(), &self.rows)
     }
 }
 
@@ -277,20 +277,21 @@ fn add_to_run(
 #[inline(never)]
 fn begin_run(
     rows: &mut Vec<Rank>,
-    begins: &mut HashMap<Prefix, usize>,
+    begins: &mut CrowdedMap<Prefix, usize>,
     row: Rank,
 ) -> Result<bool, AllocError>
     ensures new { result ≡ Ok true → begin_of begins.old.entries row.prefix ≡ None }
     ensures rows { result ≡ Ok true → rows.new.items ≡ rows.old.items ++ row ∷ [] }
     ensures begins { result ≡ Ok true → (p : List ℕ) → begin_of begins.new.entries p ≡ (if pointwise ◌==◌ row.prefix p then Some (length rows.old.items) else begin_of begins.old.entries p) }
     ensures rows_stay { result ≢ Ok true → rows.new.items ≡ rows.old.items }
-    ensures begins_stay { result ≢ Ok true → begins.new.entries ≡ begins.old.entries }
+    ensures begins_stay { result ≢ Ok true → (p : List ℕ) → begin_of begins.new.entries p ≡ begin_of begins.old.entries p }
 {
     if begins.contains_key(&row.prefix) {
         return Ok(false);
     }
     rows.reserve(1)?;
-    begins.insert(row.prefix, rows.len())?;
+    begins.reserve(1)?;
+    let _ = begins.insert(row.prefix, rows.len());
     rows.push_reserved(row);
     Ok(true)
 }
@@ -299,7 +300,7 @@ fn begin_run(
 /// asked for before anything is written.
 fn begin_repeat(
     rows: &mut Vec<Rank>,
-    begins: &mut HashMap<Prefix, usize>,
+    begins: &mut CrowdedMap<Prefix, usize>,
     place: usize,
     prefix: Prefix,
     ranks: &[u16],
@@ -309,13 +310,14 @@ fn begin_repeat(
     ensures rows { result ≡ Ok true → rows.new.items ≡ rows.old.items ++ like_rows (drop place rows.old.items) prefix ranks.now }
     ensures begins { result ≡ Ok true → (p : List ℕ) → begin_of begins.new.entries p ≡ (if pointwise ◌==◌ prefix p then Some (length rows.old.items) else begin_of begins.old.entries p) }
     ensures rows_stay { result ≢ Ok true → rows.new.items ≡ rows.old.items }
-    ensures begins_stay { result ≢ Ok true → begins.new.entries ≡ begins.old.entries }
+    ensures begins_stay { result ≢ Ok true → (p : List ℕ) → begin_of begins.new.entries p ≡ begin_of begins.old.entries p }
 {
     if begins.contains_key(&prefix) {
         return Ok(false);
     }
     rows.reserve(ranks.len())?;
-    begins.insert(prefix, rows.len())?;
+    begins.reserve(1)?;
+    let _ = begins.insert(prefix, rows.len());
     repeat_names(rows, place, prefix, ranks);
     Ok(true)
 }
@@ -342,16 +344,4 @@ fn marks_of(rows: &[Rank]) -> Marks
         marks.mark(place_of(row.node.as_slice()));
     }
     marks
-}
-
-/// The rows as a set. None is lost, since no two have the same pair.
-fn set_of(alloc: Global, rows: &[Rank]) -> Result<IndexSet<Rank>, AllocError>
-    requires { IsCert rows.now }
-    ensures { IfOk result (λ set. set.keys ≡ rows.now) }
-{
-    let mut set = IndexSet::with_capacity(alloc, rows.len())?;
-    for row in rows {
-        set.insert(*row)?;
-    }
-    Ok(set)
 }

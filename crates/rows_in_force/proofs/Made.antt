@@ -20,6 +20,11 @@ module _ {R : Type 0} (f : R → List ℕ) (rows : List R) where
   pub chained_none : IsChainedTo f 0 rows [] []
   chained_none = record { last_of = λ p. refl; count = refl; before_of = λ place r lt is. absurd (omega arith); some_digits = λ place r lt is. absurd (omega arith) }
 
+  -- a map with the same places for each prefix
+  pub chained_same : (n : ℕ) (old new : List (List ℕ × ℕ)) (before : List (Option ℕ)) → ((q : List ℕ) → lookup (λ k. pointwise ◌==◌ q k) new ≡ lookup (λ k. pointwise ◌==◌ q k) old)
+      → IsChainedTo f n rows old before → IsChainedTo f n rows new before
+  chained_same n old new before same h = record { last_of = λ p. same p ∙ h.last_of p; count = h.count; before_of = h.before_of; some_digits = h.some_digits }
+
   pub chained_next : (n : ℕ) (r : R) (old new : List (List ℕ × ℕ)) (before : List (Option ℕ)) → IsChainedTo f n rows old before → slice_get rows n ≡ Some r → 1 ≤ length (f r)
       → ((q : List ℕ) → lookup (λ k. pointwise ◌==◌ q k) new ≡ cond (pointwise ◌==◌ (f r) q) (Some n) (lookup (λ k. pointwise ◌==◌ q k) old))
       → IsChainedTo f (n + 1) rows new (before ++ lookup (λ k. pointwise ◌==◌ (f r) k) old ∷ [])

@@ -9,8 +9,8 @@ ghost use Rattle.rows_in_force.specs.Kept.{AreWithin};
 
 use crate::placed::Placed;
 use card_digits::Prefix;
+use crowded_map::CrowdedMap;
 use std::alloc::{AllocError, Global};
-use std::collections::HashMap;
 
 pub(crate) const MOST_NODES: usize = 64;
 
@@ -20,7 +20,7 @@ pub(crate) type Places = [Option<usize>; MOST_NODES];
 /// The place of the last row of each prefix, and for each row the place of the one before it that has its prefix.
 #[derive(Debug, Drop)]
 pub(crate) struct OwnRows {
-    pub last: HashMap<Prefix, usize>,
+    pub last: CrowdedMap<Prefix, usize>,
     pub before: Vec<Option<usize>>,
 }
 
@@ -28,12 +28,13 @@ impl OwnRows {
     pub fn new<R: Placed>(alloc: Global, rows: &[R]) -> Result<OwnRows, AllocError>
         ensures { IfOk result (λ own. IsChained R.prefix_of rows.now own.last.entries own.before.items) }
     {
-        let mut last = HashMap::new(alloc);
+        let mut last = CrowdedMap::new(alloc);
         let mut before = Vec::with_capacity(alloc, rows.len())?;
         for (place, row) in rows.iter().enumerate() {
             let prefix = row.prefix();
             let _ = prefix.digits();
-            before.push(last.insert(prefix, place)?)?;
+            last.reserve(1)?;
+            before.push(last.insert(prefix, place))?;
         }
         Ok(OwnRows { last, before })
     }

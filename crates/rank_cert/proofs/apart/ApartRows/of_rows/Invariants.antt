@@ -1,9 +1,9 @@
 use Rattle.std.proofs.Common.{◌≡◌, ◌++◌, drop}
 use Rattle.rank_cert.specs.Ranks.{AddsRows}
-use Rattle.rank_cert.proofs.runs.set_of.Given as goal
+use Rattle.rank_cert.proofs.apart.ApartRows.of_rows.Given as goal
 
 abbrev pub invariant-loop-row : goal.invariant-loop-row
 invariant-loop-row l = record {
-  whole : l.set.keys ++ drop l.row-index l.rows ≡ l.rows;
-  rest : AddsRows l.set.keys (drop l.row-index l.rows);
+  whole : l.apart ++ drop l.row-index l.rows ≡ l.rows;
+  rest : AddsRows l.apart (drop l.row-index l.rows);
 }
