@@ -152,7 +152,7 @@ unfolding history read_history step_outputs
 decided t checked n less e es legal =
     let j = accepted_reads t n es e.input legal.1.accepted in
     let r = entry_read t n e es j.0 checked less legal j.1 in
-    let before = Legible.legal (legible t n checked less es legal.0) in
+    let before = Legible.legal (legible t n checked.sound less es legal.0) in
     record {
       input = j.0;
       reads = j.1;

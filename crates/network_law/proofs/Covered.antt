@@ -163,10 +163,10 @@ module _ (t : Network) (ranks : Ranks) (traces : ℕ → List ReadEntry) (run : 
   one_node x y b c e = ⊎_elim
       (λ p. ⊎_elim
       (λ q. sound.single_ids (Began.node b) (Began.node c) p.0 q.0 (sym p.1 ∙ (ap AdviceId.forwarder e ∙ q.1)))
-      (λ q. absurd (no_zero_id t sound (Began.node b) p.0 (sym p.1 ∙ (ap AdviceId.forwarder e ∙ q.0))))
+      (λ q. absurd (no_zero_id t sound.sound (Began.node b) p.0 (sym p.1 ∙ (ap AdviceId.forwarder e ∙ q.0))))
       (Began.how c))
       (λ p. ⊎_elim
-      (λ q. absurd (no_zero_id t sound (Began.node c) q.0 (sym q.1 ∙ (ap AdviceId.forwarder (sym e) ∙ p.0))))
+      (λ q. absurd (no_zero_id t sound.sound (Began.node c) q.0 (sym q.1 ∙ (ap AdviceId.forwarder (sym e) ∙ p.0))))
       (λ q. sound.single_gates (identity_of x).key.acquirer (Began.node b) (Began.node c) p.1 (ap (λ z. is_attached t (Began.node c) (Key.acquirer (AdviceId.key z))) e ∙ q.1))
       (Began.how c))
       (Began.how b)

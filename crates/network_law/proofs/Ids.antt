@@ -10,7 +10,7 @@ use Rattle.card_digits.specs.Numbers.{pad11}
 use Rattle.card_digits.specs.Digits.{IsId}
 use Rattle.net_rows.specs.Network.{Network}
 use Rattle.network_law.specs.Tables.{node_id}
-use Rattle.network_law.specs.Checked.{IsChecked}
+use Rattle.net_rows.specs.Sound.{IsSound}
 
 -- digits that fit eleven, and not all of them zeros
 pub record IsIdText (bs : List ℕ) : Type 0 where
@@ -23,9 +23,9 @@ at_node P [] n all less = absurd (omega (arith, less))
 at_node P (k ∷ ks) zero all less = all.0
 at_node P (k ∷ ks) (suc n) all less = at_node P ks n all.1 (omega (arith, less))
 
-pub id_text : (t : Network) → IsChecked t → (n : ℕ) → n < length t.nodes → IsIdText (node_id t n)
-id_text t checked n less =
-    let id : IsId (node_id t n) = at_node IsId t.nodes n checked.sound.ids less in
+pub id_text : (t : Network) → IsSound t → (n : ℕ) → n < length t.nodes → IsIdText (node_id t n)
+id_text t sound n less =
+    let id : IsId (node_id t n) = at_node IsId t.nodes n sound.ids less in
     record { fits = IsId.few id; digits = IsId.digits id; not_zeros = IsId.not_zeros id }
 
 all_zeros : (n : ℕ) → list_all (λ b. eqb b 48) (replicate n 48) ≡ true
@@ -43,7 +43,7 @@ padded_zeros bs e =
     let all : bs ≡ replicate (11 - (11 - length bs)) 48 = sym k ∙ (ap (drop (11 - length bs)) e ∙ drop_same 48 (11 - length bs) 11) in
     ap (list_all (λ b. eqb b 48)) all ∙ all_zeros (11 - (11 - length bs))
 
-pub no_zero_id : (t : Network) → IsChecked t → (n : ℕ) → n < length t.nodes → pad11 (node_id t n) ≡ replicate 11 48 → ⊥
+pub no_zero_id : (t : Network) → IsSound t → (n : ℕ) → n < length t.nodes → pad11 (node_id t n) ≡ replicate 11 48 → ⊥
 no_zero_id t sound n less e = no (sym (padded_zeros (node_id t n) e) ∙ IsIdText.not_zeros (id_text t sound n less))
   where
     no : true ≡ false → ⊥
@@ -59,5 +59,5 @@ ids_fit [] n all = record { fits = omega arith; digits = refl }
 ids_fit (k ∷ ks) zero all = record { fits = IsId.few all.0; digits = IsId.digits all.0 }
 ids_fit (k ∷ ks) (suc n) all = ids_fit ks n all.1
 
-pub id_fits : (t : Network) → IsChecked t → (n : ℕ) → FitsId (node_id t n)
-id_fits t checked n = ids_fit t.nodes n checked.sound.ids
+pub id_fits : (t : Network) → IsSound t → (n : ℕ) → FitsId (node_id t n)
+id_fits t sound n = ids_fit t.nodes n sound.ids

@@ -21,6 +21,7 @@ use Rattle.network_law.specs.Traces as messages
 use Rattle.network_law.specs.Decision.{decide}
 use Rattle.network_law.specs.Refusals.{refusal, required_entered, required_taken}
 use Rattle.network_law.specs.Entries.{Input, Enter, Take, LinkUp, LinkDown, Tick, HostAnswer, NewDate, Lend, Output, Put, Entry, ReadEntry, read_entry, packet_or, read_as, read_input, read_output, read_outputs, with_read, read_trace, put_out, read_history, history, spelled, newest_onto, newest_outputs}
+use Rattle.net_rows.specs.Sound.{IsSound}
 use Rattle.network_law.specs.Checked.{IsChecked}
 use Rattle.network_law.specs.Runs.{NamesOwnLink, IsTyped, fault_of, step_refusal, outputs_of, step_outputs, IsStep, IsLegal, IsRun}
 use Rattle.network_law.specs.declared.grant.GrantPacket.{GrantPacket}
@@ -79,7 +80,7 @@ read_all (o ∷ os) a = ap (λ r. with_read r (read_outputs (map spelled os))) (
 
 -- inputs that are read and not refused
 
-abbrev IsReadInput : Network → ℕ → Input → ReadInput → Type 0
+abbrev pub IsReadInput : Network → ℕ → Input → ReadInput → Type 0
 IsReadInput t n i j = InputIs j × IsFormed j × reading.NamesOwnLink t n j
 
 read_ok : {X : Type 0} (f : Fields → X) (r : Result Fields DecodeFault) (x : X) → read_as f r ≡ Ok x → (m : Fields) × (r ≡ Ok m) × (f m ≡ x)
@@ -136,7 +137,7 @@ taken_lengths m g w r =
     let f = IsWhole.none_missing (subst (λ z. IsWhole z m) (taken_needs m.kind r) w) in
     lengths m g (is_there m (2 ∷ 3 ∷ 4 ∷ 7 ∷ 11 ∷ 15 ∷ 32 ∷ 49 ∷ []) 11 f (inr (inr (inr (inr (inl refl)))))) (is_there m (2 ∷ 3 ∷ 4 ∷ 7 ∷ 11 ∷ 15 ∷ 32 ∷ 49 ∷ []) 7 f (inr (inr (inr (inl refl))))) (is_there m (2 ∷ 3 ∷ 4 ∷ 7 ∷ 11 ∷ 15 ∷ 32 ∷ 49 ∷ []) 32 f (inr (inr (inr (inr (inr (inr (inl refl))))))))
 
-input_read : (t : Network) (n : ℕ) (past : History) (i : Input) (j : ReadInput) → read_input i ≡ Ok j → NamesOwnLink t n i → IsTyped i → refusal t n past j ≡ None → IsReadInput t n i j
+pub input_read : (t : Network) (n : ℕ) (past : History) (i : Input) (j : ReadInput) → read_input i ≡ Ok j → NamesOwnLink t n i → IsTyped i → refusal t n past j ≡ None → IsReadInput t n i j
 unfolding read_input
 input_read t n past (Enter bytes) j e own typed ok =
     let r = read_ok messages.Enter (read bytes) j e in
@@ -161,11 +162,12 @@ input_read t n past (NewDate d) j e own typed ok = subst (IsReadInput t n (NewDa
 
 -- a step has a reading
 
-record HasReading (t : Network) (n : ℕ) (es : List Entry) (e : Entry) : Type 0 where
-  input : ReadInput
-  is : read_input e.input ≡ Ok input
-  accepted : refusal t n (history es) input ≡ None
-  outputs : e.outputs ≡ map spelled (newest_outputs (decide t n (history es) input))
+pub record HasReading (t : Network) (n : ℕ) (es : List Entry) (e : Entry) : Type 0 where
+  pub input : ReadInput
+  pub is : read_input e.input ≡ Ok input
+  pub accepted : refusal t n (history es) input ≡ None
+  pub outputs : e.outputs ≡ map spelled (newest_outputs (decide t n (history es) input))
+  pub room : length es < 1000000
 
 accepted_fault : (t : Network) (n : ℕ) (es : List Entry) (i : Input) → step_refusal t n es i ≡ None → fault_of t n (history es) (read_input i) ≡ None
 unfolding step_refusal
@@ -198,12 +200,12 @@ trace_length (e ∷ es) = go (read_entry e) (trace_length es)
     go (Ok x) le = omega (arith, le)
     go (Err d) le = omega (arith, le)
 
-has_reading : (t : Network) (n : ℕ) (es : List Entry) (e : Entry) → IsStep t n es e → HasReading t n es e
+pub has_reading : (t : Network) (n : ℕ) (es : List Entry) (e : Entry) → IsStep t n es e → HasReading t n es e
 unfolding step_outputs
 has_reading t n es e s = go (read_input e.input) refl
   where
     go : (r : Result ReadInput DecodeFault) → read_input e.input ≡ r → HasReading t n es e
-    go (Ok i) at = record { input = i; is = at; accepted = rw at at (accepted_fault t n es e.input s.accepted); outputs = s.outputs ∙ ap (outputs_of t n (history es)) at }
+    go (Ok i) at = record { input = i; is = at; accepted = rw at at (accepted_fault t n es e.input s.accepted); outputs = s.outputs ∙ ap (outputs_of t n (history es)) at; room = accepted_room t n es e.input s.accepted }
     go (Err f) at = absurd (no (rw at at (accepted_fault t n es e.input s.accepted)))
       where
         no : Some (Decode f) ≡ None → ⊥
@@ -213,34 +215,25 @@ pub read_trace_more : (e : Entry) (es : List Entry) (i : ReadInput) → read_inp
 unfolding read_trace
 read_trace_more e es i at = rw at refl
 
--- a legal trace is read as one
+-- over tables whose rows are sound a legal trace is read as one, whatever the checker says of them
 
 pub record Legible (t : Network) (n : ℕ) (es : List Entry) : Type 0 where
   pub legal : IsLegalRead t n (read_trace es)
   pub written : AreWritten (history es)
 
-pub legible : (t : Network) (n : ℕ) → IsChecked t → n < length t.nodes → (es : List Entry) → IsLegal t n es → Legible t n es
+pub legible : (t : Network) (n : ℕ) → IsSound t → n < length t.nodes → (es : List Entry) → IsLegal t n es → Legible t n es
 unfolding history read_history read_trace
-legible t n checked less [] l = record { legal = omega arith; written = tt }
-legible t n checked less (e ∷ es) l = more (has_reading t n es e l.1) (legible t n checked less es l.0)
+legible t n sound less [] l = record { legal = omega arith; written = tt }
+legible t n sound less (e ∷ es) l = more (has_reading t n es e l.1) (legible t n sound less es l.0)
   where
-    id : IsIdText (node_id t n)
-    id = id_text t checked n less
-
-    few : length (grants t n (read_history (read_trace es))) < 1000000
-    few =
-        let a = accepted_room t n es e.input l.1.accepted in
-        let b = grants_few t n (read_trace es) in
-        let c = trace_length es in
-        omega (arith, a, b, c)
-
     more : HasReading t n es e → Legible t n es → Legible t n (e ∷ es)
     more r before =
         let i = HasReading.input r in
         let past : History = history es in
         let good = input_read t n past e.input i (HasReading.is r) l.1.own l.1.typed (HasReading.accepted r) in
         let keeps = keeps_issuers t n past (legal_facts t n (read_trace es) (Legible.legal before)) in
-        let after : AreWritten (decide t n past i) = decide_written t n checked.sound.date id (λ m. id_fits t checked m) past i (Legible.written before) good.0 (HasReading.accepted r) few keeps in
+        let few : length (grants t n past) < 1000000 = (let a = HasReading.room r in let b = grants_few t n (read_trace es) in let c = trace_length es in omega (arith, a, b, c)) in
+        let after : AreWritten (decide t n past i) = decide_written t n sound.date (id_text t sound n less) (λ m. id_fits t sound m) past i (Legible.written before) good.0 (HasReading.accepted r) few keeps in
         let outs : read_outputs e.outputs ≡ newest_outputs (decide t n past i) = ap read_outputs (HasReading.outputs r) ∙ read_all (newest_outputs (decide t n past i)) (outputs_written [] (decide t n past i) tt after) in
         let whole : put_out i (read_outputs e.outputs) (In i ∷ past) ≡ decide t n past i = ap (λ os. put_out i os (In i ∷ past)) outs ∙ decide_is_outputs t n past i keeps in
         let here : read_trace (e ∷ es) ≡ record { input = i; outputs = read_outputs e.outputs } ∷ read_trace es = read_trace_more e es i (HasReading.is r) in
@@ -398,7 +391,7 @@ in_messages traces n = read_trace (traces n)
 pub read_run : (t : Network) (traces : ℕ → List Entry) → IsChecked t → IsRun t traces → IsReadRun t (in_messages traces)
 unfolding read_trace
 read_run t traces checked run = record {
-  legal = λ n less. Legible.legal (legible t n checked less (traces n) (run.legal n less));
+  legal = λ n less. Legible.legal (legible t n checked.sound less (traces n) (run.legal n less));
   no_others = λ n more. ap read_trace (run.no_others n more);
   packets = λ n l s p has. linked' n l s (messages.TakePacket l s p) (messages.PutPacket l s p) (λ i e. packet_taken i l s p e) has;
   linked = λ n l s m has. linked' n l s (messages.Take l s m) (messages.Put l s m) (λ i e. take_read i l s m e) has;
@@ -423,4 +416,4 @@ pub record EntryRead (t : Network) (n : ℕ) (e : Entry) (es : List Entry) (i : 
 pub entry_read : (t : Network) (n : ℕ) (e : Entry) (es : List Entry) (i : ReadInput) → IsChecked t → n < length t.nodes → IsLegal t n (e ∷ es) → read_input e.input ≡ Ok i → EntryRead t n e es i
 entry_read t n e es i checked less legal at =
     let here = read_trace_more e es i at in
-    record { outputs = read_outputs e.outputs; is = here; legal = subst (IsLegalRead t n) here (Legible.legal (legible t n checked less (e ∷ es) legal)) }
+    record { outputs = read_outputs e.outputs; is = here; legal = subst (IsLegalRead t n) here (Legible.legal (legible t n checked.sound less (e ∷ es) legal)) }

@@ -128,7 +128,7 @@ read_spelled_trace (e ∷ es) g =
 
 -- what is legal spelled is legal in messages
 pub legal_in_messages : (t : Network) (n : ℕ) → IsChecked t → n < length t.nodes → (es : List ReadEntry) → trace_good es ≡ true → IsLegal t n (spelled_trace es) → IsLegalRead t n es
-legal_in_messages t n checked less es g l = subst (IsLegalRead t n) (read_spelled_trace es g) (Legible.legal (legible t n checked less (spelled_trace es) l))
+legal_in_messages t n checked less es g l = subst (IsLegalRead t n) (read_spelled_trace es g) (Legible.legal (legible t n checked.sound less (spelled_trace es) l))
 
 -- and the other way round
 

@@ -1,5 +1,5 @@
 -- Whose turn it is among sessions.
-use Rattle.std.specs.Prelude.{ℕ, ◌+◌, ◌==◌, Bool, true, false, List, drop, Option, Some, None, slice_set, if◌then◌else◌}
+use Rattle.std.specs.Prelude.{ℕ, ◌+◌, Bool, true, false, List, drop, Option, Some, None, slice_set, if◌then◌else◌}
 use Rattle.std.specs.List.{position}
 use Rattle.plan_threads.specs.declared.queue.Standing.{Standing}
 use Rattle.plan_threads.specs.declared.queue.Standing.TheVariants.{Out, Queued}

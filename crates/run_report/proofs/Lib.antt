@@ -5,7 +5,6 @@ pub mod Keyed
 pub mod OwnAgrees
 pub mod OwnCases
 pub mod OwnTimers
-pub mod SoundReads
 pub mod OwnCounts
 pub mod Unknown
 pub mod OwnLaw

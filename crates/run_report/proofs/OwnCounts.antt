@@ -13,7 +13,7 @@ use Rattle.network_law.specs.Entries.{Entry, ReadEntry, read_input, read_outputs
 use Rattle.network_law.proofs.Late.{LateFacts, legal_late}
 use Rattle.network_law.proofs.Node.{NodeFacts, legal_facts}
 use Rattle.network_law.proofs.ReadRuns.{IsFormed, IsLegalRead, IsDecidedRead}
-use Rattle.network_law.proofs.Reading.{AreOutputs, Legible, read_trace_more}
+use Rattle.network_law.proofs.Reading.{AreOutputs, Legible, has_reading, read_trace_more}
 use Rattle.network_law.proofs.Written.{AreWritten}
 use Rattle.run_report.specs.Stations.{is_posting, posts_in}
 use Rattle.run_report.specs.Own.{answers_onto, answers_given, own_among, own_of, is_post, posts_of}
@@ -21,7 +21,6 @@ use Rattle.run_report.proofs.AnswersRead.{brings, given, given_puts, brings_read
 use Rattle.run_report.proofs.OwnAgrees.{Agrees, nothing_agrees}
 use Rattle.run_report.proofs.OwnCases.{calm_agrees}
 use Rattle.run_report.proofs.OwnTimers.{timer_agrees}
-use Rattle.run_report.proofs.SoundReads.{has_reading}
 
 -- in messages
 

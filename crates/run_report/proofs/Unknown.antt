@@ -20,11 +20,10 @@ use Rattle.network_law.specs.Tables.{is_attached, is_link_of, joins, links_betwe
 use Rattle.network_law.specs.Traces.{ReadInput, Enter, Take, LinkUp, LinkDown, Tick, HostAnswer, NewDate, TakePacket, Lend, In, History, acked_by, advices, approvals, ask_key, count_of, fails, grants, handled, opened}
 use Rattle.network_law.specs.Entries.{Entry, read_outputs, read_trace, put_out, read_history, history, spelled, newest_outputs}
 use Rattle.network_law.proofs.ReadRuns as reading
-use Rattle.network_law.proofs.Reading.{read_trace_more}
+use Rattle.network_law.proofs.Reading.{HasReading, has_reading, input_read, read_trace_more}
 use Rattle.network_law.proofs.Refused.{EnteredFacts, entered_facts, or_none, when_none}
 use Rattle.run_report.specs.Stations.{posts_in}
 use Rattle.run_report.specs.Own.{brings_answer, answers_onto, answers_given, is_post, posts_of}
-use Rattle.run_report.proofs.SoundReads.{HasReading, has_reading, input_read}
 
 not_both : (b : Bool) → b ≡ true → b ≡ false → ⊥
 not_both b p q = cc

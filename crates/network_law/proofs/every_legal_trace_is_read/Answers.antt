@@ -33,12 +33,12 @@ returns-clause-decided c t checked n e es i less legal at =
 pub returns-clause-forwards_once : goal.returns-clause-forwards_once
 unfolding history
 returns-clause-forwards_once c t checked n trace i j l s k u x y less legal has has' r r' e =
-    (legal_facts t n (read_trace trace) (Legible.legal (legible t n checked less trace legal))).one_put i j l s k u x y has has' r r' e
+    (legal_facts t n (read_trace trace) (Legible.legal (legible t n checked.sound less trace legal))).one_put i j l s k u x y has has' r r' e
 
 pub returns-clause-leave_less : goal.returns-clause-leave_less
 unfolding history
-returns-clause-leave_less c t checked n trace a x less legal m mx own r = legal_leaves t n (read_trace trace) (Legible.legal (legible t n checked less trace legal)) a x m mx own r
+returns-clause-leave_less c t checked n trace a x less legal m mx own r = legal_leaves t n (read_trace trace) (Legible.legal (legible t n checked.sound less trace legal)) a x m mx own r
 
 pub returns-clause-decide : goal.returns-clause-decide
 unfolding history
-returns-clause-decide c t checked n trace a less legal m rev = legal_left t n (read_trace trace) (Legible.legal (legible t n checked less trace legal)) a m rev
+returns-clause-decide c t checked n trace a less legal m rev = legal_left t n (read_trace trace) (Legible.legal (legible t n checked.sound less trace legal)) a m rev
