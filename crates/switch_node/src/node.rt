@@ -51,6 +51,8 @@ pub(crate) struct State {
 
 impl State {
     /// Nothing came yet.
+    // Written where it is called, so that it isn't moved twice.
+    #[inline]
     pub(crate) fn new(alloc: Global, tables: &Tables, node: NodeNo) -> Result<State, AllocError>
         requires there { node < length tables.now.nodes }
         requires checked { IsChecked tables.now }
