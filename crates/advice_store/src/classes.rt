@@ -47,6 +47,7 @@ impl PlaceList {
         self.places.retain(|place| is_live(slots, *place));
     }
 
+    /// The places of the items of the class, the oldest first.
     pub fn as_slice(&self) -> &[usize]
         ensures { result.now ≡ self.now }
     {

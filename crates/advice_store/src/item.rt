@@ -37,6 +37,7 @@ impl Model for KeptAdvice {
 }
 
 impl KeptAdvice {
+    /// An advice that was stored at this count of ticks, and whether it was put on a link yet.
     pub fn new(id: AdviceId, message: Message, count: u64, put: bool) -> KeptAdvice
         requires { id ≡ identity_of message }
         ensures { result ≡ record { message = message; count = count; put = put } }
@@ -49,12 +50,14 @@ impl KeptAdvice {
         }
     }
 
+    /// What the advice is known by.
     pub fn id(&self) -> AdviceId
         ensures { result ≡ identity_of self.now.message }
     {
         self.id
     }
 
+    /// The advice, as the node keeps it.
     pub fn message(&self) -> &Message
         ensures { result.now ≡ self.now.message }
     {
@@ -130,12 +133,14 @@ impl KeptGrant {
         }
     }
 
+    /// What is lent.
     pub fn grant(&self) -> Grant
         ensures { result ≡ self.now.grant }
     {
         self.grant
     }
 
+    /// The node that borrows.
     pub fn borrower(&self) -> NodeNo
         ensures { result ≡ self.now.borrower }
     {
@@ -185,12 +190,14 @@ impl Model for StoredItem {
 impl StoredItem {
     ghost use Rattle.advice_store.specs.Advices.{stored_of};
 
+    /// An item of the store that is this advice or grant.
     pub fn new(case: StoredCase) -> StoredItem
         ensures { result ≡ stored_of case }
     {
         StoredItem { case }
     }
 
+    /// Which of the two it is.
     pub fn case(&self) -> &StoredCase
         ensures { stored_of result.now ≡ self.now }
     {

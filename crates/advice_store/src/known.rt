@@ -32,6 +32,7 @@ impl KnownIds {
         self.ids.reserve(n)
     }
 
+    /// Whether the identity is among them.
     pub fn contains(&self, id: AdviceId) -> bool
         ensures { result ≡ list_any (identity_eq id) self.now.ids.keys }
     {

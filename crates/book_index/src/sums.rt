@@ -31,6 +31,7 @@ impl Sums {
         self.amounts.reserve(n)
     }
 
+    /// The sum of a card and a settlement date, 0 where nothing was added.
     pub fn get(&self, day: &CardDay) -> u128
         ensures { result ≡ sum_at self.now.amounts.entries day.now }
     {

@@ -5,7 +5,7 @@ use crate::messages::{approval, request};
 use crate::report::{report, start};
 use iso_message::{Message, encode};
 use message_keys::{has_own_key, key_of};
-use request_book::{KeptMessage, PendingBook, PreparedOutput, Row, Way, is_advice, is_request};
+use request_book::{KeptMessage, PendingBook, PreparedOutput, Row, Way};
 use shared_bytes::SharedBytes;
 use std::alloc::{AllocError, Global};
 use std::io;
@@ -24,7 +24,7 @@ fn row_of(alloc: Global, message: &Message) -> Result<Option<Row>, AllocError> {
     let Some(key) = key_of(message) else {
         return Ok(None);
     };
-    if !has_own_key(message) || !is_request(message.kind()) {
+    if !has_own_key(message) || !message.kind().is_request() {
         return Ok(None);
     }
     let kept = kept(alloc, message)?;
@@ -36,7 +36,7 @@ fn answer_of(alloc: Global, message: &Message) -> Result<Option<PreparedOutput>,
     let Some(key) = key_of(message) else {
         return Ok(None);
     };
-    if is_advice(message.kind().group()) {
+    if message.kind().group().is_advice() {
         return Ok(None);
     }
     let kept = kept(alloc, message)?;

@@ -8,6 +8,15 @@ use crate::card::DigitFault;
 use crate::short_bytes::all_digits;
 use std::marker::Model;
 
+/// The most that an amount is: twelve digits (ISO 8583, element 4).
+pub const MOST_AMOUNT: u64 = 999_999_999_999;
+
+/// As many nodes as a network has at most (our format of tables).
+pub const MOST_NODES: usize = 64;
+
+/// As many links as a network has at most (our format of tables).
+pub const MOST_LINKS: usize = 256;
+
 /// An amount from 0 to 999,999,999,999.
 #[derive(Clone, Copy, Debug, PartialEq, Eq, PartialOrd, Ord)]
 pub struct Amount {
@@ -45,6 +54,7 @@ impl Amount {
         })
     }
 
+    /// The amount of so many of the currency's smallest units.
     pub fn new(value: u64) -> Amount
         requires { value < 10 ^ 12 }
         ensures { result ≡ value }
@@ -52,6 +62,7 @@ impl Amount {
         Amount { value }
     }
 
+    /// How many of the currency's smallest units it is, from 0 to 999,999,999,999.
     pub fn value(self) -> u64
         ensures value { result ≡ self }
         ensures in_range { result < 10 ^ 12 }
@@ -94,6 +105,7 @@ impl Model for NodeNo {
 }
 
 impl NodeNo {
+    /// The number of the node that stands at this place of the tables, counted from 0.
     pub fn new(place: usize) -> NodeNo
         requires { place < 64 }
         ensures { result ≡ place }
@@ -101,6 +113,7 @@ impl NodeNo {
         NodeNo { place: place as u8 }
     }
 
+    /// Where the node stands in the tables, from 0 to 63.
     pub fn place(self) -> usize
         ensures place { result ≡ self }
         ensures in_range { result < 64 }
@@ -126,6 +139,7 @@ impl Model for LinkNo {
 }
 
 impl LinkNo {
+    /// The number of the link that stands at this place of the tables, counted from 0.
     pub fn new(place: usize) -> LinkNo
         requires { place < 256 }
         ensures { result ≡ place }
@@ -133,6 +147,7 @@ impl LinkNo {
         LinkNo { place: place as u8 }
     }
 
+    /// Where the link stands in the tables, from 0 to 255.
     pub fn place(self) -> usize
         ensures { result ≡ self }
     {

@@ -15,7 +15,7 @@ mod short_bytes;
 mod stream;
 mod words;
 
-pub use amount::{Amount, LinkNo, NodeNo, decimal};
+pub use amount::{Amount, LinkNo, MOST_AMOUNT, MOST_LINKS, MOST_NODES, NodeNo, decimal};
 pub use card::{Card, DigitFault, begins, begins_class, luhn};
 pub use cutting::cut;
 pub use date_label::DateLabel;

@@ -65,6 +65,7 @@ impl Changes {
         }
     }
 
+    /// How many changes there are.
     pub fn len(&self) -> usize
         ensures { result ≡ length self.now }
     {

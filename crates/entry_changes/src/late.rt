@@ -10,7 +10,7 @@ use crate::advice_places::AdvicePlaces;
 use crate::link_moves::LinkMoves;
 use message_keys::AdviceId;
 use node_books::Effect;
-use request_book::{PreparedOutput, Way, is_request};
+use request_book::{PreparedOutput, Way};
 use std::alloc::{AllocError, Global};
 
 /// So many changes are gone through one by one; what those after them did is kept beside them.
@@ -54,7 +54,7 @@ fn is_plain(effect: &Effect) -> bool
     ensures { result ≡ true → ArePlain (effect.now ∷ []) }
 {
     match effect {
-        Effect::Sent(output) => !is_request(output.message().kind()),
+        Effect::Sent(output) => !output.message().kind().is_request(),
         Effect::Opened(_) | Effect::Ticked => false,
         _ => true,
     }

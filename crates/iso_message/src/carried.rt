@@ -11,8 +11,9 @@ pub(crate) enum Carried {
     Advice,
 }
 
+/// Whether a response carries the element of its message.
 #[inline(always)]
-fn is_in_response(number: u8) -> bool
+pub fn is_in_response(number: u8) -> bool
     ensures { result ≡ is_one_of response_numbers number }
 {
     matches!(
@@ -21,6 +22,7 @@ fn is_in_response(number: u8) -> bool
     )
 }
 
+/// Whether an advice carries the element of its request.
 #[inline(always)]
 fn is_in_advice(number: u8) -> bool
     ensures { result ≡ is_one_of advice_numbers number }

@@ -12,6 +12,7 @@ mod runs;
 mod unread;
 mod writing;
 
+pub use carried::is_in_response;
 pub use elements::ElementIter;
 pub use message::{Message, bytes_of, encode, encode_into};
 pub use reading::decode;

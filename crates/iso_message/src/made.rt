@@ -8,7 +8,7 @@ ghost use Rattle.iso_message.specs.Carried.{carried_numbers};
 use crate::carried::Carried;
 use crate::message::{Message, bytes_of};
 use card_digits::pad11;
-use message_elements::{Code, Kind};
+use message_elements::{Code, Kind, elements, response_codes};
 use std::alloc::AllocError;
 
 impl Message {
@@ -20,7 +20,7 @@ impl Message {
     {
         let mut response = Message::new(self.allocator(), self.kind().response());
         response.keep(self, Carried::Response)?;
-        response.put(39, code.as_slice())?;
+        response.put(elements::RESPONSE_CODE, code.as_slice())?;
         Ok(response)
     }
 
@@ -30,7 +30,7 @@ impl Message {
         requires { set_fault (form_of 33) 33 id.now ≡ None }
         ensures { IfOk result (λ m. m ≡ made_stand_in self.now id.now) }
     {
-        self.made_from(Kind::K0120, id, Code::new(*b"00"))
+        self.made_from(Kind::K0120, id, Code::new(response_codes::APPROVED))
     }
 
     /// The reversal (0420) of a request by the node with this id, with code 68 and the request's key in element 90. The id is
@@ -44,8 +44,12 @@ impl Message {
         // Every message can be written, so the elements of the key are digits, and as many as element 90 takes.
         let _ = self.kind();
         let original = original_data(self)?;
-        let mut reversal = self.made_from(Kind::K0420, id, Code::new(*b"68"))?;
-        reversal.put(90, &original)?;
+        let mut reversal = self.made_from(
+            Kind::K0420,
+            id,
+            Code::new(response_codes::RESPONSE_RECEIVED_TOO_LATE),
+        )?;
+        reversal.put(elements::ORIGINAL_DATA, &original)?;
         Ok(reversal)
     }
 
@@ -57,8 +61,8 @@ impl Message {
     {
         let mut advice = Message::new(self.allocator(), kind);
         advice.keep(self, Carried::Advice)?;
-        advice.put(33, id)?;
-        advice.put(39, code.as_slice())?;
+        advice.put(elements::FORWARDING_INSTITUTION, id)?;
+        advice.put(elements::RESPONSE_CODE, code.as_slice())?;
         Ok(advice)
     }
 
@@ -79,9 +83,9 @@ fn original_data(message: &Message) -> Result<Vec<u8>, AllocError>
     let _ = message.kind();
     let mut data = Vec::with_capacity(message.allocator(), 42)?;
     data.extend_from_slice(b"0100")?;
-    data.extend_from_slice(bytes_of(message, 11))?;
-    data.extend_from_slice(bytes_of(message, 7))?;
-    data.extend_from_slice(&pad11(bytes_of(message, 32)))?;
+    data.extend_from_slice(bytes_of(message, elements::TRACE_AUDIT_NUMBER))?;
+    data.extend_from_slice(bytes_of(message, elements::TRANSMISSION_TIME))?;
+    data.extend_from_slice(&pad11(bytes_of(message, elements::ACQUIRING_INSTITUTION)))?;
     data.extend_from_slice(&[b'0'; 11])?;
     Ok(data)
 }

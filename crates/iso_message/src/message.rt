@@ -46,6 +46,7 @@ impl Message {
         }
     }
 
+    /// The type of the message.
     pub fn kind(&self) -> Kind
         ensures kind { result ≡ self.now.kind }
 
@@ -76,6 +77,7 @@ impl Message {
         self.elements.len()
     }
 
+    /// Whether it has no elements.
     pub fn is_empty(&self) -> bool
         ensures { IsTrue result ↔ (self.now.elements ≡ []) }
     {
@@ -158,6 +160,7 @@ impl Message {
         Ok(())
     }
 
+    /// A message of the same type and elements, in memory of its own.
     pub fn copy(&self) -> Result<Message, AllocError>
         ensures { IfOk result (λ m. m ≡ self.now) }
     {

@@ -19,6 +19,12 @@ group K0420 = Reversal
 group K0421 = Reversal
 group K0430 = AdviceResponse
 
+-- the groups whose messages nodes store, and hand on until they are acknowledged
+abbrev pub is_advice_group : Group → Bool
+is_advice_group Advice = true
+is_advice_group Reversal = true
+is_advice_group _ = false
+
 abbrev pub is_request : Kind → Bool
 is_request K0100 = true
 is_request K0101 = true

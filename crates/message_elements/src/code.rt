@@ -30,7 +30,7 @@ impl Model for Code {
 impl Code {
     ghost use Rattle.message_elements.specs.Codes.{read_code};
 
-    /// The code of two bytes that are known to be text, as `b"00"`.
+    /// The code of two bytes that are known to be text, as `response_codes::APPROVED`.
     pub fn new(bytes: [u8; 2]) -> Code
         requires { AreOf Text bytes }
         ensures { result ≡ bytes }
@@ -50,6 +50,7 @@ impl Code {
         Some(Code { bytes })
     }
 
+    /// The two bytes that write the code.
     pub fn as_slice(&self) -> &[u8]
         ensures value { result.now ≡ self.now }
         ensures two { length self.now ≡ 2 }

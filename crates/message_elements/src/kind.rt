@@ -1,6 +1,6 @@
 //! The types of messages.
 ghost use Rattle.std.specs.Prelude.{◌≡◌, IsTrue, true};
-ghost use Rattle.message_elements.specs.Groups.{group, is_04xx, response_kind};
+ghost use Rattle.message_elements.specs.Groups.{group, is_04xx, is_advice_group, is_answer, is_request, is_reversal, response_kind};
 ghost use Rattle.message_elements.specs.Types.{kind_of, kind_text};
 
 /// A message type (ISO 8583:1987).
@@ -49,7 +49,23 @@ pub enum Group {
     ReversalResponse,
 }
 
+impl Group {
+    /// Whether nodes store a message of the group, and hand it on until it is acknowledged.
+    pub fn is_advice(self) -> bool
+        ensures { result ≡ is_advice_group self }
+    {
+        match self {
+            Group::Advice | Group::Reversal => true,
+            Group::AuthorizationRequest
+            | Group::AuthorizationResponse
+            | Group::AdviceResponse
+            | Group::ReversalResponse => false,
+        }
+    }
+}
+
 impl Kind {
+    /// What a message of the type is to a node.
     pub fn group(self) -> Group
         ensures { result ≡ group self }
     {
@@ -60,6 +76,36 @@ impl Kind {
             Kind::K0400 | Kind::K0401 | Kind::K0420 | Kind::K0421 => Group::Reversal,
             Kind::K0130 | Kind::K0430 => Group::AdviceResponse,
             Kind::K0410 => Group::ReversalResponse,
+        }
+    }
+
+    /// Whether a message of the type asks for an authorization.
+    pub fn is_request(self) -> bool
+        ensures { result ≡ is_request self }
+    {
+        match self {
+            Kind::K0100 | Kind::K0101 => true,
+            _ => false,
+        }
+    }
+
+    /// Whether a message of the type answers an authorization request.
+    pub fn is_answer(self) -> bool
+        ensures { result ≡ is_answer self }
+    {
+        match self {
+            Kind::K0110 => true,
+            _ => false,
+        }
+    }
+
+    /// Whether a message of the type takes a request back, in full or in part.
+    pub fn is_reversal(self) -> bool
+        ensures { result ≡ is_reversal self }
+    {
+        match self {
+            Kind::K0400 | Kind::K0401 | Kind::K0420 | Kind::K0421 => true,
+            _ => false,
         }
     }
 

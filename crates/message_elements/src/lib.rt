@@ -3,9 +3,11 @@
 #![tactic(auto)]
 
 mod code;
+pub mod elements;
 mod fault;
 mod form;
 mod kind;
+pub mod response_codes;
 mod values;
 
 pub use code::Code;

@@ -7,7 +7,7 @@ ghost use Rattle.iso_message.specs.Fields.{get, has, el};
 
 use card_digits::{Key, pad11};
 use iso_message::{Message, bytes_of};
-use message_elements::{Code, Kind};
+use message_elements::{Code, Kind, elements};
 
 /// What an advice tells of.
 #[derive(Clone, Copy, Debug, PartialEq, Eq, PartialOrd, Ord, Hash)]
@@ -56,7 +56,9 @@ fn array_at<const N: usize>(bytes: &[u8], from: usize) -> [u8; N]
 pub fn has_own_key(message: &Message) -> bool
     ensures { result ≡ has_own_key message.now }
 {
-    message.has(32) && message.has(11) && message.has(7)
+    message.has(elements::ACQUIRING_INSTITUTION)
+        && message.has(elements::TRACE_AUDIT_NUMBER)
+        && message.has(elements::TRANSMISSION_TIME)
 }
 
 /// The padded element 32, element 11 and element 7.
@@ -65,9 +67,9 @@ fn own_key(message: &Message) -> Option<Key>
 {
     // Every message can be written, so element 32 has at most 11 bytes, element 11 six and element 7 ten.
     let _ = message.kind();
-    let acquirer = message.get(32)?;
-    let trace = message.get(11)?;
-    let time = message.get(7)?;
+    let acquirer = message.get(elements::ACQUIRING_INSTITUTION)?;
+    let trace = message.get(elements::TRACE_AUDIT_NUMBER)?;
+    let time = message.get(elements::TRANSMISSION_TIME)?;
     Some(Key {
         acquirer: pad11(acquirer),
         trace: array_at(trace, 0),
@@ -81,7 +83,7 @@ pub fn original_key(message: &Message) -> Option<Key>
 {
     // Every message can be written, so element 90 has 42 bytes.
     let _ = message.kind();
-    let original = message.get(90)?;
+    let original = message.get(elements::ORIGINAL_DATA)?;
     Some(Key {
         acquirer: array_at(original, 20),
         trace: array_at(original, 4),
@@ -119,7 +121,7 @@ fn forwarder_of(message: &Message) -> [u8; 11]
 {
     // Every message can be written, so element 33 has at most 11 bytes.
     let _ = message.kind();
-    match message.get(33) {
+    match message.get(elements::FORWARDING_INSTITUTION) {
         Some(id) => pad11(id),
         None => [b'0'; 11],
     }
@@ -152,10 +154,10 @@ fn same_element(first: &Message, second: &Message, number: u8) -> bool
 pub fn same_content(first: &Message, second: &Message) -> bool
     ensures { result ≡ content_eq (content first.now) (content second.now) }
 {
-    let card = same_element(first, second, 2);
-    let processing = same_element(first, second, 3);
-    let amount = same_element(first, second, 4);
-    let currency = same_element(first, second, 49);
+    let card = same_element(first, second, elements::CARD_NUMBER);
+    let processing = same_element(first, second, elements::PROCESSING_CODE);
+    let amount = same_element(first, second, elements::AMOUNT);
+    let currency = same_element(first, second, elements::CURRENCY);
     card && processing && amount && currency
 }
 
@@ -165,6 +167,6 @@ pub fn code_of(message: &Message) -> Option<Code>
 {
     // Every message can be written, so element 39 has two bytes of text.
     let _ = message.kind();
-    let code = message.get(39)?;
+    let code = message.get(elements::RESPONSE_CODE)?;
     Code::read(code)
 }

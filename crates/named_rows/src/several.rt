@@ -10,11 +10,9 @@ ghost use Rattle.net_rows.specs.Sound.{is_end};
 
 use crate::named_rows::{Named, NamedRows};
 use card_digits::{LinkNo, Name, NodeNo};
-use net_rows::{Link, Links, Node, Nodes};
+use net_rows::{Link, Links, MOST_ROUTE_LINKS, Node, Nodes};
 use std::alloc::{AllocError, Global};
 use table_fields::{Key, Place, Row, TableFault};
-
-const MOST_LINKS: usize = 8;
 
 /// A list of rows, by their places.
 trait Places: Drop {
@@ -134,7 +132,7 @@ pub fn links_at(
 {
     let names = row.names(alloc, key)?;
     let count = names.as_slice().len();
-    if count == 0 || count > MOST_LINKS {
+    if count == 0 || count > MOST_ROUTE_LINKS {
         return Err(row.bad(key));
     }
     let found: Links = all_named(alloc, links, &names, row.place(key))?;

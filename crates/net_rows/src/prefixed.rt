@@ -29,6 +29,7 @@ pub(crate) struct RowKey {
 ghost use Rattle.card_digits.specs.Digits.{IsPrefix};
 
 impl RowKey {
+    /// The key of a row.
     pub fn of<R: Prefixed>(row: &R) -> RowKey
         ensures key { result ≡ record { node = R.node_of row.now; prefix = R.prefix_of row.now } }
         ensures form { IsPrefix (R.prefix_of row.now) }

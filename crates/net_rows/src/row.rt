@@ -5,6 +5,9 @@ use crate::lists::{Links, Nodes};
 use crate::prefixed::Prefixed;
 use card_digits::{Amount, DateLabel, Id, LinkNo, Name, NodeNo, Prefix, ShortBytes};
 
+/// The most ticks that a request waits on a link or for the host, and that pass before an advice is sent again (our format of tables).
+pub const MOST_TICKS: u16 = 4_000;
+
 /// What holds for the whole network.
 #[derive(Clone, Copy, Debug)]
 pub struct Settings {

@@ -34,6 +34,7 @@ impl<R: Prefixed> Model for Rows<R> {
 }
 
 impl<R: Prefixed + Drop> Rows<R> {
+    /// The rows in their order, with a trie of places for each node that has some.
     pub fn new(alloc: Global, rows: Vec<R>) -> Result<Rows<R>, AllocError>
         ensures { IfOk result (λ r. r ≡ rows.items) }
     {
@@ -41,6 +42,7 @@ impl<R: Prefixed + Drop> Rows<R> {
         Ok(Rows { rows, tries })
     }
 
+    /// The rows in the order of the text.
     pub fn as_slice(&self) -> &[R]
         ensures { result.now ≡ self.now }
     {

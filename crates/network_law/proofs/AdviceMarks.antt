@@ -6,7 +6,7 @@ use Rattle.std.specs.Option.{option_or, option_and_then}
 use Rattle.std.specs.List.{list_any}
 use Rattle.net_rows.specs.Network.{Network}
 use Rattle.network_law.specs.Tables.{node_id}
-use Rattle.network_law.specs.Traces.{Source, Gate, ByLink, ReadInput, Enter, Take, LinkUp, LinkDown, Tick, HostAnswer, NewDate, TakePacket, Lend, ReadOutput, Put, Post, In, Out, History, Handled, handled, Opening, opening, answer, answers, sent, has_00, is_00_of, brings_00, own_approval, Advice, advices, add_advice, add_made, acked_by, has_identity, late_key, failed_key, is_ok_ack, is_advice_group, is_ack_kind, as_kept, count_of, IsIn}
+use Rattle.network_law.specs.Traces.{Source, Gate, ByLink, ReadInput, Enter, Take, LinkUp, LinkDown, Tick, HostAnswer, NewDate, TakePacket, Lend, ReadOutput, Put, Post, In, Out, History, Handled, handled, Opening, opening, answer, answers, sent, has_00, is_00_of, brings_00, own_approval, Advice, advices, add_advice, add_made, acked_by, has_identity, late_key, failed_key, is_ok_ack, is_ack_kind, as_kept, count_of, IsIn}
 use Rattle.network_law.specs.Decision.{sent_kind}
 use Rattle.network_law.proofs.Emits.{handled_as, is_kept_group}
 use Rattle.network_law.proofs.Node.{NodeFacts, answer_is, answers_is, response_is_of_kind, answer_no_request, OpensNow, opening_in_cases}
@@ -21,7 +21,7 @@ use Rattle.message_keys.specs.declared.keys.AdviceKind.TheVariants.{StandIn, Rev
 use Rattle.iso_message.specs.Fields.{Fields, get, el, as_kind, set_element, remove_element}
 use Rattle.message_elements.specs.declared.kind.Kind.{Kind}
 use Rattle.message_elements.specs.declared.kind.Group.{Group}
-use Rattle.message_elements.specs.Groups.{group, is_request, is_answer, is_04xx, response_kind}
+use Rattle.message_elements.specs.Groups.{group, is_request, is_answer, is_04xx, response_kind, is_advice_group}
 use Rattle.message_elements.specs.declared.kind.Kind.TheVariants.{K0100, K0101, K0110, K0120, K0121, K0130, K0400, K0401, K0410, K0420, K0421, K0430}
 use Rattle.card_digits.specs.declared.key.Key.{Key}
 use Rattle.message_keys.specs.Keys.{advice_kind, key_of, key_eq, own_key, identity_of, padded_or_zeros, content, code_of}

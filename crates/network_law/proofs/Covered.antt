@@ -7,7 +7,7 @@ use Rattle.card_digits.specs.Numbers.{pad11}
 use Rattle.net_rows.specs.Network.{Network, issuer, other_end}
 use Rattle.net_rows.specs.declared.row.Issuer.{Issuer}
 use Rattle.network_law.specs.Tables.{node_id, is_attached}
-use Rattle.network_law.specs.Traces.{ReadInput, Put, In, Out, History, Opening, opening, Advice, advices, stored, is_at_home, home_is, is_advice_group, IsIn, Has}
+use Rattle.network_law.specs.Traces.{ReadInput, Put, In, Out, History, Opening, opening, Advice, advices, stored, is_at_home, home_is, IsIn, Has}
 use Rattle.network_law.specs.Entries.{ReadEntry, read_history}
 use Rattle.network_law.proofs.ReadRuns.{IsReadRun}
 use Rattle.network_law.specs.Checked.{Ranks, IsRanked, IsChecked}
@@ -23,7 +23,7 @@ use Rattle.network_law.proofs.Posts.{legal_acc, post_has, post_counted, put_is_s
 use Rattle.network_law.proofs.AdviceMarks.{Acc, posts}
 use Rattle.network_law.proofs.Origins.{Made, TakenAs, Entered, AdviceFacts, legal_advices}
 use Rattle.iso_message.specs.Fields.{Fields}
-use Rattle.message_elements.specs.Groups.{group, is_04xx}
+use Rattle.message_elements.specs.Groups.{group, is_04xx, is_advice_group}
 use Rattle.card_digits.specs.declared.key.Key.{Key}
 use Rattle.message_keys.specs.declared.keys.AdviceId.{AdviceId}
 use Rattle.message_keys.specs.Keys.{identity_of, content}

@@ -11,7 +11,7 @@ use Rattle.message_elements.specs.declared.kind.Group.TheVariants as groups
 use Rattle.message_keys.specs.declared.keys.AdviceId.{AdviceId}
 use Rattle.message_keys.specs.Amounts.{number_in, actual_amount}
 use Rattle.iso_message.specs.Fields.{Fields, el, get, has, remove_element, set_element}
-use Rattle.message_elements.specs.Groups.{group, is_request, is_answer, is_reversal, is_04xx}
+use Rattle.message_elements.specs.Groups.{group, is_request, is_answer, is_reversal, is_04xx, is_advice_group}
 use Rattle.message_keys.specs.Keys.{key_of, key_eq, own_key, part, content, identity_of, code_of}
 use Rattle.message_elements.specs.Codes.{code_00, code_68, code_94}
 use Rattle.iso_message.specs.Made.{response, made_reversal, made_stand_in}
@@ -21,7 +21,7 @@ use Rattle.net_rows.specs.Network.{Network}
 use Rattle.network_law.specs.declared.fault.StepFault.TheVariants.{TypeNotForGate, Missing, ForeignAcquirer, Replacement}
 use Rattle.network_law.specs.Cards.{Bytes}
 use Rattle.network_law.specs.Tables.{node_id, is_attached}
-use Rattle.network_law.specs.Traces.{Source, ReadInput, Enter, Take, LinkUp, LinkDown, Tick, HostAnswer, NewDate, TakePacket, Lend, ReadOutput, Event, In, Out, History, Handled, handled, Opening, opening, answer, answers, sent, pending, fails, Approval, approval_by, approval_of, approvals, own_approval, Advice, advices, add_advice, add_made, add_accepted, acked_by, has_identity, reverses_key, reversed, left, known, late_key, failed_key, is_ok_ack, is_advice_group, as_kept, is_timer, count_of, date_of, dated, IsIn}
+use Rattle.network_law.specs.Traces.{Source, ReadInput, Enter, Take, LinkUp, LinkDown, Tick, HostAnswer, NewDate, TakePacket, Lend, ReadOutput, Event, In, Out, History, Handled, handled, Opening, opening, answer, answers, sent, pending, fails, Approval, approval_by, approval_of, approvals, own_approval, Advice, advices, add_advice, add_made, add_accepted, acked_by, has_identity, reverses_key, reversed, left, known, late_key, failed_key, is_ok_ack, as_kept, is_timer, count_of, date_of, dated, IsIn}
 use Rattle.network_law.specs.Decision.{decide, reply, reply_output, answer_pending, on_handled, on_request}
 use Rattle.network_law.specs.Refusals.{refusal, when, entered_kind, taken_kind, required_entered, required_taken, missing, strange_actual, is_above}
 use Rattle.network_law.specs.Entries.{ReadEntry, read_history}

@@ -8,7 +8,7 @@ use Rattle.card_digits.specs.Numbers.{pad11}
 use Rattle.net_rows.specs.Network.{Network, issuer}
 use Rattle.net_rows.specs.declared.row.Issuer.{Issuer}
 use Rattle.network_law.specs.Tables.{is_home, node_id, route_links, is_attached}
-use Rattle.network_law.specs.Traces.{Source, ReadInput, Enter, Take, LinkUp, LinkDown, Tick, HostAnswer, NewDate, TakePacket, Lend, ReadOutput, Put, In, Out, Event, History, Handled, handled, Opening, opening, sent, own_approval, Advice, advices, add_advice, add_made, add_accepted, acked_by, is_ack, is_ack_of, has_identity, late_key, failed_key, is_ok_ack, is_advice_group, is_ack_kind, as_kept, dated, date_of, count_of, forwarded, is_up, IsIn, Has}
+use Rattle.network_law.specs.Traces.{Source, ReadInput, Enter, Take, LinkUp, LinkDown, Tick, HostAnswer, NewDate, TakePacket, Lend, ReadOutput, Put, In, Out, Event, History, Handled, handled, Opening, opening, sent, own_approval, Advice, advices, add_advice, add_made, add_accepted, acked_by, is_ack, is_ack_of, has_identity, late_key, failed_key, is_ok_ack, is_ack_kind, as_kept, dated, date_of, count_of, forwarded, is_up, IsIn, Has}
 use Rattle.network_law.specs.Decision.{decide, reply_output, sent_kind, own_way, standin_code}
 use Rattle.network_law.proofs.Refused.{EnteredFacts, entered_facts}
 use Rattle.network_law.specs.Refusals.{refusal, entered_kind}
@@ -31,7 +31,7 @@ use Rattle.iso_message.proofs.Changes.{get_set, get_set_same, get_remove_same, f
 use Rattle.iso_message.specs.Fields.{Fields, get, set_element, remove_element, as_kind}
 use Rattle.message_elements.specs.declared.kind.Kind.{Kind}
 use Rattle.message_elements.specs.declared.kind.Group.{Group}
-use Rattle.message_elements.specs.Groups.{group, is_request, is_reversal, is_04xx, response_kind}
+use Rattle.message_elements.specs.Groups.{group, is_request, is_reversal, is_04xx, response_kind, is_advice_group}
 use Rattle.message_elements.specs.declared.kind.Kind.TheVariants.{K0100, K0101, K0110, K0120, K0121, K0130, K0400, K0401, K0410, K0420, K0421, K0430}
 use Rattle.card_digits.specs.declared.key.Key.{Key}
 use Rattle.message_keys.specs.Keys.{advice_kind, key_of, own_key, original_key, identity_of, padded_or_zeros, content, code_of}

@@ -8,13 +8,13 @@ use Rattle.std.specs.Option.{option_and_then}
 use Rattle.std.specs.List.{list_any, count_by}
 use Rattle.card_digits.specs.declared.key.Key.{Key}
 use Rattle.iso_message.specs.Fields.{Fields}
-use Rattle.message_elements.specs.Groups.{group}
+use Rattle.message_elements.specs.Groups.{group, is_advice_group}
 use Rattle.message_keys.specs.Keys.{key_of, identity_of, identity_eq}
 use Rattle.iso_message.specs.Made.{made_reversal, made_stand_in}
 use Rattle.message_keys.specs.declared.keys.AdviceId.{AdviceId}
 use Rattle.net_rows.specs.Network.{Network}
 use Rattle.network_law.specs.Tables.{node_id}
-use Rattle.network_law.specs.Traces.{ReadInput, ReadOutput, Put, Answer, Ask, Post, PutPacket, Event, In, Out, History, IsIn, Has, Handled, handled, Opening, opening, opened, sent, has_00, is_00_of, brings_00, key_of_00, own_approval, Approval, approval_by, approval_of, approvals, Advice, advices, add_advice, add_made, add_accepted, acked_by, has_identity, late_key, failed_key, is_ok_ack, is_advice_group, as_kept, known, is_at_home, stored, pending, load, was_put, is_put_of, count_of}
+use Rattle.network_law.specs.Traces.{ReadInput, ReadOutput, Put, Answer, Ask, Post, PutPacket, Event, In, Out, History, IsIn, Has, Handled, handled, Opening, opening, opened, sent, has_00, is_00_of, brings_00, key_of_00, own_approval, Approval, approval_by, approval_of, approvals, Advice, advices, add_advice, add_made, add_accepted, acked_by, has_identity, late_key, failed_key, is_ok_ack, as_kept, known, is_at_home, stored, pending, load, was_put, is_put_of, count_of}
 use Rattle.network_law.specs.Plain.{said_in, said, openings, opened_key}
 use Rattle.network_law.specs.PlainAdvices.{Has00BySaid, FirstOwn, ApprovedByFirst, FirstApproves, is_made, is_accepted, KnownAfterInput, KnownAfterOutput, AdvicesOnce, KnownHasAdvice, AdviceIsKnown, ReversedHasAdvice, AdviceReverses, StoredAreAdvices, AdvicesAreStored, WasPutHasPut, PutWasPut, LoadIsSum}
 use Rattle.network_law.proofs.Emits.{in_filter, filtered_in, in_reverse}

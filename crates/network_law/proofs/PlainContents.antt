@@ -7,7 +7,7 @@ use Rattle.std.specs.Option.{option_and_then, option_map, option_or}
 use Rattle.std.specs.List.{list_any}
 use Rattle.card_digits.specs.declared.key.Key.{Key}
 use Rattle.iso_message.specs.Fields.{Fields}
-use Rattle.message_elements.specs.Groups.{group}
+use Rattle.message_elements.specs.Groups.{group, is_advice_group}
 use Rattle.message_keys.specs.Keys.{key_of, key_eq, identity_of, identity_eq, code_of}
 use Rattle.message_elements.specs.Codes.{code_00}
 use Rattle.iso_message.specs.Made.{made_reversal, made_stand_in}
@@ -15,7 +15,7 @@ use Rattle.message_keys.specs.declared.keys.AdviceId.{AdviceId}
 use Rattle.message_keys.proofs.Equality.{identity_eq_is, key_eq_is, key_eq_refl}
 use Rattle.net_rows.specs.Network.{Network}
 use Rattle.network_law.specs.Tables.{node_id}
-use Rattle.network_law.specs.Traces.{ReadInput, Enter, Take, LinkUp, LinkDown, Tick, HostAnswer, NewDate, TakePacket, Lend, ReadOutput, Put, Answer, Ask, Post, PutPacket, Event, In, Out, History, count_of, Handled, handled, Opening, opening, asks, asked, sent, has_00, is_00_of, own_approval, Approval, approval_by, approval_of, approvals, Advice, advices, add_advice, add_made, add_accepted, acked_by, has_identity, is_ack, late_key, failed_key, is_ok_ack, is_advice_group, as_kept, known}
+use Rattle.network_law.specs.Traces.{ReadInput, Enter, Take, LinkUp, LinkDown, Tick, HostAnswer, NewDate, TakePacket, Lend, ReadOutput, Put, Answer, Ask, Post, PutPacket, Event, In, Out, History, count_of, Handled, handled, Opening, opening, asks, asked, sent, has_00, is_00_of, own_approval, Approval, approval_by, approval_of, approvals, Advice, advices, add_advice, add_made, add_accepted, acked_by, has_identity, is_ack, late_key, failed_key, is_ok_ack, as_kept, known}
 use Rattle.network_law.specs.Plain.{inputs, Asked, asked_in, all_asked}
 use Rattle.network_law.specs.PlainContents.{AskedByAsks, OpenedInOrder, ApprovalsOnce, made_of, accepted_of, all_advices, as_stored, AdviceIsFirst, acks, AckedAfterStoring}
 use Rattle.network_law.proofs.Used.{own_now}

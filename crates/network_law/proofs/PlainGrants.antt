@@ -8,14 +8,14 @@ use Rattle.std.specs.Option.{option_or, option_and_then}
 use Rattle.std.specs.List.{list_any}
 use Rattle.card_digits.specs.Numbers.{pad11}
 use Rattle.iso_message.specs.Fields.{Fields}
-use Rattle.message_elements.specs.Groups.{group}
+use Rattle.message_elements.specs.Groups.{group, is_advice_group}
 use Rattle.iso_message.specs.Made.{made_reversal, made_stand_in}
 use Rattle.net_rows.specs.Network.{Network}
 use Rattle.network_law.specs.Cards.{Bytes}
 use Rattle.network_law.specs.Tables.{node_id}
 use Rattle.network_law.specs.declared.grant.Grant.{Grant}
 use Rattle.network_law.specs.declared.grant.GrantPacket.TheVariants as packets
-use Rattle.network_law.specs.Traces.{ReadInput, Enter, Take, LinkUp, LinkDown, Tick, HostAnswer, NewDate, TakePacket, Lend, Event, In, Out, History, count_of, Handled, handled, Opening, opening, sent, own_approval, Advice, advices, acked_by, add_advice, add_made, add_accepted, late_key, failed_key, is_ok_ack, is_advice_group, is_at_home, stored, Lent, lent_acked, grants, stored_grants, has_number, taken, borrowed, lent}
+use Rattle.network_law.specs.Traces.{ReadInput, Enter, Take, LinkUp, LinkDown, Tick, HostAnswer, NewDate, TakePacket, Lend, Event, In, Out, History, count_of, Handled, handled, Opening, opening, sent, own_approval, Advice, advices, acked_by, add_advice, add_made, add_accepted, late_key, failed_key, is_ok_ack, is_at_home, stored, Lent, lent_acked, grants, stored_grants, has_number, taken, borrowed, lent}
 use Rattle.network_law.specs.Decision.{Due, DueAdvice, DueGrant, grants_made_after, in_order, is_due_again, is_sent_again, due}
 use Rattle.network_law.specs.PlainGrants.{Lending, lends, numbered, GrantsAreLends, takes, TakenByFirst, TakenOnce, RepeatsAddNothing, NewAdds, BorrowedIsSum, LentIsSum, grants_of, advices_of, StoredGrantsAreDue, StoredAdvicesAreDue}
 use Rattle.message_keys.proofs.Equality.{bytes_eq_is}

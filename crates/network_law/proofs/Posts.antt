@@ -8,7 +8,7 @@ use Rattle.net_rows.specs.declared.row.Issuer.{Issuer}
 use Rattle.network_law.specs.Tables.{is_home, node_id, route_links, single, links_between}
 use Rattle.network_law.specs.declared.grant.GrantPacket.{GrantPacket}
 use Rattle.network_law.specs.declared.grant.GrantPacket.TheVariants as packets
-use Rattle.network_law.specs.Traces.{Source, Gate, ByLink, ReadInput, Enter, Take, LinkUp, LinkDown, Tick, HostAnswer, NewDate, TakePacket, Lend, ReadOutput, Put, Answer, Ask, Post, PutPacket, In, Out, History, Handled, handled, Opening, opening, opened, with_new, key_handled, answer, answers, sent, has_00, is_00_of, brings_00, own_approval, Advice, advices, add_advice, add_made, add_accepted, acked_by, has_identity, late_key, comes_late, code_is_not_00, failed_key, is_ok_ack, is_advice_group, is_ack_kind, as_kept, is_timer, is_link, forwarded, forwards, pending, fails, count_of, known, reversed, is_at_home, ask_key, ask_count, put_count, Lent, grants, load, was_put, is_up, IsIn, Has}
+use Rattle.network_law.specs.Traces.{Source, Gate, ByLink, ReadInput, Enter, Take, LinkUp, LinkDown, Tick, HostAnswer, NewDate, TakePacket, Lend, ReadOutput, Put, Answer, Ask, Post, PutPacket, In, Out, History, Handled, handled, Opening, opening, opened, with_new, key_handled, answer, answers, sent, has_00, is_00_of, brings_00, own_approval, Advice, advices, add_advice, add_made, add_accepted, acked_by, has_identity, late_key, comes_late, code_is_not_00, failed_key, is_ok_ack, is_ack_kind, as_kept, is_timer, is_link, forwarded, forwards, pending, fails, count_of, known, reversed, is_at_home, ask_key, ask_count, put_count, Lent, grants, load, was_put, is_up, IsIn, Has}
 use Rattle.network_law.specs.Decision.{decide, reply, reply_output, next_put, emit, sent_kind, keep, send, send_by, own_way, standin, standin_code, fail, fail_all, failing, send_all, Due, DueAdvice, DueGrant, due, send_grant, send_grant_by, send_newest, on_request, on_issuer, on_forward, on_repeat, on_reversal, on_advice, on_answer, on_host, on_code, as_code, on_group, answer_pending, other_content, first_up, same_source}
 use Rattle.network_law.specs.Entries.{ReadEntry, read_history}
 use Rattle.network_law.proofs.ReadRuns.{IsFormed, HasLengths, IsLegalRead}
@@ -24,7 +24,7 @@ use Rattle.network_law.specs.Cards.{Bytes, is_good_card, card_of}
 use Rattle.message_keys.specs.declared.keys.AdviceKind.TheVariants.{StandIn, Reversal}
 use Rattle.iso_message.specs.Fields.{Fields, get, el, as_kind, set_element, remove_element}
 use Rattle.message_elements.specs.declared.kind.Group.{Group}
-use Rattle.message_elements.specs.Groups.{group, is_request, is_answer, is_04xx}
+use Rattle.message_elements.specs.Groups.{group, is_request, is_answer, is_04xx, is_advice_group}
 use Rattle.message_elements.specs.declared.kind.Kind.TheVariants.{K0100}
 use Rattle.card_digits.specs.declared.key.Key.{Key}
 use Rattle.message_keys.specs.Keys.{key_of, identity_of, identity_eq, content, content_eq, code_of}

@@ -7,7 +7,7 @@ use Rattle.std.specs.List.{list_any}
 use Rattle.net_rows.specs.Network.{Network, issuer}
 use Rattle.net_rows.specs.declared.row.Issuer.{Issuer}
 use Rattle.network_law.specs.Tables.{is_home, node_id, route_links, is_attached}
-use Rattle.network_law.specs.Traces.{Source, ReadInput, Enter, Take, LinkUp, LinkDown, Tick, HostAnswer, NewDate, TakePacket, Lend, ReadOutput, Put, In, Out, History, Handled, handled, Opening, opening, sent, own_approval, Advice, advices, add_advice, add_made, add_accepted, acked_by, has_identity, reverses_key, late_key, comes_late, failed_key, is_ok_ack, is_advice_group, is_ack_kind, as_kept, ask_key, asked, is_timer, is_link, forwarded, forwards, count_of, known, reversed, dated, date_of, ticks_by, IsIn, Has}
+use Rattle.network_law.specs.Traces.{Source, ReadInput, Enter, Take, LinkUp, LinkDown, Tick, HostAnswer, NewDate, TakePacket, Lend, ReadOutput, Put, In, Out, History, Handled, handled, Opening, opening, sent, own_approval, Advice, advices, add_advice, add_made, add_accepted, acked_by, has_identity, reverses_key, late_key, comes_late, failed_key, is_ok_ack, is_ack_kind, as_kept, ask_key, asked, is_timer, is_link, forwarded, forwards, count_of, known, reversed, dated, date_of, ticks_by, IsIn, Has}
 use Rattle.network_law.specs.Decision.{reply_output, sent_kind, other_content}
 use Rattle.network_law.proofs.Refused.{EnteredFacts, entered_facts, IsWhole}
 use Rattle.network_law.specs.Refusals.{refusal, strange_original}
@@ -22,7 +22,7 @@ use Rattle.network_law.proofs.Late.{kept_reversal, handled_in, handled_out}
 use Rattle.network_law.specs.Cards.{Bytes, card_of}
 use Rattle.iso_message.specs.Fields.{Fields, el, as_kind, remove_element, get, set_element}
 use Rattle.message_elements.specs.declared.kind.Kind.{Kind}
-use Rattle.message_elements.specs.Groups.{group, is_request, is_answer, is_reversal, is_04xx, response_kind}
+use Rattle.message_elements.specs.Groups.{group, is_request, is_answer, is_reversal, is_04xx, response_kind, is_advice_group}
 use Rattle.message_elements.specs.declared.kind.Kind.TheVariants.{K0100, K0101, K0110, K0120, K0121, K0130, K0400, K0401, K0410, K0420, K0421, K0430}
 use Rattle.card_digits.specs.declared.key.Key.{Key}
 use Rattle.message_keys.specs.Keys.{key_of, key_eq, own_key, original_key, part, identity_of, content, Content, content_eq, code_of}

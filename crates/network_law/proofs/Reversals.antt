@@ -6,7 +6,7 @@ use Rattle.std.specs.Option.{option_and_then}
 use Rattle.net_rows.specs.Network.{Network, issuer, other_end}
 use Rattle.net_rows.specs.declared.row.Issuer.{Issuer}
 use Rattle.network_law.specs.Tables.{is_home, node_id, route_links, is_attached}
-use Rattle.network_law.specs.Traces.{Source, ByLink, ReadInput, Take, ReadOutput, Put, In, Out, History, Handled, handled, Opening, opening, sent, own_approval, advices, add_made, reverses_key, failed_key, is_ok_ack, is_advice_group, as_kept, is_timer, forwarded, forwards, pending, count_of, reversed, home_is, is_up, IsIn, Has}
+use Rattle.network_law.specs.Traces.{Source, ByLink, ReadInput, Take, ReadOutput, Put, In, Out, History, Handled, handled, Opening, opening, sent, own_approval, advices, add_made, reverses_key, failed_key, is_ok_ack, as_kept, is_timer, forwarded, forwards, pending, count_of, reversed, home_is, is_up, IsIn, Has}
 use Rattle.network_law.specs.Decision.{decide, reply_output, sent_kind, standin_code, own_way, first_up, same_source}
 use Rattle.network_law.specs.Refusals.{refusal}
 use Rattle.network_law.specs.Entries.{ReadEntry, read_history}
@@ -25,7 +25,7 @@ use Rattle.network_law.proofs.Late.{kept_reversal, handled_in, handled_out}
 use Rattle.network_law.specs.Cards.{Bytes, card_of}
 use Rattle.iso_message.specs.Fields.{Fields, as_kind}
 use Rattle.message_elements.specs.declared.kind.Kind.{Kind}
-use Rattle.message_elements.specs.Groups.{group, is_answer, is_reversal, is_04xx, response_kind}
+use Rattle.message_elements.specs.Groups.{group, is_answer, is_reversal, is_04xx, response_kind, is_advice_group}
 use Rattle.message_elements.specs.declared.kind.Kind.TheVariants.{K0100, K0101, K0110, K0120, K0121, K0130, K0400, K0401, K0410, K0420, K0421, K0430}
 use Rattle.card_digits.specs.declared.key.Key.{Key}
 use Rattle.message_keys.specs.Keys.{key_of, key_eq, content, content_eq}

@@ -6,14 +6,14 @@ use Rattle.std.proofs.Common.{append_assoc}
 use mathlib.Core.List.{reverse-cons}
 use Rattle.std.specs.Option.{option_and_then}
 use Rattle.iso_message.specs.Fields.{Fields}
-use Rattle.message_elements.specs.Groups.{group}
+use Rattle.message_elements.specs.Groups.{group, is_advice_group}
 use Rattle.iso_message.specs.Made.{made_reversal, made_stand_in}
 use Rattle.card_digits.specs.Numbers.{pad11}
 use Rattle.net_rows.specs.Network.{Network}
 use Rattle.network_law.specs.declared.grant.GrantPacket.TheVariants as packets
 use Rattle.network_law.specs.Cards.{Bytes}
 use Rattle.network_law.specs.Tables.{node_id}
-use Rattle.network_law.specs.Traces.{ReadInput, Enter, Take, LinkUp, LinkDown, Tick, HostAnswer, NewDate, TakePacket, Lend, ReadOutput, Event, In, Out, History, count_of, Handled, handled, Opening, opening, sent, own_approval, Advice, advices, acked_by, add_advice, add_made, add_accepted, late_key, failed_key, is_ok_ack, is_advice_group, Lent, lent_acked, grants}
+use Rattle.network_law.specs.Traces.{ReadInput, Enter, Take, LinkUp, LinkDown, Tick, HostAnswer, NewDate, TakePacket, Lend, ReadOutput, Event, In, Out, History, count_of, Handled, handled, Opening, opening, sent, own_approval, Advice, advices, acked_by, add_advice, add_made, add_accepted, late_key, failed_key, is_ok_ack, Lent, lent_acked, grants}
 use Rattle.network_law.specs.Decision.{DueAdvice, DueGrant, grants_made_after, in_order, is_sent_again, due}
 use Rattle.network_law.specs.PlainGrants.{StoredName, advice_name, grant_name, name_of, newer, storings, IsInOrderOf, DueInStoredOrder}
 use Rattle.network_law.proofs.Plain.{map_append}

@@ -10,7 +10,7 @@ use Rattle.net_rows.specs.Network.{Network, issuer, day, stand_in}
 use Rattle.network_law.proofs.Lending.{LentMore, lent_in, borrowed_in, BorrowsNamed, borrows_in, borrowed_some}
 use Rattle.net_rows.specs.declared.row.Issuer.{Issuer}
 use Rattle.network_law.specs.Tables.{node_id, single, is_named}
-use Rattle.network_law.specs.Traces.{Source, Gate, ByLink, ReadInput, Enter, Take, LinkUp, LinkDown, Tick, HostAnswer, NewDate, TakePacket, Lend, ReadOutput, Put, Answer, Ask, Post, Event, In, Out, History, Opening, opening, answer, answers, sent, has_00, is_00_of, brings_00, key_of_00, own_in, own_approval, Approval, approval_by, approval_of, approvals, Advice, advices, add_advice, add_made, add_accepted, acked_by, has_identity, reverses_key, reversed, left_by, left_of, left, counted, added, used, lent, grants, borrowed, taken, allowance, ask_key, key_asked, is_key, is_advice_group, count_of, late_key, failed_key, is_ok_ack, handled, IsIn}
+use Rattle.network_law.specs.Traces.{Source, Gate, ByLink, ReadInput, Enter, Take, LinkUp, LinkDown, Tick, HostAnswer, NewDate, TakePacket, Lend, ReadOutput, Put, Answer, Ask, Post, Event, In, Out, History, Opening, opening, answer, answers, sent, has_00, is_00_of, brings_00, key_of_00, own_in, own_approval, Approval, approval_by, approval_of, approvals, Advice, advices, add_advice, add_made, add_accepted, acked_by, has_identity, reverses_key, reversed, left_by, left_of, left, counted, added, used, lent, grants, borrowed, taken, allowance, ask_key, key_asked, is_key, count_of, late_key, failed_key, is_ok_ack, handled, IsIn}
 use Rattle.network_law.specs.Decision.{decide, reply_output, sent_kind, standin_code, limit, code_by_limits}
 use Rattle.network_law.specs.Refusals.{refusal}
 use Rattle.network_law.specs.Entries.{ReadEntry, read_history}
@@ -27,7 +27,7 @@ use Rattle.message_keys.specs.Amounts.{actual_amount}
 use Rattle.iso_message.specs.Fields.{Fields, el, as_kind}
 use Rattle.message_elements.specs.declared.kind.Kind.{Kind}
 use Rattle.message_elements.specs.declared.kind.Kind.TheVariants.{K0100, K0110, K0120, K0121, K0130, K0400, K0401, K0410, K0420, K0421, K0430, K0101}
-use Rattle.message_elements.specs.Groups.{group, is_request, is_answer, is_04xx, response_kind}
+use Rattle.message_elements.specs.Groups.{group, is_request, is_answer, is_04xx, response_kind, is_advice_group}
 use Rattle.card_digits.specs.declared.key.Key.{Key}
 use Rattle.message_keys.specs.Keys.{key_of, key_eq, code_of}
 use Rattle.message_elements.specs.Codes.{code_00, code_57, code_61, code_94}

@@ -224,7 +224,7 @@ module _ (t : Network) (n : ℕ) (date : IsDateLabel t.settings.date) (id : IsId
   advices_written (Out i o ∷ h) a w m = ⊎_elim accepted (λ m1. ⊎_elim stood (λ m2. ⊎_elim failed (λ old. advices_written h a w.1 old) (in_made a (λ x. made_reversal x (node_id t n)) (count_of h) (option_and_then (opening t h) (failed_key t h i (sent o))) (advices t n h) m2)) (in_made a (λ x. made_stand_in x (node_id t n)) (count_of h) (option_and_then (opening t h) (own_approval h i o)) (add_made (λ x. made_reversal x (node_id t n)) (count_of h) (option_and_then (opening t h) (failed_key t h i (sent o))) (advices t n h)) m1))
       (in_accepted a (count_of h) (is_ok_ack (sent o)) (handled t h i) (add_made (λ x. made_stand_in x (node_id t n)) (count_of h) (option_and_then (opening t h) (own_approval h i o)) (add_made (λ x. made_reversal x (node_id t n)) (count_of h) (option_and_then (opening t h) (failed_key t h i (sent o))) (advices t n h))) m)
     where
-      accepted : (x : Handled) × (is_ok_ack (sent o) ≡ true) × (handled t h i ≡ Some x) × (Rattle.network_law.specs.Traces.is_advice_group (group x.message.kind) ≡ true) × (a.message ≡ as_kept x.message) × (a.own ≡ false) → IsMessage a.message
+      accepted : (x : Handled) × (is_ok_ack (sent o) ≡ true) × (handled t h i ≡ Some x) × (Rattle.message_elements.specs.Groups.is_advice_group (group x.message.kind) ≡ true) × (a.message ≡ as_kept x.message) × (a.own ≡ false) → IsMessage a.message
       accepted p = subst IsMessage (sym p.4) (kind_is _ p.0.message (handled_written h i p.0 w.1 w.0.0 p.2).0)
 
       stood : (op : Opening) × (option_and_then (opening t h) (own_approval h i o) ≡ Some op) × (a.message ≡ made_stand_in op.message (node_id t n)) → IsMessage a.message

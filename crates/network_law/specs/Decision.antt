@@ -7,13 +7,13 @@ use Rattle.net_rows.specs.declared.row.Issuer.{Issuer}
 use Rattle.network_law.specs.Tables.{is_home, node_id, route_links, single, links_between}
 use Rattle.network_law.specs.declared.grant.GrantPacket.{GrantPacket}
 use Rattle.network_law.specs.declared.grant.GrantPacket.TheVariants as packets
-use Rattle.network_law.specs.Traces.{Source, Gate, ByLink, ReadInput, Enter, Take, LinkUp, LinkDown, Tick, HostAnswer, NewDate, TakePacket, Lend, ReadOutput, Put, Answer, Ask, Post, PutPacket, Event, In, Out, History, count_of, is_up, put_count, ask_count, ask_key, Handled, handled, Opening, opening, opened, answer, pending, forwarded, fails, Advice, advices, known, reversed, Lent, grants, taken, load, was_put, used, borrowed, lent, allowance, as_kept, is_at_home, comes_late, is_link, is_advice_group}
+use Rattle.network_law.specs.Traces.{Source, Gate, ByLink, ReadInput, Enter, Take, LinkUp, LinkDown, Tick, HostAnswer, NewDate, TakePacket, Lend, ReadOutput, Put, Answer, Ask, Post, PutPacket, Event, In, Out, History, count_of, is_up, put_count, ask_count, ask_key, Handled, handled, Opening, opening, opened, answer, pending, forwarded, fails, Advice, advices, known, reversed, Lent, grants, taken, load, was_put, used, borrowed, lent, allowance, as_kept, is_at_home, comes_late, is_link}
 use Rattle.network_law.specs.Cards.{label_of, Bytes, is_good_card, card_of}
 use Rattle.iso_message.specs.Fields.{Fields, el, get, as_kind, set_element, remove_element}
 use Rattle.message_elements.specs.declared.kind.Kind.{Kind}
 use Rattle.message_elements.specs.declared.kind.Kind.TheVariants.{K0100, K0120, K0121, K0420, K0421}
 use Rattle.message_elements.specs.declared.kind.Group.{Group}
-use Rattle.message_elements.specs.Groups.{group, is_reversal, is_04xx}
+use Rattle.message_elements.specs.Groups.{group, is_reversal, is_04xx, is_advice_group}
 use Rattle.card_digits.specs.declared.key.Key.{Key}
 use Rattle.message_keys.specs.Keys.{key_of, own_key, content, content_eq, identity_of, original_key, code_of}
 use Rattle.message_elements.specs.Codes.{code_00, code_05, code_14, code_57, code_61, code_68, code_91, code_92, code_94, code_96}

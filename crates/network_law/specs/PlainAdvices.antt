@@ -4,13 +4,13 @@ use Rattle.std.specs.Option.{option_and_then, option_map_or}
 use Rattle.std.specs.List.{list_any}
 use Rattle.card_digits.specs.declared.key.Key.{Key}
 use Rattle.iso_message.specs.Fields.{Fields}
-use Rattle.message_elements.specs.Groups.{group, is_04xx}
+use Rattle.message_elements.specs.Groups.{group, is_04xx, is_advice_group}
 use Rattle.message_keys.specs.Keys.{key_of, identity_of, identity_eq}
 use Rattle.iso_message.specs.Made.{made_reversal, made_stand_in}
 use Rattle.message_keys.specs.declared.keys.AdviceId.{AdviceId}
 use Rattle.net_rows.specs.Network.{Network}
 use Rattle.network_law.specs.Tables.{node_id}
-use Rattle.network_law.specs.Traces.{ReadInput, ReadOutput, Put, In, Out, History, IsIn, Has, Handled, handled, Opening, opening, sent, has_00, is_00_of, brings_00, own_approval, Approval, approvals, Advice, advices, has_identity, late_key, failed_key, is_ok_ack, is_advice_group, as_kept, known, reversed, is_at_home, stored, stored_grants, pending, load, was_put}
+use Rattle.network_law.specs.Traces.{ReadInput, ReadOutput, Put, In, Out, History, IsIn, Has, Handled, handled, Opening, opening, sent, has_00, is_00_of, brings_00, own_approval, Approval, approvals, Advice, advices, has_identity, late_key, failed_key, is_ok_ack, as_kept, known, reversed, is_at_home, stored, stored_grants, pending, load, was_put}
 use Rattle.network_law.specs.Plain.{said, openings, opened_key}
 
 -- own approvals

@@ -4,14 +4,14 @@ use Rattle.std.specs.Option.{option_and_then, option_map}
 use Rattle.std.specs.List.{list_any}
 use Rattle.card_digits.specs.declared.key.Key.{Key}
 use Rattle.iso_message.specs.Fields.{Fields}
-use Rattle.message_elements.specs.Groups.{group}
+use Rattle.message_elements.specs.Groups.{group, is_advice_group}
 use Rattle.message_keys.specs.Keys.{key_of, key_eq, identity_of, identity_eq, code_of}
 use Rattle.message_elements.specs.Codes.{code_00}
 use Rattle.iso_message.specs.Made.{made_reversal, made_stand_in}
 use Rattle.message_keys.specs.declared.keys.AdviceId.{AdviceId}
 use Rattle.net_rows.specs.Network.{Network}
 use Rattle.network_law.specs.Tables.{node_id}
-use Rattle.network_law.specs.Traces.{ReadInput, Take, Event, In, Out, History, count_of, Handled, handled, Opening, opening, opened, asked, sent, own_approval, approvals, Advice, advices, has_identity, is_ack, late_key, failed_key, is_ok_ack, is_advice_group, as_kept, known}
+use Rattle.network_law.specs.Traces.{ReadInput, Take, Event, In, Out, History, count_of, Handled, handled, Opening, opening, opened, asked, sent, own_approval, approvals, Advice, advices, has_identity, is_ack, late_key, failed_key, is_ok_ack, as_kept, known}
 use Rattle.network_law.specs.Plain.{inputs, openings, opened_key, all_asked}
 
 -- the host was asked about a key where an ask of it stands among the outputs

@@ -7,7 +7,7 @@ use Rattle.message_elements.specs.declared.kind.Group.{Group}
 use Rattle.message_elements.specs.declared.kind.Group.TheVariants as groups
 use Rattle.iso_message.specs.Finding.{find_element, without, put}
 use Rattle.iso_message.specs.Fields.{Fields, el, get, has, set_element, remove_element}
-use Rattle.message_elements.specs.Groups.{group, is_answer, is_reversal, is_04xx}
+use Rattle.message_elements.specs.Groups.{group, is_answer, is_reversal, is_04xx, is_advice_group}
 use Rattle.message_keys.specs.Keys.{key_of, own_key, original_key, part, content, identity_of, code_of}
 use Rattle.message_elements.specs.Codes.{code_00}
 use Rattle.iso_message.specs.Made.{made_reversal, made_stand_in, response, made_from}
@@ -20,7 +20,7 @@ use Rattle.message_keys.specs.Amounts.{actual_amount}
 use Rattle.network_law.specs.Tables.{is_attached, is_named, node_id, links_between}
 use Rattle.network_law.specs.declared.grant.Grant.{Grant}
 use Rattle.network_law.specs.declared.grant.GrantPacket.TheVariants as packets
-use Rattle.network_law.specs.Traces.{ReadInput, Enter, Take, LinkUp, LinkDown, Tick, HostAnswer, NewDate, TakePacket, Lend, History, ask_key, handled, Opening, opening, answer, pending, forwarded, advices, known, load, used, borrowed, lent, allowance, is_at_home, comes_late, is_link, is_advice_group}
+use Rattle.network_law.specs.Traces.{ReadInput, Enter, Take, LinkUp, LinkDown, Tick, HostAnswer, NewDate, TakePacket, Lend, History, ask_key, handled, Opening, opening, answer, pending, forwarded, advices, known, load, used, borrowed, lent, allowance, is_at_home, comes_late, is_link}
 use Rattle.network_law.specs.Decision.{other_content}
 
 abbrev pub when : {X : Type 0} → Bool → X → Option X

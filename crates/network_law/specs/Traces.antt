@@ -16,7 +16,7 @@ use Rattle.network_law.specs.Cards.{label_of, text_of, Bytes, card_of}
 use Rattle.message_keys.specs.Amounts.{actual_amount}
 use Rattle.iso_message.specs.Fields.{Fields, el, set_element, remove_element, as_kind, get}
 use Rattle.message_elements.specs.declared.kind.Group.{Group}
-use Rattle.message_elements.specs.Groups.{group, is_request, is_answer, is_04xx}
+use Rattle.message_elements.specs.Groups.{group, is_request, is_answer, is_04xx, is_advice_group}
 use Rattle.message_elements.specs.declared.kind.Kind.TheVariants.{K0420, K0120}
 use Rattle.card_digits.specs.declared.key.Key.{Key}
 use Rattle.message_keys.specs.Keys.{key_eq, key_of, identity_of, identity_eq, own_key, original_key, content, code_of}
@@ -359,11 +359,6 @@ is_timer _ = false
 abbrev pub failed_key : Network → History → ReadInput → Option Fields → Option Key
 failed_key t h i None = None
 failed_key t h i (Some m) = if is_timer i && is_answer m.kind && pending t h (key_of m) then Some (key_of m) else None
-
-abbrev pub is_advice_group : Group → Bool
-is_advice_group groups.Advice = true
-is_advice_group groups.Reversal = true
-is_advice_group _ = false
 
 abbrev pub is_ack_kind : Group → Bool
 is_ack_kind groups.AdviceResponse = true

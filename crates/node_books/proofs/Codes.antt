@@ -1,10 +1,10 @@
 -- What an output does to the store and the books.
 use Rattle.std.proofs.Common.{◌≡◌, List, [], ◌∷◌, map, Some, None, Bool, true, false, ◌||◌, cond, refl}
 use Rattle.iso_message.specs.Fields.{Fields}
-use Rattle.message_elements.specs.Groups.{group}
+use Rattle.message_elements.specs.Groups.{group, is_advice_group}
 use Rattle.message_keys.specs.Keys.{identity_of}
 use Rattle.message_keys.specs.declared.keys.AdviceId.{AdviceId}
-use Rattle.network_law.specs.Traces.{ReadOutput, Put, Answer, Ask, Post, PutPacket, is_advice_group, is_put_of}
+use Rattle.network_law.specs.Traces.{ReadOutput, Put, Answer, Ask, Post, PutPacket, is_put_of}
 use Rattle.node_machine.specs.Books.{Stored, Advised, Granted}
 use Rattle.node_machine.specs.Machine.{marked}
 use Rattle.node_machine.specs.Lists.{Lists, after_output}

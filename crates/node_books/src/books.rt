@@ -1,7 +1,7 @@
 //! All books of a node.
 ghost use Rattle.std.specs.Prelude.{◌≡◌, ◌+◌, ◌-◌, ◌<◌, ◌≤◌, ◌^◌, suc, [], ◌∷◌, ◌++◌, map, filter, not, OnOk, OnErr, IfOk, length, replicate};
-ghost use Rattle.node_machine.specs.Lists.{row_after, after_output, ask_at, of_key, is_marked, left_marks, is_among, fresh};
-ghost use Rattle.std.specs.Option.{option_copied};
+ghost use Rattle.node_machine.specs.Lists.{row_after, row_link, after_output, ask_at, of_key, is_marked, left_marks, is_among, fresh};
+ghost use Rattle.std.specs.Option.{option_and_then, option_copied};
 ghost use Rattle.node_books.specs.Effects.{applied_one, keep_in};
 ghost use Rattle.node_books.specs.Values.{AreFew};
 ghost use Rattle.node_machine.specs.Counts.{PutsAreWithin};
@@ -9,7 +9,7 @@ ghost use Rattle.request_book.specs.Values.{AreBetween, AreCovered, IsUnique, wa
 ghost use Rattle.net_rows.specs.Network.{Network};
 ghost use Rattle.node_machine.specs.Machine.{borrowed_for, is_due, lent_for, load};
 ghost use Rattle.node_machine.specs.Lists as lists;
-ghost use Rattle.network_law.specs.Traces.{added};
+ghost use Rattle.network_law.specs.Traces.{added, is_link};
 ghost use Rattle.node_machine.specs.Lists.{view};
 ghost use Rattle.std.specs.Prelude.{ℕ, is_some};
 ghost use Rattle.node_books.specs.declared.effect.Effect.TheVariants.{Lent};
@@ -17,6 +17,7 @@ ghost use Rattle.network_law.specs.Traces.{PutPacket};
 ghost use Rattle.std.specs.List.{list_any};
 ghost use Rattle.node_machine.specs.Machine.{was_put};
 ghost use Rattle.advice_store.specs.Advices.{has_id};
+ghost use Rattle.standin_book.specs.Lending.{allowance};
 ghost use Rattle.std.specs.Prelude.{vec_len, vec_capacity};
 ghost use Rattle.request_book.specs.Ways.{advice_of};
 ghost use Rattle.node_books.specs.Ways.{asks_by, after_way, store_by};
@@ -32,6 +33,7 @@ use request_book::{Mark, PendingBook, PreparedOutput, Row, Span, Way};
 use standin_book::{Borrowed, CardDay, LendingBook, Loan, OwnApproval, StandInBook};
 use std::alloc::{AllocError, Global};
 use std::marker::Model;
+use step_rules::LinkStates;
 
 /// For how many changes room is made at once.
 const ROOM: usize = 64;
@@ -177,6 +179,19 @@ impl Books {
         }
     }
 
+    /// Whether the key's request was put on this link first.
+    pub fn was_put_on(&self, key: Key, link: LinkNo) -> bool
+        ensures { result ≡ is_link link (option_and_then row_link (of_key key self.now.lists.rows)) }
+    {
+        match self.of_key(key) {
+            Some(row) => match row.link() {
+                Some(own) => own == link,
+                None => false,
+            },
+            None => false,
+        }
+    }
+
     /// The requests in opening order, each key once.
     pub fn rows(&self) -> &[Row]
         ensures rows { result.now ≡ self.now.lists.rows }
@@ -259,6 +274,7 @@ impl Books {
         self.advices.due(ticks, now)
     }
 
+    /// What the node approved by itself, the oldest first.
     pub fn takes(&self) -> &[OwnApproval]
         ensures { result.now ≡ self.now.lists.takes }
     {
@@ -289,12 +305,21 @@ impl Books {
         self.lending.borrowed_sum(day)
     }
 
+    /// What a day's limit allows of a card and a settlement date, with what was borrowed and less what was lent. Two look-ups.
+    pub fn allowance(&self, limit: Amount, day: &CardDay) -> u128
+        ensures { result ≡ allowance limit self.now.lists.borrowed self.now.lists.loans day.now.card day.now.date }
+    {
+        self.lending.allowance(limit, day)
+    }
+
+    /// What the node lent, the oldest grant first.
     pub fn loans(&self) -> &[Loan]
         ensures { result.now ≡ self.now.lists.loans }
     {
         self.lending.loans()
     }
 
+    /// What the node borrowed, the oldest grant first.
     pub fn borrowed(&self) -> &[Borrowed]
         ensures { result.now ≡ self.now.lists.borrowed }
     {
@@ -309,6 +334,7 @@ impl Books {
         self.asks.len()
     }
 
+    /// The settlement date that the node gives to requests.
     pub fn date(&self) -> DateLabel
         ensures { result ≡ self.now.lists.date }
     {
@@ -433,6 +459,19 @@ impl Books {
                 self.lending.take_packet(&packet);
                 self.room -= 1;
             }
+        }
+    }
+}
+
+impl LinkStates for Books {
+    ghost use Rattle.node_machine.specs.Lists.{link_at};
+
+    ghost up = { λ b l. (link_at b.lists.links l).up };
+
+    fn is_up(&self, link: LinkNo) -> bool {
+        match self.links().get(link.place()) {
+            Some(state) => state.is_up(),
+            None => true,
         }
     }
 }

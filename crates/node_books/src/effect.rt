@@ -81,12 +81,14 @@ impl NewAdvice {
 }
 
 impl NewAdvice {
+    /// What the advice is known by.
     pub fn id(&self) -> AdviceId
         ensures { result ≡ identity_of self.now.message }
     {
         self.id
     }
 
+    /// The advice, as the node keeps it.
     pub fn message(&self) -> &Message
         ensures { result.now ≡ self.now.message }
     {

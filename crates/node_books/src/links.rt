@@ -25,12 +25,14 @@ impl Model for LinkState {
 }
 
 impl LinkState {
+    /// Whether the link is up.
     pub fn is_up(&self) -> bool
         ensures { result ≡ self.now.up }
     {
         self.up
     }
 
+    /// The serial of the last put, which is their number; 0 where there was none.
     pub fn serial(&self) -> u64
         ensures serial { result ≡ self.now.serial }
     {
@@ -112,6 +114,7 @@ impl Links {
         Ok(Links { states })
     }
 
+    /// The link came up or went down.
     #[tactic(auto, using(node_machine::proofs::Puts::up_within))]
     pub fn set_up(&mut self, l: LinkNo, up: bool)
         ensures { self.new ≡ with_up l up self.old }
@@ -119,6 +122,7 @@ impl Links {
         set_up(self.states.as_mut_slice(), l, up);
     }
 
+    /// The node put once more on the link.
     pub fn put(&mut self, l: LinkNo)
         requires few { PutsAreWithin (2 ^ 62) (with_put l self.old) }
         ensures { self.new ≡ with_put l self.old }

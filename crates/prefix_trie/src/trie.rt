@@ -50,6 +50,7 @@ impl<T> Model for Trie<T> {
 }
 
 impl<T> Trie<T> {
+    /// A trie without pairs, which asks for no memory.
     pub fn new(alloc: Global) -> Trie<T>
         ensures { result ≡ [] }
     {

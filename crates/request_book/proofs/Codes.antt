@@ -1,10 +1,9 @@
 -- The code of a message is its element 39.
 use Rattle.std.proofs.Common.{◌≡◌, ℕ, List, [], Some, None, Bool, true, false, ◌&&◌, cond, refl, ap}
 use Rattle.iso_message.specs.Fields.{Fields, get, el}
-use Rattle.message_elements.specs.Groups.{group}
+use Rattle.message_elements.specs.Groups.{group, is_advice_group}
 use Rattle.message_keys.specs.Keys.{key_of, identity_of, identity_eq, code_of}
 use Rattle.message_keys.specs.declared.keys.AdviceId.{AdviceId}
-use Rattle.network_law.specs.Traces.{is_advice_group}
 use Rattle.request_book.specs.Ways.{advice_of}
 
 pub found_code : (m : Fields) (v : List ℕ) → get m 39 ≡ Some v → code_of m ≡ v

@@ -1,10 +1,10 @@
 -- Outputs as code keeps them.
 use Rattle.std.specs.Prelude.{ℕ, Bool, false, ◌==◌, Option, Some, None, if◌then◌else◌}
 use Rattle.iso_message.specs.Fields.{Fields}
-use Rattle.message_elements.specs.Groups.{group}
+use Rattle.message_elements.specs.Groups.{group, is_advice_group}
 use Rattle.message_keys.specs.Keys.{identity_of}
 use Rattle.message_keys.specs.declared.keys.AdviceId.{AdviceId}
-use Rattle.network_law.specs.Traces.{ReadOutput, Put, Answer, Ask, Post, PutPacket, is_advice_group}
+use Rattle.network_law.specs.Traces.{ReadOutput, Put, Answer, Ask, Post, PutPacket}
 use Rattle.request_book.specs.declared.output.Way.{Way}
 use Rattle.request_book.specs.declared.output.Way.TheVariants as ways
 

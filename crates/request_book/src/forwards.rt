@@ -63,6 +63,7 @@ fn add_pending(found: &mut Vec<usize>, rows: &[Row], place: usize) -> Result<(),
 }
 
 impl Forwards {
+    /// No request was put on a link yet.
     pub fn new(alloc: Global) -> Forwards
         ensures list { result.list.items ≡ [] }
         ensures heads { result.heads.entries ≡ [] }

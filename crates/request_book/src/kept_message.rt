@@ -87,6 +87,7 @@ impl KeptMessage {
         }
     }
 
+    /// The type of the message.
     pub fn kind(&self) -> Kind
         ensures { result ≡ self.now.kind }
     {

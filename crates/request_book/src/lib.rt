@@ -12,7 +12,7 @@ mod spans;
 
 pub use kept_message::KeptMessage;
 pub use marks::Mark;
-pub use output::{PreparedOutput, Way, is_advice, is_request};
+pub use output::{PreparedOutput, Way};
 pub use pending::PendingBook;
 pub use row::Row;
 pub use spans::Span;

@@ -24,18 +24,21 @@ impl Model for Mark {
 }
 
 impl Mark {
+    /// A reversal of the key was accepted, which leaves this actual amount; 0 where it takes all back.
     pub fn new(key: Key, actual: Amount) -> Mark
         ensures { result ≡ record { key = key; actual = actual } }
     {
         Mark { key, actual }
     }
 
+    /// The key that was reversed.
     pub fn key(&self) -> Key
         ensures { result ≡ self.now.key }
     {
         self.key
     }
 
+    /// The amount that the reversal leaves, 0 where it takes all back.
     pub fn actual(&self) -> Amount
         ensures { result ≡ self.now.actual }
     {
@@ -80,6 +83,7 @@ fn at_most(kept: Option<Amount>, amount: Amount) -> Amount
 }
 
 impl Marks {
+    /// No key was reversed yet.
     #[tactic(auto, using(crate::proofs::Least::no_marks))]
     pub fn new(alloc: Global) -> Marks
         ensures { result ≡ record { marks = []; room = 0 } }
@@ -103,6 +107,7 @@ impl Marks {
         Ok(())
     }
 
+    /// A reversal was accepted. No memory is asked for.
     pub fn mark(&mut self, mark: Mark)
         requires { 0 < self.old.room }
         ensures { self.new ≡ record { marks = self.old.marks ++ mark ∷ []; room = self.old.room - 1 } }
@@ -114,12 +119,14 @@ impl Marks {
         self.room -= 1;
     }
 
+    /// The marks of all accepted reversals, the oldest first.
     pub fn list(&self) -> &[Mark]
         ensures { result.now ≡ self.now.marks }
     {
         self.list.as_slice()
     }
 
+    /// Whether a reversal of the key was accepted.
     pub fn is_marked(&self, key: Key) -> bool
         ensures { result ≡ is_marked key self.now.marks }
     {

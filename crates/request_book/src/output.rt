@@ -1,14 +1,12 @@
 //! An output that is made ready.
-ghost use Rattle.std.specs.Prelude.{◌≡◌, bytes_eq, true, false, Some};
-ghost use Rattle.message_keys.specs.Keys.{code_of, key_of, identity_of};
-ghost use Rattle.message_elements.specs.Groups.{is_request, is_answer, group};
-ghost use Rattle.network_law.specs.Traces.{Put, Answer, Ask, Post, is_advice_group, is_put_of, forwards};
-ghost use Rattle.request_book.specs.Values.{output_key};
-ghost use Rattle.request_book.specs.Values.{message_of};
+ghost use Rattle.std.specs.Prelude.{◌≡◌, true, false};
+ghost use Rattle.message_keys.specs.Keys.{key_of, identity_of};
+ghost use Rattle.message_elements.specs.Groups.{group, is_advice_group};
+ghost use Rattle.network_law.specs.Traces.{is_put_of, forwards};
+ghost use Rattle.request_book.specs.Values.{message_of, output_key};
 
 use crate::kept_message::KeptMessage;
 use card_digits::{Key, LinkNo};
-use message_elements::{Group, Kind};
 use message_keys::{AdviceId, same_identity, same_key};
 use std::marker::Model;
 
@@ -80,6 +78,7 @@ impl PreparedOutput {
         }
     }
 
+    /// Where the output goes.
     pub fn way(&self) -> Way
         ensures { output_of result (message_of self.now) ≡ self.now }
     {
@@ -103,12 +102,14 @@ impl PreparedOutput {
         self.advice
     }
 
+    /// The key of its message.
     pub fn key(&self) -> Key
         ensures { result ≡ output_key self.now }
     {
         self.key
     }
 
+    /// The message that goes out.
     pub fn message(&self) -> &KeptMessage
         ensures { result.now ≡ message_of self.now }
     {
@@ -121,7 +122,7 @@ impl PreparedOutput {
     {
         match self.way {
             Way::Put(link, _) => {
-                if is_request(self.message.kind()) && same_key(self.key, key) {
+                if self.message.kind().is_request() && same_key(self.key, key) {
                     Some(link)
                 } else {
                     None
@@ -143,34 +144,5 @@ impl PreparedOutput {
             },
             _ => false,
         }
-    }
-}
-
-/// Whether messages of the group are advices.
-pub fn is_advice(group: Group) -> bool
-    ensures { result ≡ is_advice_group group }
-{
-    match group {
-        Group::Advice | Group::Reversal => true,
-        _ => false,
-    }
-}
-
-/// Whether a message asks for an answer.
-pub fn is_request(kind: Kind) -> bool
-    ensures { result ≡ is_request kind }
-{
-    match kind {
-        Kind::K0100 | Kind::K0101 => true,
-        _ => false,
-    }
-}
-
-pub fn is_answer(kind: Kind) -> bool
-    ensures { result ≡ is_answer kind }
-{
-    match kind {
-        Kind::K0110 => true,
-        _ => false,
     }
 }

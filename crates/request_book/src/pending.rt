@@ -118,6 +118,7 @@ fn more(count: usize, row: &Row) -> usize
 }
 
 impl PendingBook {
+    /// A book without requests and marks.
     #[tactic(auto, using(crate::proofs::Places::no_rows))]
     pub fn new(alloc: Global) -> PendingBook
         ensures { result ≡ record { rows = []; marks = []; room = 0 } }

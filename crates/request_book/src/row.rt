@@ -1,16 +1,14 @@
 //! A request, open or answered.
-ghost use Rattle.std.specs.Prelude.{◌≡◌, true, None, IfSome, is_none};
+ghost use Rattle.std.specs.Prelude.{◌≡◌, None, is_none};
 ghost use Rattle.std.specs.Option.{option_copied};
-ghost use Rattle.message_keys.specs.Keys.{key_of, key_eq};
-ghost use Rattle.iso_message.specs.Made.{has_own_key};
-ghost use Rattle.message_elements.specs.Groups.{is_request, is_answer};
+ghost use Rattle.message_keys.specs.Keys.{key_eq};
 ghost use Rattle.node_machine.specs.Lists.{row_after};
 ghost use Rattle.request_book.specs.Values.{source_of, output_key, IsKeyOf, IsAnswerOf};
-ghost use Rattle.std.specs.Prelude.{false};
 
 use crate::kept_message::KeptMessage;
-use crate::output::{PreparedOutput, Way, is_answer, is_request};
+use crate::output::{PreparedOutput, Way};
 use card_digits::{Key, LinkNo};
+use message_elements::response_codes;
 use std::marker::Model;
 
 /// A request with its key. A source is the link that it came by, or none of the gate.
@@ -56,6 +54,7 @@ impl Row {
         }
     }
 
+    /// The key of the request.
     pub fn key(&self) -> Key
         ensures key { result ≡ row_key self.now }
         ensures own { IsKeyOf result self.now.message }
@@ -63,30 +62,35 @@ impl Row {
         self.key
     }
 
+    /// The request, as it came.
     pub fn message(&self) -> &KeptMessage
         ensures { result.now ≡ self.now.message }
     {
         &self.message
     }
 
+    /// The link by which the request came, none where an acquirer entered it at the gate.
     pub fn source(&self) -> Option<LinkNo>
         ensures { source_of result ≡ self.now.source }
     {
         self.source
     }
 
+    /// The number of ticks when the request came.
     pub fn count(&self) -> u64
         ensures { result ≡ self.now.count }
     {
         self.count
     }
 
+    /// The link on which the request was put first, none where it was put on none.
     pub fn link(&self) -> Option<LinkNo>
         ensures { result ≡ self.now.link }
     {
         self.link
     }
 
+    /// Whether the host was asked.
     pub fn asked(&self) -> bool
         ensures { result ≡ self.now.asked }
     {
@@ -101,6 +105,7 @@ impl Row {
         self.answer.as_ref()
     }
 
+    /// Whether the request has no answer yet.
     pub fn is_open(&self) -> bool
         ensures { result ≡ is_none self.now.answer }
     {
@@ -120,19 +125,22 @@ impl Row {
         } = output;
         match way {
             Way::Put(link, _) => {
-                if is_request(message.kind()) {
+                if message.kind().is_request() {
                     if self.link.is_none() {
                         self.link = Some(link);
                     }
                 } else if self.answer.is_none()
-                    && is_answer(message.kind())
-                    && !message.has_code(b"94")
+                    && message.kind().is_answer()
+                    && !message.has_code(&response_codes::DUPLICATE_TRANSMISSION)
                 {
                     self.answer = Some(message);
                 }
             }
             Way::Answer => {
-                if self.answer.is_none() && is_answer(message.kind()) && !message.has_code(b"94") {
+                if self.answer.is_none()
+                    && message.kind().is_answer()
+                    && !message.has_code(&response_codes::DUPLICATE_TRANSMISSION)
+                {
                     self.answer = Some(message);
                 }
             }

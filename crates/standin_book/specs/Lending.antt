@@ -1,6 +1,7 @@
 -- Lent and borrowed amounts, and how they are kept.
-use Rattle.std.specs.Prelude.{◌≡◌, ◌≤◌, ◌+◌, ℕ, Bool, ◌&&◌, ◌==◌, bytes_eq, List}
+use Rattle.std.specs.Prelude.{◌≡◌, ◌≤◌, ◌+◌, ◌-◌, ℕ, Bool, ◌&&◌, ◌==◌, bytes_eq, List}
 use Rattle.std.specs.List.{list_any}
+use Rattle.network_law.specs.Traces.{added}
 use Rattle.node_machine.specs.Books.{Loan, Borrowed}
 use Rattle.node_machine.specs.Machine.{borrowed_for, lent_for}
 use Rattle.standin_book.specs.Sums.{AreSums}
@@ -12,6 +13,10 @@ pub record Lending : Type 0 where
   pub loans : List Loan
   pub borrowed : List Borrowed
   pub room : ℕ
+
+-- what a day's limit allows of a card and a date, with what was borrowed, less what was lent
+abbrev pub allowance : (limit : ℕ) → List Borrowed → List Loan → (card date : List ℕ) → ℕ
+allowance limit borrowed loans card date = limit + added (borrowed_for card date) borrowed - added (lent_for card date) loans
 
 abbrev pub lent_on : CardDay → Loan → ℕ
 lent_on day g = lent_for day.card day.date g

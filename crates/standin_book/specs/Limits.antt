@@ -1,13 +1,11 @@
 -- Own approvals within limits.
 use Rattle.std.specs.Prelude.{◌≤◌, ◌+◌, ◌-◌, ℕ, Bool, nat_lt, List, [], ◌∷◌, ◌++◌}
 use Rattle.std.specs.List.{list_any}
-use Rattle.network_law.specs.Traces.{added}
 use Rattle.card_digits.specs.declared.key.Key.{Key}
 use Rattle.node_machine.specs.Lists.{Take, used}
 use Rattle.node_machine.specs.Books.{Borrowed, Loan}
-use Rattle.node_machine.specs.Machine.{borrowed_for, lent_for}
 use Rattle.standin_book.specs.Approvals.{is_of, is_whole, times}
-use Rattle.standin_book.specs.Lending.{is_grant}
+use Rattle.standin_book.specs.Lending.{allowance, is_grant}
 
 -- what was taken, lent and borrowed, the oldest first
 pub record Limits : Type 0 where
@@ -15,9 +13,9 @@ pub record Limits : Type 0 where
   pub loans : List Loan
   pub borrowed : List Borrowed
 
--- the day's limit of a card and a date, with what was borrowed, less what was lent
+-- what the limit of the day allows of a card and a date
 abbrev pub limit : ℕ → Limits → List ℕ → List ℕ → ℕ
-limit day x card date = day + added (borrowed_for card date) x.borrowed - added (lent_for card date) x.loans
+limit day x card date = allowance day x.borrowed x.loans card date
 
 -- less is left than the amount
 abbrev pub is_over : (amount day : ℕ) → Limits → List ℕ → List ℕ → Bool

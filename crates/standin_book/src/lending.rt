@@ -3,7 +3,7 @@ ghost use Rattle.std.specs.Prelude.{◌≡◌, ◌+◌, ◌-◌, ◌<◌, ◌≤
 ghost use Rattle.std.specs.List.{list_any};
 ghost use Rattle.network_law.specs.Traces.{added};
 ghost use Rattle.node_machine.specs.Books.{borrowed_of};
-ghost use Rattle.standin_book.specs.Lending.{is_grant};
+ghost use Rattle.standin_book.specs.Lending.{allowance, is_grant};
 ghost use Rattle.node_machine.specs.Machine.{borrowed_for, is_number_of, lent_for, packet_borrowed};
 
 use book_index::{CardDay, Sums};
@@ -30,24 +30,28 @@ impl Model for Loan {
 }
 
 impl Loan {
+    /// The node lent this amount of a card and a settlement date.
     pub fn new(card: Card, date: DateLabel, amount: Amount) -> Loan
         ensures { result ≡ record { card = card; date = date; amount = amount } }
     {
         Loan { card, date, amount }
     }
 
+    /// The card of whose limit was lent.
     pub fn card(&self) -> &Card
         ensures { result.now ≡ self.now.card }
     {
         &self.card
     }
 
+    /// The settlement date of whose limit was lent.
     pub fn date(&self) -> &DateLabel
         ensures { result.now ≡ self.now.date }
     {
         &self.date
     }
 
+    /// The amount lent, in the currency's smallest unit.
     pub fn amount(&self) -> Amount
         ensures { result ≡ self.now.amount }
     {
@@ -74,6 +78,7 @@ impl Model for Borrowed {
 }
 
 impl Borrowed {
+    /// The node borrowed this amount by the grant of this lender and number.
     pub fn new(
         lender: [u8; 11],
         number: u64,
@@ -105,30 +110,35 @@ impl Borrowed {
         }
     }
 
+    /// The lender's id, padded to eleven ASCII digits.
     pub fn lender(&self) -> [u8; 11]
         ensures { result ≡ self.now.lender }
     {
         self.lender
     }
 
+    /// The number that the lender gave the grant, from 1.
     pub fn number(&self) -> u64
         ensures { result ≡ self.now.number }
     {
         self.number
     }
 
+    /// The card of whose limit was borrowed.
     pub fn card(&self) -> &Card
         ensures { result.now ≡ self.now.card }
     {
         &self.card
     }
 
+    /// The settlement date of whose limit was borrowed.
     pub fn date(&self) -> &DateLabel
         ensures { result.now ≡ self.now.date }
     {
         &self.date
     }
 
+    /// The amount borrowed, in the currency's smallest unit.
     pub fn amount(&self) -> Amount
         ensures { result ≡ self.now.amount }
     {
@@ -279,6 +289,14 @@ impl LendingBook {
     {
         let _ = self.borrowed.len();
         self.borrowed_sums.get(day)
+    }
+
+    /// What a day's limit allows of a card and a settlement date, with what was borrowed and less what was lent. Two look-ups.
+    pub fn allowance(&self, limit: Amount, day: &CardDay) -> u128
+        ensures { result ≡ allowance limit self.now.borrowed self.now.loans day.now.card day.now.date }
+    {
+        let most = limit.value() as u128 + self.borrowed_sum(day);
+        most.saturating_sub(self.lent(day))
     }
 
     /// The grants that were made.

@@ -76,8 +76,7 @@ impl LimitBook {
         ensures { result ≡ is_over amount day self.now card.now date.now }
     {
         let at = CardDay::of(card, date);
-        let most = day.value() as u128 + self.lending.borrowed_sum(&at);
-        let limit = most.saturating_sub(self.lending.lent(&at));
+        let limit = self.lending.allowance(day, &at);
         limit < self.approvals.used(&at) + amount.value() as u128
     }
 

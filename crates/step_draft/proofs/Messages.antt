@@ -9,13 +9,13 @@ use Rattle.message_elements.specs.declared.kind.Kind.{Kind}
 use Rattle.message_elements.specs.declared.kind.Kind.TheVariants.{K0100, K0101, K0110, K0120, K0121, K0130, K0400, K0401, K0410, K0420, K0421, K0430}
 use Rattle.message_keys.specs.declared.keys.AdviceId.{AdviceId}
 use Rattle.message_keys.specs.declared.keys.AdviceKind.TheVariants.{Reversal, StandIn}
-use Rattle.message_elements.specs.Groups.{group, is_04xx, response_kind}
+use Rattle.message_elements.specs.Groups.{group, is_04xx, response_kind, is_advice_group}
 use Rattle.message_keys.specs.Keys.{key_of, own_key, original_key, part, identity_of}
 use Rattle.iso_message.specs.Made.{has_own_key, response, made_reversal, made_stand_in, made_from}
 use Rattle.iso_message.proofs.Found as found
 use Rattle.message_keys.proofs.KeyLemmas as keys
 use Rattle.network_law.specs.Cards.{Bytes}
-use Rattle.network_law.specs.Traces.{is_advice_group, as_kept}
+use Rattle.network_law.specs.Traces.{as_kept}
 use Rattle.network_law.specs.Decision.{sent_kind}
 use Rattle.network_law.proofs.Node.{response_is_of_kind}
 use Rattle.network_law.proofs.Origins.{reversal_maker, stand_in_maker}

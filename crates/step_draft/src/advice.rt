@@ -1,11 +1,11 @@
 //! Advices with their identities.
 ghost use Rattle.std.specs.Prelude.{◌≡◌, IfOk, true, if◌then◌else◌};
-ghost use Rattle.message_elements.specs.Groups.{group, is_04xx};
+ghost use Rattle.message_elements.specs.Groups.{group, is_04xx, is_advice_group};
 ghost use Rattle.message_elements.specs.declared.kind.Kind.TheVariants.{K0420, K0120};
 ghost use Rattle.message_keys.specs.Keys.{identity_of};
 ghost use Rattle.iso_message.specs.Made.{made_reversal, made_stand_in};
 ghost use Rattle.network_law.specs.Tables.{node_id};
-ghost use Rattle.network_law.specs.Traces.{is_advice_group, as_kept};
+ghost use Rattle.network_law.specs.Traces.{as_kept};
 ghost use Rattle.request_book.specs.Values.{IsKeyOf};
 
 use card_digits::{Key, NodeNo};
@@ -80,6 +80,7 @@ impl Advice {
         Ok(Advice { id, message: kept })
     }
 
+    /// The same advice, in memory of its own.
     pub fn copy(&self) -> Result<Advice, AllocError>
         ensures { IfOk result (λ a. a.message ≡ self.now.message) }
     {

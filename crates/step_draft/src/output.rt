@@ -25,6 +25,7 @@ impl Model for Output {
 impl Output {
     ghost use Rattle.step_draft.specs.Outputs.{put_out, bytes_of};
 
+    /// An output that goes this way, of the bytes that spell its message or packet.
     pub fn new(way: Way, bytes: SharedBytes) -> Output
         ensures { result ≡ put_out way bytes }
     {

@@ -88,12 +88,14 @@ impl Outputs {
         }
     }
 
+    /// Leaves no outputs.
     pub fn clear(&mut self)
         ensures { self.new ≡ [] }
     {
         self.held = Held::Nothing;
     }
 
+    /// The outputs in the order in which they go out.
     pub fn as_slice(&self) -> &[Output]
         ensures { result.now ≡ self.now }
     {
@@ -139,6 +141,7 @@ impl SharedOutputs {
         Ok(SharedOutputs { outputs })
     }
 
+    /// The outputs that are shared.
     pub fn outputs(&self) -> &Outputs
         ensures { result.now ≡ self.now }
     {

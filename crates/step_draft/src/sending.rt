@@ -1,10 +1,10 @@
 //! What goes out.
 ghost use Rattle.std.specs.Prelude.{◌≡◌, ℕ, false, true, OnOk, Some};
-ghost use Rattle.message_elements.specs.Groups.{group};
+ghost use Rattle.message_elements.specs.Groups.{group, is_advice_group};
 ghost use Rattle.message_keys.specs.Keys.{key_of, identity_of};
 ghost use Rattle.iso_message.specs.Made.{response};
 ghost use Rattle.net_rows.specs.Network.{Network};
-ghost use Rattle.network_law.specs.Traces.{is_advice_group, Post};
+ghost use Rattle.network_law.specs.Traces.{Post};
 ghost use Rattle.node_machine.specs.Lists.{view, leaves};
 ghost use Rattle.node_machine.specs.Machine.{own_way};
 ghost use Rattle.node_machine.specs.Steps.{emit, keep, is_sent, put_on, reply, send, store};

@@ -7,26 +7,14 @@ ghost use Rattle.node_machine.specs.Lists.{link_at, of_key, row_link, view};
 ghost use Rattle.node_machine.specs.Machine.{put_before, own_way};
 ghost use Rattle.node_books.specs.Effects.{progress};
 ghost use Rattle.entry_changes.specs.SoFar.{forward_from};
-ghost use Rattle.message_elements.specs.Groups.{is_reversal};
 
 use crate::draft::Draft;
 use card_digits::{Key, LinkNo, NodeNo};
 use entry_changes::{AdviceState, Forwarding, LinkAfter};
 use iso_message::Message;
-use message_elements::Kind;
 use message_keys::AdviceId;
 use net_rows::Tables;
 use step_rules::{LinkStates, first_up, route_links};
-
-/// Whether messages of the type reverse.
-fn is_reversal(kind: Kind) -> bool
-    ensures { result ≡ is_reversal kind }
-{
-    match kind {
-        Kind::K0400 | Kind::K0401 | Kind::K0420 | Kind::K0421 => true,
-        _ => false,
-    }
-}
 
 impl Draft {
     /// A link as it is now: whether it is up, and its last serial.
@@ -111,7 +99,7 @@ impl Draft {
         ensures { result ≡ own_way tables.now node (view tables.now node (progress self.now).lists) advice.now ((view tables.now node (progress self.now).lists).link (key_of advice.now)) }
     {
         if let Some(link) = self.forwarded(key) {
-            if is_reversal(advice.kind()) && self.is_up(link) {
+            if advice.kind().is_reversal() && self.is_up(link) {
                 return Some(link);
             }
         }

@@ -12,7 +12,7 @@ use crate::digits::{card_number, date_label};
 use crate::draft::Draft;
 use card_digits::{Key, LinkNo, NodeNo};
 use iso_message::Message;
-use message_elements::Code;
+use message_elements::{Code, response_codes};
 use net_rows::Tables;
 use node_books::OwnApproval;
 use std::alloc::AllocError;
@@ -47,7 +47,7 @@ impl Draft {
     {
         let count = self.count_now();
         self.respond(source, key, request, code)?;
-        if code.as_slice() != b"00".as_slice() {
+        if code.as_slice() != response_codes::APPROVED.as_slice() {
             return Ok(());
         }
         self.take(key, request)?;

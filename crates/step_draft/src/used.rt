@@ -89,9 +89,7 @@ impl Draft {
         let Some(row) = stand_in_of(tables, node, message) else {
             return 0;
         };
-        let day = card_day(message);
-        let most = row.day.value() as u128 + self.books.borrowed_sum(&day);
-        most.saturating_sub(self.books.lent_sum(&day))
+        self.books.allowance(row.day, &card_day(message))
     }
 
     /// The code with which the node answers a request by itself.

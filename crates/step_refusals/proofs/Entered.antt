@@ -5,13 +5,13 @@ use Rattle.card_digits.specs.Numbers.{pad11}
 use Rattle.message_elements.specs.declared.kind.Kind.{Kind}
 use Rattle.message_elements.specs.declared.kind.Kind.TheVariants.{K0100, K0101, K0110, K0120, K0121, K0130, K0400, K0401, K0410, K0420, K0421, K0430}
 use Rattle.iso_message.specs.Fields.{Fields, remove_element, set_element}
-use Rattle.message_elements.specs.Groups.{group, is_request, is_reversal, is_04xx}
+use Rattle.message_elements.specs.Groups.{group, is_request, is_reversal, is_04xx, is_advice_group}
 use Rattle.message_keys.specs.Keys.{part, key_of, own_key, original_key, content, content_eq, identity_of, advice_kind, padded_or_zeros}
 use Rattle.iso_message.specs.Made.{without_forwarder}
 use Rattle.iso_message.proofs.Changes.{get_remove_same}
 use Rattle.net_rows.specs.Network.{Network, issuer}
 use Rattle.network_law.specs.Cards.{card_of, is_good_card}
-use Rattle.network_law.specs.Traces.{dated, home_is, is_advice_group}
+use Rattle.network_law.specs.Traces.{dated, home_is}
 use Rattle.network_law.proofs.Node.{el_remove}
 use Rattle.node_machine.specs.Books.{Request}
 use Rattle.node_machine.specs.Lists.{Lists, view, is_among}

@@ -7,11 +7,10 @@ use Rattle.message_elements.specs.declared.kind.Kind.TheVariants.{K0100, K0101, 
 use Rattle.message_elements.specs.declared.kind.Group.{Group}
 use Rattle.message_elements.specs.declared.kind.Group.TheVariants as groups
 use Rattle.iso_message.specs.Fields.{Fields, has}
-use Rattle.message_elements.specs.Groups.{group, is_04xx, is_answer}
+use Rattle.message_elements.specs.Groups.{group, is_04xx, is_answer, is_advice_group}
 use Rattle.message_keys.specs.Keys.{has_key, has_identity}
 use Rattle.iso_message.specs.Made.{has_own_key, is_one_of}
 use Rattle.network_law.specs.Refusals.{first_missing, missing, required_entered, required_taken, entered_kind}
-use Rattle.network_law.specs.Traces.{is_advice_group}
 
 -- each of the elements is there
 pub present : (m : Fields) (ns : List ℕ) (n : ℕ) → first_missing m ns ≡ None → is_one_of ns n ≡ true → has m n ≡ true

@@ -3,11 +3,11 @@ use Rattle.std.specs.Prelude.{ℕ, ◌+◌, ◌-◌, Bool, ◌&&◌, not, if◌t
 use Rattle.card_digits.specs.declared.key.Key.{Key}
 use Rattle.message_keys.specs.declared.keys.AdviceId.{AdviceId}
 use Rattle.iso_message.specs.Fields.{Fields, el}
-use Rattle.message_elements.specs.Groups.{group, is_reversal}
+use Rattle.message_elements.specs.Groups.{group, is_reversal, is_advice_group}
 use Rattle.message_keys.specs.Keys.{identity_of}
 use Rattle.net_rows.specs.Network.{Network, issuer}
 use Rattle.network_law.specs.Cards.{card_of, is_good_card}
-use Rattle.network_law.specs.Traces.{is_at_home, is_advice_group, is_link}
+use Rattle.network_law.specs.Traces.{is_at_home, is_link}
 use Rattle.node_machine.specs.Lists.{Lists, view, is_among}
 use Rattle.node_machine.specs.Machine.{comes_late, home_of_key, load, other_content}
 use Rattle.step_refusals.specs.Keyed.{is_pending_at, request_at, link_at_key}

@@ -3,8 +3,6 @@ ghost use Rattle.std.specs.Prelude.{◌≡◌, ◌<◌, ◌^◌};
 ghost use Rattle.node_machine.specs.Lists as lists;
 ghost use Rattle.node_machine.specs.Lists.{view, LeftAsMarked};
 ghost use Rattle.node_machine.specs.Machine.{allowance, may_not_lend};
-ghost use Rattle.network_law.specs.Traces.{added};
-ghost use Rattle.node_machine.specs.Machine.{lent_for, borrowed_for};
 
 use card_digits::{Amount, Card, DateLabel, NodeNo};
 use net_rows::Tables;
@@ -19,22 +17,6 @@ pub fn used(books: &Books, card: &Card, date: &DateLabel) -> u128
     books.used(&CardDay::of(card, date))
 }
 
-/// What the node lent of a card and a settlement date.
-pub fn lent(books: &Books, card: &Card, date: &DateLabel) -> u128
-    ensures lent { result ≡ added (lent_for card.now date.now) books.now.lists.loans }
-    ensures bound { result < 2 ^ 104 }
-{
-    books.lent_sum(&CardDay::of(card, date))
-}
-
-/// What the node borrowed of a card and a settlement date.
-pub fn borrowed(books: &Books, card: &Card, date: &DateLabel) -> u128
-    ensures borrowed { result ≡ added (borrowed_for card.now date.now) books.now.lists.borrowed }
-    ensures bound { result < 2 ^ 104 }
-{
-    books.borrowed_sum(&CardDay::of(card, date))
-}
-
 /// The node's allowance of a card and a settlement date: its day limit and what it borrowed, less what it lent.
 pub fn allowance(
     books: &Books,
@@ -45,8 +27,7 @@ pub fn allowance(
 ) -> u128
     ensures { result ≡ allowance tables.now node (view tables.now node books.now.lists) card.now date.now }
 {
-    let most = day(tables, node, card).value() as u128 + borrowed(books, card, date);
-    most.saturating_sub(lent(books, card, date))
+    books.allowance(day(tables, node, card), &CardDay::of(card, date))
 }
 
 /// Whether the node may not lend so much of a card and a settlement date to another: no link joins the two, the amount is 0, the

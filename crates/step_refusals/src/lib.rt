@@ -6,7 +6,7 @@ mod places;
 mod readings;
 mod refusals;
 
-pub use lending::{allowance, borrowed, lent, may_not_lend, used};
+pub use lending::{allowance, may_not_lend, used};
 pub use places::PLACES;
 pub use readings::{
     comes_late, is_pending, is_reversing, other_content, own_reversal, same_source,

@@ -4,10 +4,10 @@ ghost use Rattle.net_rows.specs.Network.{Network};
 ghost use Rattle.message_elements.specs.Groups.{group, is_reversal};
 ghost use Rattle.iso_message.specs.Made.{without_forwarder};
 ghost use Rattle.network_law.specs.Refusals.{entered_kind, required_entered, required_taken, missing};
-ghost use Rattle.network_law.specs.Traces.{dated, is_link};
+ghost use Rattle.network_law.specs.Traces.{dated};
 ghost use Rattle.node_machine.specs.Lists.{view};
 ghost use Rattle.node_machine.specs.Machine.{load, other_content, finds_no_place, late_finds_no_place, home_of_key};
-ghost use Rattle.step_refusals.specs.Keyed.{is_pending_at, request_at, link_at_key};
+ghost use Rattle.step_refusals.specs.Keyed.{is_pending_at, request_at};
 ghost use Rattle.step_refusals.specs.Places.{is_late, late_has_no_place, finds_no_place_as, has_no_place, is_accepted, given_up};
 
 use crate::readings::{comes_late, is_pending, other_content};
@@ -17,9 +17,7 @@ use message_keys::{AdviceId, advice_id, key_of};
 use net_rows::Tables;
 use node_books::Books;
 use std::alloc::AllocError;
-use step_rules::{
-    has_good_card, has_issuer, is_advice_group, is_answer, is_approval, is_at_home, is_reversal,
-};
+use step_rules::{has_good_card, has_issuer, is_approval, is_at_home};
 
 /// How many places a node has, for stored advices and grants and for open requests.
 pub const PLACES: u128 = 65536;
@@ -28,7 +26,7 @@ pub const PLACES: u128 = 65536;
 fn reverses_pending(books: &Books, message: &Message, key: Key) -> bool
     ensures { result ≡ (is_reversal message.now.kind && is_pending_at books.now.lists key) }
 {
-    is_reversal(message.kind()) && is_pending(books, key)
+    message.kind().is_reversal() && is_pending(books, key)
 }
 
 /// The places that a pending request gives up where the message takes it back.
@@ -54,7 +52,7 @@ fn has_no_place(books: &Books, tables: &Tables, node: NodeNo, message: &Message,
 fn reverses_other(books: &Books, message: &Message, key: Key) -> Result<bool, AllocError>
     ensures { IfOk result (λ other. other ≡ (is_reversal message.now.kind && other_content (request_at books.now.lists key) message.now)) }
 {
-    if !is_reversal(message.kind()) {
+    if !message.kind().is_reversal() {
         return Ok(false);
     }
     other_content(books, key, message)
@@ -69,7 +67,7 @@ fn is_accepted(
 ) -> Result<bool, AllocError>
     ensures { IfOk result (λ accepted. accepted ≡ is_accepted tables.now books.now.lists message.now key) }
 {
-    if !is_advice_group(message.kind().group())
+    if !message.kind().group().is_advice()
         || !has_good_card(message)
         || !has_issuer(tables, message)
     {
@@ -147,19 +145,6 @@ pub(crate) fn taken_finds_no_place(
     }
 }
 
-/// Whether the key's request was put on this link.
-fn went_by(books: &Books, link: LinkNo, key: Key) -> bool
-    ensures { result ≡ is_link link (link_at_key books.now.lists key) }
-{
-    match books.of_key(key) {
-        Some(row) => match row.link() {
-            Some(other) => other == link,
-            None => false,
-        },
-        None => false,
-    }
-}
-
 /// Whether the node is the home of the card of the key's request.
 fn is_home_of_key(
     books: &Books,
@@ -188,7 +173,7 @@ fn is_late(
 ) -> Result<bool, AllocError>
     ensures { IfOk result (λ late. late ≡ is_late tables.now node books.now.lists link key) }
 {
-    if !went_by(books, link, key) || !comes_late(books, tables, node, key) {
+    if !books.was_put_on(key, link) || !comes_late(books, tables, node, key) {
         return Ok(false);
     }
     let home = is_home_of_key(books, tables, node, key)?;
@@ -227,7 +212,7 @@ pub(crate) fn late_finds_no_place(
     if has_place(books) {
         return Ok(false);
     }
-    if !is_answer(message.kind()) || !is_approval(message) {
+    if !message.kind().is_answer() || !is_approval(message) {
         return Ok(false);
     }
     match key_of(message) {

@@ -9,6 +9,7 @@ ghost use Rattle.step_refusals.specs.Keyed.{is_pending_at, request_at};
 
 use card_digits::{Key, LinkNo, NodeNo};
 use iso_message::Message;
+use message_elements::response_codes;
 use message_keys::{AdviceId, AdviceKind, same_content};
 use net_rows::Tables;
 use node_books::Books;
@@ -69,7 +70,7 @@ fn is_declined(row: &Row) -> bool
     ensures { result ≡ code_is_not_00 row.now.answer }
 {
     match row.answer() {
-        Some(answer) => !answer.has_code(b"00"),
+        Some(answer) => !answer.has_code(&response_codes::APPROVED),
         None => false,
     }
 }

@@ -15,8 +15,8 @@ use network_law::{GrantPacket, StepFault};
 use node_books::Books;
 use std::alloc::AllocError;
 use step_rules::{
-    acquirer_of, entered_kind, is_attached, is_reversal, may_not_borrow, missing_entered,
-    missing_taken, strange_actual, taken_kind,
+    acquirer_of, entered_kind, is_attached, may_not_borrow, missing_entered, missing_taken,
+    strange_actual, taken_kind,
 };
 
 /// The fault of a message that an acquirer enters. Memory is asked for where the message is held against the request of its key.
@@ -38,7 +38,7 @@ pub fn refuse_entered(
     if !is_attached(tables, node, &acquirer_of(message)) {
         return Ok(Some(StepFault::ForeignAcquirer));
     }
-    if is_reversal(message.kind()) && strange_actual(message) {
+    if message.kind().is_reversal() && strange_actual(message) {
         return Ok(Some(StepFault::Replacement));
     }
     if entered_finds_no_place(books, tables, node, message)? {
@@ -64,7 +64,7 @@ pub fn refuse_taken(
     if let Some(number) = missing_taken(message) {
         return Ok(Some(StepFault::Missing(number)));
     }
-    if is_reversal(message.kind()) && strange_actual(message) {
+    if message.kind().is_reversal() && strange_actual(message) {
         return Ok(Some(StepFault::Replacement));
     }
     if taken_finds_no_place(books, tables, node, message)? {

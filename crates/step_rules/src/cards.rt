@@ -8,13 +8,14 @@ ghost use Rattle.network_law.specs.Cards.{card_of, label_of, is_good_card};
 
 use card_digits::{Card, DateLabel, luhn};
 use iso_message::{Message, bytes_of};
+use message_elements::elements;
 
 /// The card of the message: none where element 2 is absent or has fewer digits than a card number.
 pub fn card_of(message: &Message) -> Option<Card>
     ensures read { result ≡ result_ok (read_digits 8 19 (el message.now 2)) }
     ensures card { IfSome result (λ card. card ≡ card_of message.now) }
 {
-    Card::read(bytes_of(message, 2)).ok()
+    Card::read(bytes_of(message, elements::CARD_NUMBER)).ok()
 }
 
 /// The card of the message, where its check digit is right.
@@ -39,6 +40,6 @@ pub fn label_of(message: &Message) -> Option<DateLabel>
 {
     // Every message can be written, so element 15 has four digits.
     let _ = message.kind();
-    let label = message.get(15)?;
+    let label = message.get(elements::SETTLEMENT_DATE)?;
     DateLabel::read(label).ok()
 }

@@ -8,6 +8,7 @@ ghost use Rattle.network_law.specs.Refusals.{strange_original, strange_actual};
 
 use card_digits::{Amount, decimal, pad11};
 use iso_message::{Message, bytes_of};
+use message_elements::{elements, response_codes};
 use message_keys::actual_amount;
 
 /// So many bytes from a place on, fewer where the bytes end.
@@ -24,7 +25,7 @@ pub fn acquirer_of(message: &Message) -> [u8; 11]
 {
     // Every message can be written, so element 32 has at most 11 digits.
     let _ = message.kind();
-    pad11(bytes_of(message, 32))
+    pad11(bytes_of(message, elements::ACQUIRING_INSTITUTION))
 }
 
 /// The amount of the message (element 4), 0 where it is absent.
@@ -33,7 +34,7 @@ pub fn amount_of(message: &Message) -> Amount
 {
     // Every message can be written, so element 4 has 12 digits.
     let _ = message.kind();
-    Amount::new(decimal(bytes_of(message, 4)))
+    Amount::new(decimal(bytes_of(message, elements::AMOUNT)))
 }
 
 /// Whether a reversal, or what answers one, names no request of its own acquirer in element 90.
@@ -43,7 +44,7 @@ pub fn strange_original(message: &Message) -> bool
     if !message.kind().is_04xx() {
         return false;
     }
-    let original = bytes_of(message, 90);
+    let original = bytes_of(message, elements::ORIGINAL_DATA);
     let request = part(original, 0, 4) == b"0100".as_slice();
     let own = part(original, 20, 11) == acquirer_of(message).as_slice();
     !(request && own)
@@ -53,7 +54,7 @@ pub fn strange_original(message: &Message) -> bool
 pub fn strange_actual(message: &Message) -> bool
     ensures { result ≡ strange_actual message.now }
 {
-    if !message.has(95) {
+    if !message.has(elements::REPLACEMENT_AMOUNTS) {
         return false;
     }
     match actual_amount(message) {
@@ -67,5 +68,5 @@ pub fn strange_actual(message: &Message) -> bool
 pub fn is_approval(message: &Message) -> bool
     ensures { result ≡ bytes_eq (code_of message.now) code_00 }
 {
-    bytes_of(message, 39) == b"00".as_slice()
+    bytes_of(message, elements::RESPONSE_CODE) == response_codes::APPROVED.as_slice()
 }

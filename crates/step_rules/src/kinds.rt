@@ -1,11 +1,9 @@
 //! Types of messages, and the codes of answers.
 ghost use Rattle.std.specs.Prelude.{◌≡◌};
-ghost use Rattle.message_elements.specs.Groups.{is_answer, is_reversal};
 ghost use Rattle.network_law.specs.Refusals.{entered_kind, taken_kind};
 ghost use Rattle.network_law.specs.Decision.{sent_kind, as_code};
-ghost use Rattle.network_law.specs.Traces.{is_advice_group};
 
-use message_elements::{Code, Group, Kind};
+use message_elements::{Code, Kind, response_codes};
 
 /// Whether an acquirer may enter a message of this type at its gate.
 pub fn entered_kind(kind: Kind) -> bool
@@ -29,33 +27,6 @@ pub fn taken_kind(kind: Kind) -> bool
     }
 }
 
-/// Whether the message answers a request.
-pub fn is_answer(kind: Kind) -> bool
-    ensures { result ≡ is_answer kind }
-{
-    kind.group() == Group::AuthorizationResponse
-}
-
-/// Whether the message takes a request back.
-pub fn is_reversal(kind: Kind) -> bool
-    ensures { result ≡ is_reversal kind }
-{
-    kind.group() == Group::Reversal
-}
-
-/// Whether a message of the group is one that nodes store and hand on until it is acknowledged.
-pub fn is_advice_group(group: Group) -> bool
-    ensures { result ≡ is_advice_group group }
-{
-    match group {
-        Group::Advice | Group::Reversal => true,
-        Group::AuthorizationRequest
-        | Group::AuthorizationResponse
-        | Group::AdviceResponse
-        | Group::ReversalResponse => false,
-    }
-}
-
 /// The type of a reversal or a stand-in advice, put on a link before or not.
 pub fn sent_kind(reversal: bool, repeated: bool) -> Kind
     ensures { result ≡ sent_kind reversal repeated }
@@ -72,7 +43,7 @@ pub fn sent_kind(reversal: bool, repeated: bool) -> Kind
 pub fn as_code(other: Code, code: Code) -> Code
     ensures { result ≡ as_code other code }
 {
-    if code.as_slice() == b"94".as_slice() {
+    if code.as_slice() == response_codes::DUPLICATE_TRANSMISSION.as_slice() {
         other
     } else {
         code

@@ -14,9 +14,7 @@ mod required;
 
 pub use cards::{card_of, good_card, has_good_card, label_of};
 pub use elements::{acquirer_of, amount_of, is_approval, strange_actual, strange_original};
-pub use kinds::{
-    as_code, entered_kind, is_advice_group, is_answer, is_reversal, sent_kind, taken_kind,
-};
+pub use kinds::{as_code, entered_kind, sent_kind, taken_kind};
 pub use lending::Lending;
 pub use limits::{Limits, is_due_again};
 pub use links::{LinkStates, are_linked, first_up, first_up_between, is_link_of, joins, ticks_by};

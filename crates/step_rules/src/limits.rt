@@ -7,7 +7,7 @@ ghost use Rattle.network_law.specs.Decision.{code_by_limits, is_due_again};
 use crate::elements::amount_of;
 use card_digits::Amount;
 use iso_message::{Message, bytes_of};
-use message_elements::Code;
+use message_elements::{Code, elements, response_codes};
 use net_rows::Tables;
 
 /// What a node may approve by itself of a card on a settlement date.
@@ -25,7 +25,7 @@ pub struct Limits {
 fn has_currency(tables: &Tables, message: &Message) -> bool
     ensures { result ≡ bytes_eq (el message.now 49) tables.now.settings.currency }
 {
-    bytes_of(message, 49) == tables.settings().currency.as_slice()
+    bytes_of(message, elements::CURRENCY) == tables.settings().currency.as_slice()
 }
 
 impl Limits {
@@ -34,16 +34,16 @@ impl Limits {
         ensures { result ≡ code_by_limits self.now.allowance self.now.single tables.now.settings.currency self.now.used message.now (decimal (el message.now 4)) }
     {
         if self.allowance == 0 {
-            return Code::new(*b"91");
+            return Code::new(response_codes::ISSUER_OR_SWITCH_INOPERATIVE);
         }
         if !has_currency(tables, message) {
-            return Code::new(*b"57");
+            return Code::new(response_codes::NOT_PERMITTED_TO_CARDHOLDER);
         }
         let amount = amount_of(message).value();
         if self.single.value() < amount || !self.leaves(amount) {
-            return Code::new(*b"61");
+            return Code::new(response_codes::EXCEEDS_AMOUNT_LIMIT);
         }
-        Code::new(*b"00")
+        Code::new(response_codes::APPROVED)
     }
 
     /// Whether so much is left of the allowance.

@@ -15,6 +15,7 @@ ghost use Rattle.network_law.specs.Traces.{is_at_home};
 
 use card_digits::{Amount, Card, LinkNo, NodeNo, pad11};
 use iso_message::{Message, bytes_of};
+use message_elements::elements;
 use net_rows::{Issuer, StandIn, Tables};
 use network_law::Grant;
 
@@ -26,7 +27,7 @@ fn number_of(message: &Message) -> &[u8]
 {
     // Every message can be written, so element 2 has digits alone.
     let _ = message.kind();
-    bytes_of(message, 2)
+    bytes_of(message, elements::CARD_NUMBER)
 }
 
 /// The issuer of a message's card.

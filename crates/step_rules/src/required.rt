@@ -5,7 +5,7 @@ ghost use Rattle.network_law.specs.Refusals.{required_entered, required_taken, f
 
 use crate::elements::strange_original;
 use iso_message::Message;
-use message_elements::{Group, Kind};
+use message_elements::{Group, Kind, elements};
 
 /// The elements of a message of this group that an acquirer enters.
 pub fn required_entered(group: Group) -> &'static [u8]
@@ -76,7 +76,7 @@ fn missing(message: &Message, numbers: &[u8]) -> Option<u8>
         return absent;
     }
     if strange_original(message) {
-        return Some(90);
+        return Some(elements::ORIGINAL_DATA);
     }
     None
 }

@@ -8,7 +8,7 @@ use Rattle.message_elements.specs.declared.kind.Kind.TheVariants.{K0100, K0101, 
 use Rattle.message_elements.specs.declared.kind.Group.{Group}
 use Rattle.message_elements.specs.declared.kind.Group.TheVariants as groups
 use Rattle.iso_message.specs.Fields.{Fields, get, has, set_element, remove_element}
-use Rattle.message_elements.specs.Groups.{group, is_request, is_answer, is_04xx}
+use Rattle.message_elements.specs.Groups.{group, is_request, is_answer, is_04xx, is_advice_group}
 use Rattle.iso_message.specs.Made.{has_own_key, is_one_of, with_date, without_forwarder}
 use Rattle.message_keys.specs.Keys.{has_key, has_identity, is_identified}
 use Rattle.iso_message.proofs.Changes.{get_set, get_remove}
@@ -18,7 +18,6 @@ use Rattle.network_law.specs.declared.fault.StepFault.TheVariants.{Missing, Type
 use Rattle.network_law.specs.Cards.{text_of}
 use Rattle.network_law.specs.Refusals.{when, first_missing, missing, required_entered, required_taken, entered_kind, taken_kind}
 use Rattle.network_law.specs.Traces as messages
-use Rattle.network_law.specs.Traces.{is_advice_group}
 use Rattle.network_law.proofs.Refused.{or_none, when_none}
 use Rattle.node_machine.specs.Books.{Books}
 use Rattle.node_machine.specs.Machine.{refuse}

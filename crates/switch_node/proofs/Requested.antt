@@ -7,7 +7,7 @@ use Rattle.std.specs.Option.{option_map, option_and_then}
 use Rattle.card_digits.specs.declared.key.Key.{Key}
 use Rattle.message_elements.specs.declared.kind.Kind.{Kind}
 use Rattle.message_elements.specs.declared.kind.Kind.TheVariants.{K0100, K0101, K0110, K0120, K0121, K0130, K0400, K0401, K0410, K0420, K0421, K0430}
-use Rattle.message_elements.specs.Groups.{group, is_answer}
+use Rattle.message_elements.specs.Groups.{group, is_answer, is_advice_group}
 use Rattle.iso_message.specs.Fields.{Fields, as_kind}
 use Rattle.message_elements.specs.Codes.{code_00, code_14, code_68, code_92, code_94, code_96}
 use Rattle.message_keys.specs.Keys.{key_of, identity_of, content, content_eq}
@@ -16,7 +16,7 @@ use Rattle.net_rows.specs.Network.{Network}
 use Rattle.net_rows.specs.declared.row.Issuer.{Issuer}
 use Rattle.network_law.specs.Cards.{Bytes, card_of}
 use Rattle.network_law.specs.Tables.{route_links, is_home}
-use Rattle.network_law.specs.Traces.{Source, Ask, as_kept, is_advice_group}
+use Rattle.network_law.specs.Traces.{Source, Ask, as_kept}
 use Rattle.network_law.specs.Decision.{same_source}
 use Rattle.node_machine.specs.Books.{Request, Books}
 use Rattle.node_machine.specs.Machine as machine

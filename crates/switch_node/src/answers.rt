@@ -13,7 +13,7 @@ ghost use Rattle.request_book.specs.Values.{IsKeyOf, source_of};
 use crate::responses::respond;
 use card_digits::{Key, LinkNo, NodeNo};
 use iso_message::Message;
-use message_elements::Code;
+use message_elements::{Code, response_codes};
 use message_keys::code_of;
 use net_rows::Tables;
 use std::alloc::AllocError;
@@ -64,7 +64,8 @@ pub(crate) fn on_code(
         row.message().decode_into(room)?;
         return respond(draft, source, own, room, as_code(other, code));
     }
-    let late = code.as_slice() == b"00".as_slice() && comes_late(draft.books(), tables, node, key);
+    let late = code.as_slice() == response_codes::APPROVED.as_slice()
+        && comes_late(draft.books(), tables, node, key);
     if !late {
         return Ok(());
     }
@@ -85,7 +86,15 @@ pub(crate) fn on_host(
     ensures ok { OnOk result (progress draft.new ≡ on_host tables.now node (view tables.now node draft.old.base) code ((view tables.now node draft.old.base).ask_key ask) (progress draft.old)) }
 {
     match draft.books().ask(ask) {
-        Some(key) => on_code(draft, tables, node, key, code, Code::new(*b"05"), room),
+        Some(key) => on_code(
+            draft,
+            tables,
+            node,
+            key,
+            code,
+            Code::new(response_codes::DO_NOT_HONOR),
+            room,
+        ),
         None => Ok(()),
     }
 }

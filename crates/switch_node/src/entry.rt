@@ -21,6 +21,7 @@ impl Model for Entry {
 }
 
 impl Entry {
+    /// An entry of an input and of what the node put out for it.
     pub fn new(input: Input, outputs: SharedOutputs) -> Entry
         ensures { result ≡ record { input = input; outputs = outputs } }
     {

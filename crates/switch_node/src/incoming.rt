@@ -1,16 +1,15 @@
 //! Messages that come to a node.
 ghost use Rattle.std.specs.Prelude.{◌≡◌, ◌&&◌, ℕ, bytes_eq, [], IfOk, IfSome, OnOk, true, false};
-ghost use Rattle.std.specs.Option.{option_and_then};
 ghost use Rattle.card_digits.specs.Digits.{IsDateLabel};
 ghost use Rattle.iso_message.specs.Fields.{has};
-ghost use Rattle.message_elements.specs.Groups.{group, is_request};
+ghost use Rattle.message_elements.specs.Groups.{group, is_request, is_advice_group};
 ghost use Rattle.message_keys.specs.Keys.{key_of, identity_of, has_identity, has_key, code_of};
 ghost use Rattle.message_elements.specs.Codes.{code_00};
 ghost use Rattle.iso_message.specs.Made.{without_forwarder};
 ghost use Rattle.net_rows.specs.Network.{Network};
 ghost use Rattle.network_law.specs.Cards.{text_of};
-ghost use Rattle.network_law.specs.Traces.{ByLink, Enter, Take, is_ack, dated, is_advice_group, is_link};
-ghost use Rattle.node_machine.specs.Lists.{LeftAsMarked, of_key, row_link, view};
+ghost use Rattle.network_law.specs.Traces.{ByLink, Enter, Take, is_ack, dated};
+ghost use Rattle.node_machine.specs.Lists.{LeftAsMarked, view};
 ghost use Rattle.node_machine.specs.Steps.{on_advice, on_answer, on_group, on_request, on_reversal, step};
 ghost use Rattle.node_books.specs.Effects.{progress};
 ghost use Rattle.request_book.specs.Values.{IsKeyOf, source_of};
@@ -22,11 +21,11 @@ use crate::notices::{on_advice, on_reversal};
 use crate::requests::on_request;
 use card_digits::{DateLabel, Key, LinkNo, NodeNo};
 use iso_message::Message;
-use message_elements::{Code, DecodeFault, Group};
+use message_elements::{Code, DecodeFault, Group, elements, response_codes};
 use message_keys::{AdviceId, advice_id, code_of, key_of};
 use net_rows::Tables;
 use node_books::Effect;
-use request_book::{KeptMessage, Row, is_request};
+use request_book::{KeptMessage, Row};
 use std::alloc::AllocError;
 use step_draft::Draft;
 use step_rules::is_approval;
@@ -85,12 +84,12 @@ fn identity(m: &Message) -> AdviceId
 fn prepare(draft: &Draft, m: &mut Message) -> Result<(), AllocError>
     ensures { OnOk result (m.new ≡ dated draft.now.base.date (without_forwarder m.old)) }
 {
-    m.remove(33);
-    if !is_request(m.kind()) {
+    m.remove(elements::FORWARDING_INSTITUTION);
+    if !m.kind().is_request() {
         return Ok(());
     }
     let text = date_text(&draft.books().date());
-    match m.set(15, &text) {
+    match m.set(elements::SETTLEMENT_DATE, &text) {
         Ok(()) => Ok(()),
         Err(fault) => match fault {
             DecodeFault::Memory => Err(AllocError),
@@ -121,7 +120,7 @@ fn open(
     ensures kept { IfOk result (λ opened. IfSome opened (λ o. o.kept ≡ m.now)) }
     ensures key { IfOk result (λ opened. IfSome opened (λ o. IsKeyOf o.key m.now)) }
 {
-    if !is_request(m.kind()) {
+    if !m.kind().is_request() {
         return Ok(None);
     }
     let key = request_key(m);
@@ -130,19 +129,6 @@ fn open(
     let row = Row::new(key, request, source, draft.books().count());
     draft.change(Effect::Opened(row))?;
     Ok(Some(Opened { key, kept }))
-}
-
-/// Whether the key's request was put on this link before the entry.
-fn was_put_on(draft: &Draft, key: Key, link: LinkNo) -> bool
-    ensures { result ≡ is_link link (option_and_then row_link (of_key key draft.now.base.rows)) }
-{
-    match draft.books().of_key(key) {
-        Some(row) => match row.link() {
-            Some(own) => own == link,
-            None => false,
-        },
-        None => false,
-    }
 }
 
 /// An answer counts on the link on which its request was put.
@@ -165,10 +151,18 @@ fn on_answer(
     let Some(code) = code_of(m) else {
         unreachable!();
     };
-    if !was_put_on(draft, key, link) {
+    if !draft.books().was_put_on(key, link) {
         return Ok(());
     }
-    on_code(draft, tables, node, key, code, Code::new(*b"96"), m)
+    on_code(
+        draft,
+        tables,
+        node,
+        key,
+        code,
+        Code::new(response_codes::SYSTEM_MALFUNCTION),
+        m,
+    )
 }
 
 fn on_keyed_request(

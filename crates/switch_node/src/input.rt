@@ -34,6 +34,7 @@ impl BoxedLending {
         Ok(BoxedLending { order })
     }
 
+    /// What is to be lent, and to whom.
     pub fn order(&self) -> &Lending
         ensures { result.now ≡ self.now }
     {
@@ -93,6 +94,7 @@ impl Input {
     ghost use Rattle.network_law.specs.Runs.{IsTyped};
     ghost use Rattle.switch_node.specs.Inputs.{input_of};
 
+    /// The input that this case is.
     pub fn new(case: Case) -> Input
         ensures case { result ≡ input_of case }
         ensures typed { IsTyped result }
@@ -100,6 +102,7 @@ impl Input {
         Input { case }
     }
 
+    /// Which input it is, with its parts.
     pub fn case(&self) -> &Case
         ensures { input_of result.now ≡ self.now }
     {

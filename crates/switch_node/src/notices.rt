@@ -1,9 +1,8 @@
 //! Reversals and stand-in advices.
 ghost use Rattle.std.specs.Prelude.{◌≡◌, ℕ, true, OnOk};
 ghost use Rattle.message_elements.specs.Codes.{code_68};
-ghost use Rattle.message_elements.specs.Groups.{group};
+ghost use Rattle.message_elements.specs.Groups.{group, is_advice_group};
 ghost use Rattle.message_keys.specs.Keys.{identity_of, key_of};
-ghost use Rattle.network_law.specs.Traces.{is_advice_group};
 ghost use Rattle.node_machine.specs.Lists.{leaves, view};
 ghost use Rattle.node_machine.specs.Machine.{is_pending};
 ghost use Rattle.node_machine.specs.Steps.{accept, answer_pending, on_advice, on_reversal};
@@ -14,7 +13,7 @@ ghost use Rattle.switch_node.specs.Coming.{refusal_code};
 use crate::responses::respond;
 use card_digits::{Amount, Key, LinkNo, NodeNo};
 use iso_message::Message;
-use message_elements::Code;
+use message_elements::{Code, response_codes};
 use message_keys::{AdviceId, actual_amount};
 use net_rows::Tables;
 use std::alloc::AllocError;
@@ -47,7 +46,7 @@ fn accept(
     ensures base { draft.new.base ≡ draft.old.base }
     ensures ok { OnOk result (progress draft.new ≡ accept tables.now node (view tables.now node draft.old.base) m.now (source_of source) (progress draft.old)) }
 {
-    draft.respond(source, id.key, m, Code::new(*b"00"))?;
+    draft.respond(source, id.key, m, Code::new(response_codes::APPROVED))?;
     let count = draft.count_now();
     let advice = Advice::kept(id, m)?;
     let copy = advice.copy()?;
@@ -75,7 +74,13 @@ fn answer_pending(
     let own = row.key();
     let source = row.source();
     let mut request = row.message().decode()?;
-    respond(draft, source, own, &mut request, Code::new(*b"68"))
+    respond(
+        draft,
+        source,
+        own,
+        &mut request,
+        Code::new(response_codes::RESPONSE_RECEIVED_TOO_LATE),
+    )
 }
 
 /// The code of the response to a reversal or an advice that is not kept: 14 of a bad card, 92 without an issuer, 94 of other content,
@@ -84,16 +89,16 @@ fn refusal(tables: &Tables, m: &Message, other: bool, known: bool) -> Option<Cod
     ensures { result ≡ refusal_code tables.now m.now other known }
 {
     if !has_good_card(m) {
-        return Some(Code::new(*b"14"));
+        return Some(Code::new(response_codes::INVALID_CARD_NUMBER));
     }
     if !has_issuer(tables, m) {
-        return Some(Code::new(*b"92"));
+        return Some(Code::new(response_codes::NO_INSTITUTION_FOUND_FOR_ROUTING));
     }
     if other {
-        return Some(Code::new(*b"94"));
+        return Some(Code::new(response_codes::DUPLICATE_TRANSMISSION));
     }
     if known {
-        return Some(Code::new(*b"00"));
+        return Some(Code::new(response_codes::APPROVED));
     }
     None
 }

@@ -73,6 +73,7 @@ impl OwnedNode {
         Ok(OwnedNode { tables, state })
     }
 
+    /// The tables that the node owns.
     pub fn tables(&self) -> &Tables
         ensures { result.now ≡ self.now.t }
     {

@@ -19,19 +19,17 @@ ghost use Rattle.std.specs.Prelude.{false};
 ghost use Rattle.node_books.specs.Effects.{progress};
 ghost use Rattle.request_book.specs.Values.{IsAnswerOf, IsKeyOf, source_of};
 ghost use Rattle.step_draft.specs.Used.{IsQuiet};
-ghost use Rattle.node_machine.specs.Lists.{link_at};
 
 use card_digits::{Key, LinkNo, NodeNo};
 use iso_message::Message;
-use message_elements::{Code, Kind};
+use message_elements::{Code, Kind, response_codes};
 use message_keys::same_content;
 use net_rows::Tables;
-use node_books::Books;
 use request_book::{KeptMessage, PreparedOutput, Row, Way};
 use std::alloc::AllocError;
 use step_draft::Draft;
 use step_refusals::{PLACES, same_source};
-use step_rules::{has_good_card, is_home, issuer_of, route_links};
+use step_rules::{first_up, has_good_card, is_home, issuer_of, route_links};
 
 /// A request as it is put on a link, or asked of the host: with the type 0100, which what is kept of it may have already.
 #[tactic(auto, using(crate::proofs::Messages::forward_key, crate::proofs::Messages::forward_same))]
@@ -55,29 +53,6 @@ fn forwarded(
             draft.kept(&forward)
         }
     }
-}
-
-/// Whether a link was up before the entry.
-fn was_up(books: &Books, link: LinkNo) -> bool
-    ensures { result ≡ (link_at books.now.lists.links link).up }
-{
-    let links = books.links();
-    match links.get(link.place()) {
-        Some(state) => state.is_up(),
-        None => true,
-    }
-}
-
-/// The first of these links that was up before the entry.
-fn first_up(books: &Books, links: &[LinkNo]) -> Option<LinkNo>
-    ensures { result ≡ find (λ l. (link_at books.now.lists.links l).up) links.now }
-{
-    for link in links {
-        if was_up(books, *link) {
-            return Some(*link);
-        }
-    }
-    None
 }
 
 /// Whether a request came by this way, with the content of this message.
@@ -181,11 +156,21 @@ fn take_request(
     ensures ok { OnOk result (progress draft.new ≡ on_issuer tables.now node (view tables.now node draft.old.base) m.now (source_of source) (issuer tables.now (card_of m.now)) (progress draft.old)) }
 {
     let Some(issuer) = issuer_of(tables, m) else {
-        return draft.respond(source, key, m, Code::new(*b"92"));
+        return draft.respond(
+            source,
+            key,
+            m,
+            Code::new(response_codes::NO_INSTITUTION_FOUND_FOR_ROUTING),
+        );
     };
     let home = is_home(issuer, node);
     if is_full(draft) {
-        return draft.respond(source, key, m, Code::new(*b"96"));
+        return draft.respond(
+            source,
+            key,
+            m,
+            Code::new(response_codes::SYSTEM_MALFUNCTION),
+        );
     }
     if home {
         return ask(draft, key, m, kept);
@@ -211,10 +196,20 @@ fn on_new_request(
     ensures ok { OnOk result (progress draft.new ≡ on_request tables.now node (view tables.now node draft.old.base) m.now (source_of source) None (progress draft.old)) }
 {
     if draft.books().is_marked(key) {
-        return draft.respond(source, key, m, Code::new(*b"68"));
+        return draft.respond(
+            source,
+            key,
+            m,
+            Code::new(response_codes::RESPONSE_RECEIVED_TOO_LATE),
+        );
     }
     if !has_good_card(m) {
-        return draft.respond(source, key, m, Code::new(*b"14"));
+        return draft.respond(
+            source,
+            key,
+            m,
+            Code::new(response_codes::INVALID_CARD_NUMBER),
+        );
     }
     take_request(draft, tables, node, key, m, kept, source)
 }
@@ -259,7 +254,12 @@ fn repeat(
     ensures other { OnOk result ((t : Network) (n : ℕ) → same ≡ false → progress draft.new ≡ reply t n (source_of source) (response m.now code_94) (progress draft.old)) }
 {
     if !same {
-        return draft.respond(source, key, m, Code::new(*b"94"));
+        return draft.respond(
+            source,
+            key,
+            m,
+            Code::new(response_codes::DUPLICATE_TRANSMISSION),
+        );
     }
     match answer {
         Some(again) => draft.reply_kept(source, key, again),

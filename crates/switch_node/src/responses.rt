@@ -1,34 +1,24 @@
 //! Responses in the place of their messages.
 ghost use Rattle.std.specs.Prelude.{◌≡◌, ℕ, true, OnOk};
 ghost use Rattle.message_keys.specs.Keys.{key_of};
-ghost use Rattle.iso_message.specs.Made.{is_one_of, kept, response, response_numbers};
+ghost use Rattle.iso_message.specs.Made.{kept, response, response_numbers};
 ghost use Rattle.net_rows.specs.Network.{Network};
 ghost use Rattle.node_machine.specs.Steps.{reply};
 ghost use Rattle.node_books.specs.Effects.{progress};
 ghost use Rattle.request_book.specs.Values.{source_of};
 
 use card_digits::{Key, LinkNo};
-use iso_message::Message;
-use message_elements::{Code, DecodeFault};
+use iso_message::{Message, is_in_response};
+use message_elements::{Code, DecodeFault, elements};
 use std::alloc::AllocError;
 use step_draft::Draft;
-
-/// Whether a response carries an element of the number on.
-fn is_carried(number: u8) -> bool
-    ensures { result ≡ is_one_of response_numbers number }
-{
-    matches!(
-        number,
-        2 | 3 | 4 | 7 | 11 | 15 | 32 | 33 | 37 | 41 | 49 | 90
-    )
-}
 
 /// Whether a response carries all elements of the message on.
 fn is_all_carried(m: &Message) -> bool
     ensures { result ≡ true → kept response_numbers m.now.elements ≡ m.now.elements }
 {
     for (number, _) in m.iter() {
-        if !is_carried(number) {
+        if !is_in_response(number) {
             return false;
         }
     }
@@ -42,7 +32,7 @@ fn make_response(m: &mut Message, code: Code) -> Result<(), AllocError>
     ensures { OnOk result (m.new ≡ response m.old code) }
 {
     m.set_kind(m.kind().response());
-    match m.set(39, code.as_slice()) {
+    match m.set(elements::RESPONSE_CODE, code.as_slice()) {
         Ok(()) => Ok(()),
         Err(fault) => match fault {
             DecodeFault::Memory => Err(AllocError),

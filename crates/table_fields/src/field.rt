@@ -5,11 +5,9 @@ use crate::fault::TableFault;
 use crate::keys::{get, has_only};
 use crate::place::{Key, Place, Table};
 use crate::value::{all_names, currency_of, date_of, ends_of, id_of, name_of, prefix_of, whole_of};
-use card_digits::{Amount, DateLabel, Id, Name, Prefix, ShortBytes};
+use card_digits::{Amount, DateLabel, Id, MOST_AMOUNT, Name, Prefix, ShortBytes};
 use std::alloc::Global;
 use toml::Value;
-
-const MOST_AMOUNT: u64 = 999_999_999_999;
 
 /// A row of the text, and where it stands.
 #[derive(Clone, Copy)]

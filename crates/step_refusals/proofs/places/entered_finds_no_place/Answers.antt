@@ -1,9 +1,8 @@
 use Rattle.std.proofs.Common.{◌≡◌, true, false, replicate, sym, ap, ◌∙◌, inl, inr}
 use Rattle.std.proofs.lemmas.Bool.{cases_Bool}
 use Rattle.message_keys.specs.declared.keys.AdviceId.{AdviceId}
-use Rattle.message_elements.specs.Groups.{group}
+use Rattle.message_elements.specs.Groups.{group, is_advice_group}
 use Rattle.message_keys.proofs.KeyLemmas.{when_some, when_none}
-use Rattle.network_law.specs.Traces.{is_advice_group}
 use Rattle.step_refusals.specs.Places.{finds_no_place_as}
 use Rattle.step_refusals.proofs.Entered.{entered_is, none_entered}
 use Rattle.step_refusals.proofs.Loads.{if_ok_is}

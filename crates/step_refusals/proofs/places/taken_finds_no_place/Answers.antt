@@ -1,8 +1,7 @@
 use Rattle.std.proofs.Common.{◌≡◌, true, false, sym, ap, ◌∙◌, inl, inr}
 use Rattle.std.proofs.lemmas.Bool.{cases_Bool}
-use Rattle.message_elements.specs.Groups.{group}
+use Rattle.message_elements.specs.Groups.{group, is_advice_group}
 use Rattle.message_keys.proofs.KeyLemmas.{when_some, when_none}
-use Rattle.network_law.specs.Traces.{is_advice_group}
 use Rattle.step_refusals.specs.Places.{finds_no_place_as}
 use Rattle.step_refusals.proofs.Entered.{taken_is, none_taken}
 use Rattle.step_refusals.proofs.Loads.{if_ok_is}
