@@ -1,7 +1,7 @@
 //! What waits for its acknowledgement.
 ghost use Rattle.std.specs.Prelude.{◌≡◌, IfOk};
 ghost use Rattle.message_keys.specs.Keys.{identity_of};
-ghost use Rattle.node_machine.specs.Books.{Advised, Granted};
+ghost use Rattle.node_machine.specs.Books.{Advised};
 ghost use Rattle.node_machine.specs.Machine.{is_due, was_put};
 ghost use Rattle.advice_store.specs.Advices.{marked_by, stored_of};
 ghost use Rattle.advice_store.specs.Kept.{key_of, count_of};

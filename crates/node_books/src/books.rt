@@ -1,27 +1,21 @@
 //! All books of a node.
-ghost use Rattle.std.specs.Prelude.{◌≡◌, ◌+◌, ◌-◌, ◌<◌, ◌≤◌, ◌^◌, suc, [], ◌∷◌, ◌++◌, map, filter, not, OnOk, OnErr, IfOk, length, replicate};
-ghost use Rattle.node_machine.specs.Lists.{row_after, row_link, after_output, ask_at, of_key, is_marked, left_marks, is_among, fresh};
+ghost use Rattle.std.specs.Prelude.{◌≡◌, ◌+◌, ◌-◌, ◌<◌, ◌≤◌, ◌^◌, [], ◌∷◌, ◌++◌, filter, OnOk, IfOk, length, replicate, ℕ, is_some, vec_len, vec_capacity};
+ghost use Rattle.node_machine.specs.Lists.{row_link, after_output, ask_at, of_key, is_marked, left_marks, is_among, fresh, view};
 ghost use Rattle.std.specs.Option.{option_and_then, option_copied};
 ghost use Rattle.node_books.specs.Effects.{applied_one, keep_in};
 ghost use Rattle.node_books.specs.Values.{AreFew};
 ghost use Rattle.node_machine.specs.Counts.{PutsAreWithin};
-ghost use Rattle.request_book.specs.Values.{AreBetween, AreCovered, IsUnique, waits_on};
+ghost use Rattle.request_book.specs.Values.{AreBetween, AreCovered, IsUnique, waits_on, message_of};
 ghost use Rattle.net_rows.specs.Network.{Network};
-ghost use Rattle.node_machine.specs.Machine.{borrowed_for, is_due, lent_for, load};
+ghost use Rattle.node_machine.specs.Machine.{borrowed_for, is_due, lent_for, load, was_put};
 ghost use Rattle.node_machine.specs.Lists as lists;
-ghost use Rattle.network_law.specs.Traces.{added, is_link};
-ghost use Rattle.node_machine.specs.Lists.{view};
-ghost use Rattle.std.specs.Prelude.{ℕ, is_some};
+ghost use Rattle.network_law.specs.Traces.{added, is_link, PutPacket};
 ghost use Rattle.node_books.specs.declared.effect.Effect.TheVariants.{Lent};
-ghost use Rattle.network_law.specs.Traces.{PutPacket};
 ghost use Rattle.std.specs.List.{list_any};
-ghost use Rattle.node_machine.specs.Machine.{was_put};
 ghost use Rattle.advice_store.specs.Advices.{has_id};
 ghost use Rattle.standin_book.specs.Lending.{allowance};
-ghost use Rattle.std.specs.Prelude.{vec_len, vec_capacity};
 ghost use Rattle.request_book.specs.Ways.{advice_of};
-ghost use Rattle.node_books.specs.Ways.{asks_by, after_way, store_by};
-ghost use Rattle.request_book.specs.Values.{message_of};
+ghost use Rattle.node_books.specs.Ways.{asks_by, store_by};
 
 use crate::effect::{Effect, NewAdvice};
 use crate::links::{LinkState, Links};

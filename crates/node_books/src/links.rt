@@ -1,5 +1,5 @@
 //! The links of a node.
-ghost use Rattle.std.specs.Prelude.{◌≡◌, ◌+◌, ◌<◌, ◌≤◌, ◌^◌, suc, [], ◌∷◌, ◌++◌, true, replicate, IsTrue, IfOk, length};
+ghost use Rattle.std.specs.Prelude.{◌≡◌, ◌+◌, ◌<◌, ◌≤◌, ◌^◌, suc, [], ◌∷◌, ◌++◌, true, replicate, IfOk};
 ghost use Rattle.node_machine.specs.Counts.{PutsAreWithin};
 ghost use Rattle.node_machine.specs.Lists.{link_at, with_up, with_put, fresh};
 ghost use Rattle.node_books.specs.Ways.{links_by};

@@ -1,5 +1,5 @@
 //! A request, open or answered.
-ghost use Rattle.std.specs.Prelude.{◌≡◌, None, is_none};
+ghost use Rattle.std.specs.Prelude.{◌≡◌, true, false, None, is_none};
 ghost use Rattle.std.specs.Option.{option_copied};
 ghost use Rattle.message_keys.specs.Keys.{key_eq};
 ghost use Rattle.node_machine.specs.Lists.{row_after};

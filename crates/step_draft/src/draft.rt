@@ -1,5 +1,5 @@
 //! The books before an entry, and what the entry did so far.
-ghost use Rattle.std.specs.Prelude.{◌≡◌, ◌≤◌, ◌<◌, List, [], ◌∷◌, OnOk, OnErr, IfOk, length, vec_len, vec_capacity, false};
+ghost use Rattle.std.specs.Prelude.{◌≡◌, ◌≤◌, ◌<◌, List, [], ◌∷◌, OnOk, OnErr, IfOk, length, false};
 ghost use Rattle.node_machine.specs.Lists.{Mark};
 ghost use Rattle.node_books.specs.declared.effect.Effect.{Effect};
 ghost use Rattle.step_draft.specs.Used.{AreLateUses};

@@ -1,5 +1,5 @@
 //! What ticks and links that go down do.
-ghost use Rattle.std.specs.Prelude.{◌≡◌, ◌≤◌, ◌<◌, ◌+◌, ◌==◌, ◌^◌, IfOk, OnOk, length, drop, suc};
+ghost use Rattle.std.specs.Prelude.{◌≡◌, ◌≤◌, ◌<◌, ◌+◌, ◌==◌, ◌^◌, IfOk, OnOk, length, drop};
 ghost use Rattle.network_law.specs.Traces.{LinkDown, Tick};
 ghost use Rattle.node_machine.specs.Lists.{LeftAsMarked, row_fails, view};
 ghost use Rattle.node_machine.specs.Machine.{due, failing};

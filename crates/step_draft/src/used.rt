@@ -3,7 +3,6 @@ ghost use Rattle.std.specs.Prelude.{◌≡◌, ◌<◌, ◌^◌, ℕ, drop};
 ghost use Rattle.net_rows.specs.Network.{Network};
 ghost use Rattle.network_law.specs.Cards.{card_of, label_of};
 ghost use Rattle.network_law.specs.Traces.{added};
-ghost use Rattle.node_machine.specs.Books.{Taken};
 ghost use Rattle.node_machine.specs.Lists.{LeftAsMarked, forget, view};
 ghost use Rattle.node_machine.specs.Machine.{limit, standin_code, used};
 ghost use Rattle.node_books.specs.Effects.{progress};

@@ -1,14 +1,11 @@
 //! Answers to what the node forwarded or asked.
-ghost use Rattle.std.specs.Prelude.{◌≡◌, ℕ, true, false, OnOk};
-ghost use Rattle.message_elements.specs.Codes.{code_96};
-ghost use Rattle.iso_message.specs.Fields.{has};
-ghost use Rattle.message_keys.specs.Keys.{key_of};
+ghost use Rattle.std.specs.Prelude.{◌≡◌, true, false, OnOk};
 ghost use Rattle.iso_message.specs.Made.{made_reversal};
 ghost use Rattle.network_law.specs.Tables.{node_id};
 ghost use Rattle.node_machine.specs.Lists.{view};
-ghost use Rattle.node_machine.specs.Steps.{keep, on_answer, on_code, on_host, store};
+ghost use Rattle.node_machine.specs.Steps.{keep, on_code, on_host, store};
 ghost use Rattle.node_books.specs.Effects.{progress};
-ghost use Rattle.request_book.specs.Values.{IsKeyOf, source_of};
+ghost use Rattle.request_book.specs.Values.{IsKeyOf};
 
 use crate::responses::respond;
 use card_digits::{Key, LinkNo, NodeNo};

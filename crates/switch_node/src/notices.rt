@@ -1,8 +1,8 @@
 //! Reversals and stand-in advices.
-ghost use Rattle.std.specs.Prelude.{◌≡◌, ℕ, true, OnOk};
+ghost use Rattle.std.specs.Prelude.{◌≡◌, true, OnOk};
 ghost use Rattle.message_elements.specs.Codes.{code_68};
 ghost use Rattle.message_elements.specs.Groups.{group, is_advice_group};
-ghost use Rattle.message_keys.specs.Keys.{identity_of, key_of};
+ghost use Rattle.message_keys.specs.Keys.{identity_of};
 ghost use Rattle.node_machine.specs.Lists.{leaves, view};
 ghost use Rattle.node_machine.specs.Machine.{is_pending};
 ghost use Rattle.node_machine.specs.Steps.{accept, answer_pending, on_advice, on_reversal};

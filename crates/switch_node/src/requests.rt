@@ -1,8 +1,7 @@
 //! Requests.
-ghost use Rattle.std.specs.Prelude.{◌≡◌, ◌+◌, ℕ, suc, IfOk, IfSome, OnOk, None, find, is_some, nat_lt, true};
+ghost use Rattle.std.specs.Prelude.{◌≡◌, ◌+◌, ℕ, suc, IfOk, IfSome, OnOk, None, find, is_some, nat_lt, true, ◌&&◌, false};
 ghost use Rattle.iso_message.specs.Fields.{as_kind};
 ghost use Rattle.message_elements.specs.declared.kind.Kind.TheVariants.{K0100};
-ghost use Rattle.message_elements.specs.Groups.{is_answer};
 ghost use Rattle.message_keys.specs.Keys.{key_of, content, content_eq};
 ghost use Rattle.net_rows.specs.Network.{Network, issuer};
 ghost use Rattle.network_law.specs.Cards.{card_of};
@@ -13,9 +12,7 @@ ghost use Rattle.node_machine.specs.Machine.{load};
 ghost use Rattle.node_machine.specs.Steps.{emit, on_forward, on_issuer, on_repeat, on_request, reply};
 ghost use Rattle.message_elements.specs.Codes.{code_94};
 ghost use Rattle.network_law.specs.Decision.{same_source};
-ghost use Rattle.std.specs.Prelude.{◌&&◌};
 ghost use Rattle.iso_message.specs.Made.{response};
-ghost use Rattle.std.specs.Prelude.{false};
 ghost use Rattle.node_books.specs.Effects.{progress};
 ghost use Rattle.request_book.specs.Values.{IsAnswerOf, IsKeyOf, source_of};
 ghost use Rattle.step_draft.specs.Used.{IsQuiet};
