@@ -132,4 +132,5 @@ def main():
             print("%-9s %8d bytes %7d lines %7.2f s %9d lines/s %5.1f times the input %5.1f without its own%s" % (kind, len(text), lines, seconds, lines / seconds, memory / len(text), (memory - empty) / len(text), note), flush=True)
 
 
-main()
+if __name__ == "__main__":
+    main()

@@ -16,7 +16,7 @@ pub enum DigitFault {
 }
 
 /// A card number of 8 to 19 digits.
-#[derive(Clone, Copy, Debug, PartialEq, Eq, Hash)]
+#[derive(Clone, Copy, Debug, PartialEq, Eq, PartialOrd, Ord, Hash)]
 pub struct Card {
     digits: ShortBytes<19>,
 }
