@@ -25,6 +25,7 @@ Of the last four `check` refuses the first rank that is missing. WHERE is
 
 The second form prints the least processor seconds of nine runs of other keys and of chosen ones, by turns, with the quotient. It needs cc."""
 
+import functools
 import resource
 import subprocess
 import sys
@@ -41,6 +42,7 @@ NODES = 64
 MOST_ROUTES = 4096
 
 
+@functools.cache
 def found(source, *words):
     """What a program of crowded_parts prints."""
     with tempfile.TemporaryDirectory() as folder:
