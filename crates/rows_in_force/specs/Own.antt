@@ -1,5 +1,5 @@
 -- Rows of one prefix.
-use Rattle.std.specs.Prelude.{◌≡◌, ℕ, zero, suc, ◌<◌, ◌≤◌, ◌==◌, ◌&&◌, Bool, false, List, length, Option, None, Some, slice_get, if◌then◌else◌}
+use Rattle.std.specs.Prelude.{◌≡◌, ℕ, zero, suc, ◌<◌, ◌≤◌, ◌==◌, ◌&&◌, Bool, false, List, [], ◌∷◌, length, Option, None, Some, slice_get, if◌then◌else◌}
 use Rattle.std.specs.List.{find}
 use Rattle.std.specs.Map.{lookup}
 use Rattle.std.specs.Option.{option_map_or}
@@ -28,3 +28,8 @@ module _ {R : Type 0} (prefix_of : R → List ℕ) where
 -- the first of the node's rows with this very prefix
 abbrev pub own_row : {R : Type 0} → (R → ℕ) → (R → List ℕ) → List R → ℕ → List ℕ → Option R
 own_row node_of prefix_of rows n prefix = find (λ r. (node_of r == n) && pointwise ◌==◌ (prefix_of r) prefix) rows
+
+-- so many places, one after the other
+abbrev pub places_from : ℕ → ℕ → List (Option ℕ)
+places_from place zero = []
+places_from place (suc n) = Some place ∷ places_from (suc place) n
