@@ -10,17 +10,22 @@ The program's hash has a fixed seed, so whoever chooses keys also chooses their 
 - identities: reversals, whose identities stay known (at most 65,536, as all that follow)
 - stored:     the same, by what the store of advices knows them by
 - cards:      requests of different cards that the node approves by itself, within the limit of each card and date
-- ranks:      ranks of prefixes, of which `check` refuses the first that is missing
+- ranks:      ranks of one node at different prefixes
+- apart:      the same, behind two ranks of one prefix that don't stand together, so that a rank is known by its node and its prefix
+- routes:     tables of 64 nodes with as many routes each (at most 4,096), of the same prefixes at each node
+- rows:       tables of 64 nodes with as many routes together (at most 262,144), each of another prefix
 
-WHERE is
+Of the last four `check` refuses the first rank that is missing. WHERE is
 
 - any:    in their order
 - place:  the lowest 13 bits of the hashes are alike, so that a table of up to 73,728 keys has one place for all of them
+- alike:  the lowest 9 bits are alike, one place for up to 4,608 keys, and the highest 8, by which a search tells keys of one place apart
 - near:   the places are the first eighth of 8,192
 - spread: the lowest 4 bits are alike, so that the keys share each sixteenth place
 
 The second form prints the least processor seconds of nine runs of other keys and of chosen ones, by turns, with the quotient. It needs cc."""
 
+import functools
 import resource
 import subprocess
 import sys
@@ -30,11 +35,14 @@ from pathlib import Path
 TOP = Path(__file__).resolve().parent.parent
 EXAMPLES = TOP / "examples"
 PARTS = TOP / "bench" / "crowded_parts"
-MASKS = {"any": 0, "place": 0x1FFF, "near": 0x1C00, "spread": 0xF}
+MASKS = {"any": 0, "place": 0x1FFF, "alike": 0xFF0001FF, "near": 0x1C00, "spread": 0xF}
 ACQUIRER = "400001"
 MOST_STORED = 65536
+NODES = 64
+MOST_ROUTES = 4096
 
 
+@functools.cache
 def found(source, *words):
     """What a program of crowded_parts prints."""
     with tempfile.TemporaryDirectory() as folder:
@@ -78,9 +86,44 @@ def cards_bundle(where, count):
     return network("link_fails") + "down AP A\ndown AQ A\n" + "".join(lines)
 
 
-def ranks_bundle(where, count):
-    lines = [f"A {prefix} 1\n" for (prefix,) in found("prefixes.c", count, MASKS[where], 0)]
-    return (EXAMPLES / "first" / "tables.toml").read_text() + "%%\nRANKS 1\n" + "".join(lines) + "END\n"
+def prefixes(where, count, *front):
+    return [prefix for (prefix,) in found("prefixes.c", count, MASKS[where], 0, *front)]
+
+
+def ranks_bundle(where, count, *front, first=""):
+    lines = [f"A {prefix} 1\n" for prefix in prefixes(where, count, *front)]
+    return (EXAMPLES / "first" / "tables.toml").read_text() + "%%\nRANKS 1\n" + first + "".join(lines) + "END\n"
+
+
+def apart_bundle(where, count):
+    return ranks_bundle(where, count, "A", first="A 5 1\nA 6 1\nH 5 0\n")
+
+
+def star(prefixes_of):
+    """A network of nodes about the issuer's, the last, and the routes of each, but no ranks."""
+    names = [f"N{number}" for number in range(10, 10 + NODES)]
+    home = names[-1]
+    # The home's routes take the first link.
+    links = [*names[:-1], names[0]]
+    head = '[network]\ncurrency = "840"\ndate = "0314"\nhost_ticks = 3\nadvice_ticks = 5\n'
+    nodes = [f'[[node]]\nname = "{name}"\nid = "{number + 1}"\n' for number, name in enumerate(names)]
+    spokes = [f'[[link]]\nname = "{name}"\nends = ["{name}", "{home}"]\nticks = 4\n' for name in names[:-1]]
+    issuer = f'[[issuer]]\nname = "I"\nprefix = "4"\nhome = "{home}"\nnamed = []\nceiling = 0\n'
+    routes = [
+        f'[[route]]\nnode = "{name}"\nprefix = "{prefix}"\nlinks = ["{link}"]\n'
+        for name, link, own in zip(names, links, prefixes_of)
+        for prefix in own
+    ]
+    return head + "".join(nodes + spokes) + issuer + "".join(routes) + "%%\nRANKS 1\nEND\n"
+
+
+def routes_bundle(where, count):
+    return star([prefixes(where, count)] * NODES)
+
+
+def rows_bundle(where, count):
+    found_prefixes = prefixes(where, count)
+    return star([found_prefixes[node::NODES] for node in range(NODES)])
 
 
 BUNDLES = {
@@ -89,13 +132,18 @@ BUNDLES = {
     "stored": lambda where, count: reversals_bundle(where, count, 2),
     "cards": cards_bundle,
     "ranks": ranks_bundle,
+    "apart": apart_bundle,
+    "routes": routes_bundle,
+    "rows": rows_bundle,
 }
+CHECKED = ("ranks", "apart", "routes", "rows")
+MOST = {"identities": MOST_STORED, "stored": MOST_STORED, "cards": MOST_STORED, "routes": MOST_ROUTES, "rows": NODES * MOST_ROUTES}
 
 
 def processor_seconds(program, what, path):
     before = resource.getrusage(resource.RUSAGE_CHILDREN)
     with open(path, "rb") as given:
-        subprocess.run([program, "check" if what == "ranks" else "replay"], stdin=given, stdout=subprocess.DEVNULL, check=False)
+        subprocess.run([program, "check" if what in CHECKED else "replay"], stdin=given, stdout=subprocess.DEVNULL, check=False)
     after = resource.getrusage(resource.RUSAGE_CHILDREN)
     return after.ru_utime + after.ru_stime - before.ru_utime - before.ru_stime
 
@@ -114,10 +162,9 @@ def least_seconds(program, what, where, count, folder):
 def print_times(program, counts):
     with tempfile.TemporaryDirectory() as folder:
         for what in BUNDLES:
-            for count in counts:
-                if what in ("identities", "stored", "cards"):
-                    count = min(count, MOST_STORED)
-                for where in ("place", "near", "spread"):
+            for count in sorted({min(count, MOST.get(what, count)) for count in counts}):
+                wheres = ("place", "near", "spread") if what != "routes" else ("place", "alike", "near", "spread")
+                for where in wheres:
                     plain, chosen = least_seconds(program, what, where, count, folder)
                     print(f"{what:<10} {count:>7} {where:<6} {plain:8.3f} s {chosen:8.3f} s {chosen / plain:6.2f}", flush=True)
 

@@ -35,18 +35,21 @@ int main(int argc, char **argv)
     uint64_t begin = 0x243f6a8885a308d3u;
     if (argc > 4)
         begin = folded(begin ^ short_word((unsigned char *)argv[4], strlen(argv[4])), MULTIPLIER ^ 2 * strlen(argv[4]));
-    for (uint64_t number = 0; count > 0 && number < 100000000000u; number++) {
-        unsigned char digits[12] = {4};
-        uint64_t rest = number, front, back;
-        for (int i = 11; rest > 0; i--, rest /= 10)
-            digits[i] = rest % 10;
+    unsigned char digits[12] = {4};
+    while (count > 0 && digits[0] == 4) {
+        uint64_t front, back;
         memcpy(&front, digits, 8);
         memcpy(&back, digits + 4, 8);
         uint64_t hash = folded(front ^ (begin + 12), back ^ MULTIPLIER);
         if (((hash ^ hash >> 32) & mask) == value) {
-            printf("4%011llu\n", (unsigned long long)number);
+            for (int i = 0; i < 12; i++)
+                putchar('0' + digits[i]);
+            putchar('\n');
             count--;
         }
+        int last = 11;
+        while (++digits[last] == 10)
+            digits[last--] = 0;
     }
     return 0;
 }

@@ -22,6 +22,7 @@ pub(crate) struct Lists {
 }
 
 impl Lists {
+    /// Lists without refusals.
     pub fn new(alloc: Global) -> Lists
         ensures { (rule : Rule) → list_of result rule ≡ [] }
     {

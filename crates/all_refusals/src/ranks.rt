@@ -4,9 +4,7 @@ ghost use Rattle.table_checker.specs.Ranks.{rank_at};
 ghost use Rattle.all_refusals.specs.Known.{AreRanks, IsFound, lookup_at};
 
 use crate::at::At;
-use card_digits::NodeNo;
-
-const MOST_NODES: usize = 64;
+use card_digits::{MOST_NODES, NodeNo};
 
 /// What is known of a node's rank.
 #[derive(Clone, Copy, Debug)]

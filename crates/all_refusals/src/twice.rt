@@ -11,11 +11,9 @@ ghost use Rattle.all_refusals.specs.Found.{again, repeated, too_long, acquirers_
 use crate::at::add;
 use crate::row::{RowRefusal, TableRow};
 use card_digits::{Id, LinkNo};
-use net_rows::{Acquirer, Link, Node, Tables};
+use net_rows::{Acquirer, Link, MOST_TICKS, Node, Tables};
 use std::alloc::{AllocError, Global};
 use table_checker::Refusal;
-
-const MOST_TICKS: u16 = 4_000;
 
 /// A table whose rows have ids.
 #[derive(Clone, Copy, Debug)]

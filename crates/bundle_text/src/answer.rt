@@ -46,6 +46,7 @@ impl Model for Answer {
 }
 
 impl Answer {
+    /// A text to print, and the status with which the program ends.
     pub fn new(text: Vec<u8>, status: Status) -> Answer
         ensures { result ≡ record { text = text.items; status = status } }
     {
@@ -59,6 +60,7 @@ impl Answer {
         &self.text
     }
 
+    /// The status with which the program ends.
     pub fn status(&self) -> Status
         ensures { result ≡ self.now.status }
     {

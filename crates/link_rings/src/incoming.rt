@@ -75,6 +75,7 @@ impl InRings {
         Ok(())
     }
 
+    /// How many rings there are.
     pub fn len(&self) -> usize
         ensures { result ≡ length self.now }
     {

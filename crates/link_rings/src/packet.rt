@@ -22,6 +22,7 @@ impl Model for Packet {
 }
 
 impl Packet {
+    /// A packet with the serial of its put, which counts from 1 on its link.
     pub fn new(serial: u64, bytes: SharedBytes) -> Packet
         ensures { result ≡ packet serial bytes }
     {
@@ -39,6 +40,7 @@ impl Packet {
         })
     }
 
+    /// The serial of its put, which counts from 1 on its link.
     pub fn serial(&self) -> u64
         ensures { result ≡ self.now.serial }
     {

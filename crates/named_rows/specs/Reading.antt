@@ -13,7 +13,7 @@ use Rattle.table_fields.specs.declared.place.Key.{Key}
 use Rattle.table_fields.specs.declared.place.Key.TheVariants as key
 use Rattle.table_fields.specs.declared.place.Place.{Place}
 use Rattle.named_rows.specs.Each.{each}
-use Rattle.named_rows.specs.Rows.{link_names, is_among}
+use Rattle.named_rows.specs.Rows.{Taken, link_names}
 
 -- the place, counted from 0, of the row of that name
 abbrev pub named : List (List ℕ) → Place → List ℕ → Result ℕ TableFault
@@ -55,10 +55,10 @@ links_at links node row k = do
   Ok found
 
 -- a row's node, and its prefix, which is new at the node
-unfoldable pub new_prefix_at : List (List ℕ) → (ℕ → List (List ℕ)) → RowText → Result (ℕ × List ℕ) TableFault
-new_prefix_at nodes prefixes row = do
+unfoldable pub new_prefix_at : List (List ℕ) → (ℕ → Taken) → RowText → Result (ℕ × List ℕ) TableFault
+new_prefix_at nodes taken row = do
   node ← node_at nodes row key.Node
-  room ← refuse (nat_le 4096 (length (prefixes node))) (TooMany row.table)
+  room ← refuse (nat_le 4096 (taken node).count) (TooMany row.table)
   prefix ← prefix_at row key.Prefix
-  new ← refuse (is_among (prefixes node) prefix) (Twice (place_of row key.Prefix))
+  new ← refuse ((taken node).has prefix) (Twice (place_of row key.Prefix))
   Ok (node, prefix)

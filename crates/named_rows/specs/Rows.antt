@@ -1,7 +1,10 @@
 -- What rows are known by, and what they have taken.
-use Rattle.std.specs.Prelude.{◌≡◌, ℕ, ◌==◌, ◌<◌, ◌≤◌, Bool, List, [], ◌∷◌, ◌++◌, map, length, slice_get, slice_set, unwrap_or}
+use Rattle.std.specs.Prelude.{◌≡◌, ℕ, ◌==◌, ◌<◌, ◌≤◌, Bool, false, List, map, length, slice_get, slice_set, unwrap_or}
 use Rattle.std.specs.List.{list_any}
-use Rattle.std.specs.Cmp.Lexicographic.{pointwise}
+use Rattle.std.specs.Ordering.{nat_cmp}
+use Rattle.std.specs.Cmp.Lexicographic.{pointwise, slice_cmp}
+use Rattle.std.specs.FinSet as set
+use Rattle.std.specs.Map.{keys_of}
 use Rattle.net_rows.specs.declared.row.Node.{Node}
 use Rattle.net_rows.specs.declared.row.Link.{Link}
 
@@ -20,20 +23,43 @@ pub record AreNamed {R : Type 0} (most : ℕ) (name_of : R → List ℕ) (names 
   pub same : names ≡ map name_of rows
   pub few : length rows ≤ most
 
--- the prefixes of a node, in lists for each node
-abbrev pub prefixes_at : List (List (List ℕ)) → ℕ → List (List ℕ)
-prefixes_at lists n = unwrap_or (slice_get lists n) []
+abbrev pub PrefixSet : Type 0
+PrefixSet = set.FinSet (slice_cmp nat_cmp)
 
--- no node has any
-abbrev pub AreEmpty : List (List (List ℕ)) → Type 0
-AreEmpty lists = (n : ℕ) → prefixes_at lists n ≡ []
+-- the keys of a map
+abbrev pub set_of : {X : Type 0} → List (List ℕ × X) → PrefixSet
+set_of entries = set.from_list (keys_of entries)
 
--- each of so many nodes has these prefixes
-pub record ArePrefixed (nodes : ℕ) (lists : List (List (List ℕ))) (prefixes : ℕ → List (List ℕ)) : Type 0 where
-  pub one_each : length lists ≡ nodes
-  pub same : prefixes_at lists ≡ prefixes
+-- the prefixes of a node, in sets for each node
+abbrev pub prefixes_at : List PrefixSet → ℕ → PrefixSet
+prefixes_at sets n = unwrap_or (slice_get sets n) set.empty
 
--- the node has the prefix more
-pub record IsTaken (node : ℕ) (prefix : List ℕ) (old new : List (List (List ℕ))) : Type 0 where
+-- how many prefixes are taken, and which
+pub record Taken : Type 0 where
+  pub count : ℕ
+  pub has : List ℕ → Bool
+
+abbrev pub taken_of_set : PrefixSet → Taken
+taken_of_set prefixes = record { count = set.len prefixes; has = set.contains prefixes }
+
+abbrev pub taken_of_list : List (List ℕ) → Taken
+taken_of_list prefixes = record { count = length prefixes; has = is_among prefixes }
+
+-- what each node has taken, by sets
+unfoldable pub taken_in : List PrefixSet → ℕ → Taken
+taken_in sets n = taken_of_set (prefixes_at sets n)
+
+-- what each node has taken, by lists
+unfoldable pub taken_by : (ℕ → List (List ℕ)) → ℕ → Taken
+taken_by prefixes n = taken_of_list (prefixes n)
+
+-- each of so many nodes has as many prefixes, and the same
+pub record ArePrefixed (nodes : ℕ) (sets : List PrefixSet) (prefixes : ℕ → List (List ℕ)) : Type 0 where
+  pub one_each : length sets ≡ nodes
+  pub same : taken_in sets ≡ taken_by prefixes
+
+-- the node has the prefix more, which it hadn't
+pub record IsTaken (node : ℕ) (prefix : List ℕ) (old new : List PrefixSet) : Type 0 where
   pub within : node < length old
-  pub added : new ≡ slice_set old node (prefixes_at old node ++ prefix ∷ [])
+  pub is_new : (taken_in old node).has prefix ≡ false
+  pub added : new ≡ slice_set old node (set.insert (prefixes_at old node) prefix)

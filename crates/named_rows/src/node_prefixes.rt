@@ -1,18 +1,17 @@
 //! Rows at a node, with a prefix that is new there.
-ghost use Rattle.std.specs.Prelude.{◌≡◌, ◌==◌, ◌<◌, true, false, not, length, slice_set, OnOk, OnErr, IfOk};
-ghost use Rattle.indexmap.specs.IndexSet.{insert_key};
-ghost use Rattle.std.specs.Cmp.Lexicographic.{pointwise};
+ghost use Rattle.std.specs.Prelude.{◌≡◌, ◌<◌, [], true, false, not, length, nat_le, slice_set, OnOk, OnErr, IfOk};
+ghost use Rattle.std.specs.FinSet as set;
 ghost use Rattle.card_digits.specs.Attempts.{Gives};
 ghost use Rattle.table_fields.specs.Faults.{is_memory};
 ghost use Rattle.table_fields.specs.Fields.{row_view};
-ghost use Rattle.named_rows.specs.Rows.{node_names, prefixes_at, AreEmpty, IsTaken, is_among};
+ghost use Rattle.named_rows.specs.Rows.{node_names, prefixes_at, taken_in, ArePrefixed, IsTaken};
 ghost use Rattle.named_rows.specs.Reading.{new_prefix_at};
 ghost use Rattle.named_rows.specs.Plain.{IsNewPrefix};
 
 use crate::named_rows::NamedRows;
 use crate::node::node_at;
+use crate::taken_prefixes::TakenPrefixes;
 use card_digits::{NodeNo, Prefix};
-use indexmap::IndexSet;
 use net_rows::Node;
 use std::alloc::{AllocError, Global};
 use std::marker::Model;
@@ -23,43 +22,49 @@ const MOST_ROWS: usize = 4_096;
 /// A set of prefixes for each node, by its place.
 #[derive(Drop)]
 pub struct NodePrefixes {
-    sets: Vec<IndexSet<Prefix>>,
+    sets: Vec<TakenPrefixes>,
 }
 
 impl Model for NodePrefixes {
-    ghost use Rattle.std.specs.Prelude.{List, ℕ, map};
+    ghost use Rattle.std.specs.Prelude.{List};
+    ghost use Rattle.std.specs.Coded.{coded_ℕ, coded_list};
+    ghost use Rattle.std.specs.FinSet as set;
+    ghost use Rattle.named_rows.specs.Rows.{PrefixSet};
 
-    ghost Value = { List (List (List ℕ)) };
+    ghost Value = { List PrefixSet };
 
-    ghost view = { λ a. map (λ s. s.keys) a.sets.items };
+    ghost coded = { coded_list (set.code (coded_list coded_ℕ)) };
+
+    ghost view = { λ a. a.sets.items };
 }
 
 impl NodePrefixes {
     /// No prefixes for each of so many nodes.
     pub fn new(alloc: Global, nodes: usize) -> Result<NodePrefixes, AllocError>
-        ensures empty { IfOk result AreEmpty }
-        ensures len { IfOk result (λ v. length v ≡ nodes) }
+        ensures { IfOk result (λ v. ArePrefixed nodes v (λ _. [])) }
     {
         let mut sets = Vec::new(alloc);
         for _ in 0..nodes {
-            sets.push(IndexSet::new(alloc))?;
+            sets.push(TakenPrefixes::new(alloc))?;
         }
         Ok(NodePrefixes { sets })
     }
 
-    /// How many the node has.
-    fn count(&self, node: NodeNo) -> usize
+    /// Whether the node has as many rows as it may have.
+    #[tactic(auto, unfolding(crate::specs::Rows::taken_in))]
+    fn is_full(&self, node: NodeNo) -> bool
         requires { node < length self.now }
-        ensures { result ≡ length (prefixes_at self.now node) }
+        ensures { result ≡ nat_le 4_096 (taken_in self.now node).count }
     {
-        self.sets[node.place()].len()
+        self.sets[node.place()].len() >= MOST_ROWS
     }
 
-    /// Puts one prefix more at a node, and says whether it is new there.
+    /// Puts one prefix more at a node that has room, and says whether it is new there.
     fn insert(&mut self, node: NodeNo, prefix: Prefix) -> Result<bool, AllocError>
-        requires { node < length self.old }
-        ensures new { IfOk result (λ is_new. is_new ≡ not (is_among (prefixes_at self.old node) prefix)) }
-        ensures set { OnOk result (self.new ≡ slice_set self.old node (insert_key (pointwise ◌==◌) (prefixes_at self.old node) prefix)) }
+        requires within { node < length self.old }
+        requires room { nat_le 4_096 (taken_in self.old node).count ≡ false }
+        ensures new { IfOk result (λ is_new. is_new ≡ not ((taken_in self.old node).has prefix)) }
+        ensures set { OnOk result (self.new ≡ slice_set self.old node (set.insert (prefixes_at self.old node) prefix)) }
         ensures stays { OnErr result (self.new ≡ self.old) }
     {
         Ok(self.sets[node.place()].insert(prefix)?)
@@ -72,7 +77,7 @@ impl NodePrefixes {
         ensures taken { result ≡ true → IsNewPrefix node prefix self.old self.new }
         ensures stays { result ≡ false → self.new ≡ self.old }
     {
-        if self.count(node) >= MOST_ROWS {
+        if self.is_full(node) {
             return false;
         }
         match self.insert(node, prefix) {
@@ -90,12 +95,12 @@ pub fn new_prefix_at(
     taken: &mut NodePrefixes,
 ) -> Result<(NodeNo, Prefix), TableFault>
     requires { length taken.old ≡ length nodes.now }
-    ensures value { Gives is_memory (λ p. p) result (new_prefix_at (node_names nodes.now) (prefixes_at taken.old) (row_view row.now)) }
+    ensures value { Gives is_memory (λ p. p) result (new_prefix_at (node_names nodes.now) (taken_in taken.old) (row_view row.now)) }
     ensures taken { IfOk result (λ p. IsTaken p.0 p.1 taken.old taken.new) }
     ensures stays { OnErr result (taken.new ≡ taken.old) }
 {
     let node = node_at(row, Key::Node, nodes)?;
-    if taken.count(node) >= MOST_ROWS {
+    if taken.is_full(node) {
         return Err(TableFault::TooMany(row.table));
     }
     let prefix = row.prefix(Key::Prefix)?;

@@ -8,6 +8,7 @@ use crate::search::Search;
 use crate::waiting::{Wanted, next_answer};
 use crate::worker::Worker;
 use iso_message::decode;
+use message_elements::elements;
 use message_keys::key_of;
 use net_threads::{LineEnd, StationFault};
 use plan_threads::{Calls, ClockTurns};
@@ -86,7 +87,11 @@ impl<'s, 't, 'p> Acquirer<'s, 't, 'p> {
     /// What is looked for once a line was entered, and whether the session is told of it. Called before it is entered.
     fn sought(&self, line: &[u8]) -> Option<(Wanted, bool)> {
         let message = decode(self.worker.alloc, line).ok()?;
-        let wanted = Wanted::new(line, message.get(7)?, message.get(11)?)?;
+        let wanted = Wanted::new(
+            line,
+            message.get(elements::TRANSMISSION_TIME)?,
+            message.get(elements::TRACE_AUDIT_NUMBER)?,
+        )?;
         match key_of(&message) {
             Some(key) => {
                 self.awaited.begin(&key);

@@ -9,7 +9,7 @@ use crate::fitting::key_in;
 use crate::hearing::{Hearer, who_hears};
 use crate::serving::Service;
 use card_digits::{Key, NodeNo};
-use net_threads::{LineEnd, Station};
+use net_threads::{LineEnd, Station, hash_behind, hash_of};
 use plan_threads::{Calls, Pump, Queue, Shelf, ThreadNumbers};
 use run_plan::Plan;
 use std::alloc::{AllocError, Global};
@@ -39,7 +39,7 @@ impl Awaited {
     }
 
     pub(crate) fn begin(&self, key: &Key) {
-        self.hash.store(hash_of(key), Ordering::SeqCst);
+        self.hash.store(key_hash(key), Ordering::SeqCst);
     }
 
     fn add(&self, place: u64) {
@@ -102,19 +102,11 @@ pub(crate) struct Shared {
     queue: Mutex<Queue>,
 }
 
-/// The hash of bytes behind others.
-fn mixed(hash: u64, bytes: &[u8]) -> u64 {
-    let mut hash = hash;
-    for byte in bytes {
-        hash = (hash ^ *byte as u64).wrapping_mul(0x0000_0100_0000_01b3);
-    }
-    hash
-}
-
-fn hash_of(key: &Key) -> u64 {
-    let hash = mixed(0xcbf2_9ce4_8422_2325, key.time.as_slice());
-    let hash = mixed(hash, key.trace.as_slice());
-    mixed(hash, key.acquirer.as_slice())
+/// The hash of a key.
+fn key_hash(key: &Key) -> u64 {
+    let hash = hash_of(key.time.as_slice());
+    let hash = hash_behind(hash, key.trace.as_slice());
+    hash_behind(hash, key.acquirer.as_slice())
 }
 
 /// Whether entries from a place on may have requests to the host, where all that may stand before another place.
@@ -480,7 +472,7 @@ impl Shared {
             return;
         }
         let hash = match key_in(alloc, bytes) {
-            Some(key) => Some(hash_of(&key)),
+            Some(key) => Some(key_hash(&key)),
             None => None,
         };
         for session in news.sessions.iter() {

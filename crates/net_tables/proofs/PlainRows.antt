@@ -23,7 +23,7 @@ use Rattle.table_fields.specs.declared.place.Table.{Table}
 use Rattle.named_rows.specs.Rows.{link_names}
 use Rattle.named_rows.specs.Reading.{named_entry, node_at, links_at, is_twice, new_prefix_at}
 use Rattle.named_rows.specs.Plain.{IsNamed, IsNewPrefix}
-use Rattle.named_rows.specs.Rows.{ArePrefixed, prefixes_at, is_among}
+use Rattle.named_rows.specs.Rows.{PrefixSet, Taken, ArePrefixed, taken_in, taken_by, is_among}
 use Rattle.net_tables.specs.Rows.{route_prefixes, stand_in_prefixes}
 use Rattle.net_tables.specs.AllRows.{row_at}
 use Rattle.net_tables.specs.Reading.{route_of, stand_in_of}
@@ -103,29 +103,27 @@ nothing_yet : (text : List ℕ) → ArePairs no_members text text
 nothing_yet text = record { pairs = []; stand = refl; make = refl }
 
 -- what a node has taken is what its rows have
-room_left : (count node : ℕ) (lists : List (List (List ℕ))) (prefixes : ℕ → List (List ℕ)) → ArePrefixed count lists prefixes → nat_le 4096 (length (prefixes_at lists node)) ≡ false → nat_le 4096 (length (prefixes node)) ≡ false
-room_left count node lists prefixes known room =
-    let here : prefixes_at lists node ≡ prefixes node = ap (λ (f : ℕ → List (List ℕ)). f node) known.same in
-    subst (λ ps. nat_le 4096 (length ps) ≡ false) here room
+room_left : (count node : ℕ) (sets : List PrefixSet) (prefixes : ℕ → List (List ℕ)) → ArePrefixed count sets prefixes → nat_le 4096 (taken_in sets node).count ≡ false → nat_le 4096 (length (prefixes node)) ≡ false
+unfolding taken_by
+room_left count node sets prefixes known room = subst (λ (f : ℕ → Taken). nat_le 4096 (f node).count ≡ false) known.same room
 
-still_new : (count node : ℕ) (prefix : List ℕ) (lists : List (List (List ℕ))) (prefixes : ℕ → List (List ℕ)) → ArePrefixed count lists prefixes → is_among (prefixes_at lists node) prefix ≡ false → is_among (prefixes node) prefix ≡ false
-still_new count node prefix lists prefixes known new =
-    let here : prefixes_at lists node ≡ prefixes node = ap (λ (f : ℕ → List (List ℕ)). f node) known.same in
-    subst (λ ps. is_among ps prefix ≡ false) here new
+still_new : (count node : ℕ) (prefix : List ℕ) (sets : List PrefixSet) (prefixes : ℕ → List (List ℕ)) → ArePrefixed count sets prefixes → (taken_in sets node).has prefix ≡ false → is_among (prefixes node) prefix ≡ false
+unfolding taken_by
+still_new count node prefix sets prefixes known new = subst (λ (f : ℕ → Taken). (f node).has prefix ≡ false) known.same new
 
 -- a row whose prefix its node takes
-pub row_next : {R : Type 0} (t : Table) (read : List R → RowText → Result R TableFault) (prefixes : List R → ℕ → List (List ℕ)) (count node : ℕ) (prefix : List ℕ) (old new : List (List (List ℕ))) (done : List R) (row : R) (text rest : List ℕ)
+pub row_next : {R : Type 0} (t : Table) (read : List R → RowText → Result R TableFault) (prefixes : List R → ℕ → List (List ℕ)) (count node : ℕ) (prefix : List ℕ) (old new : List PrefixSet) (done : List R) (row : R) (text rest : List ℕ)
     → IsRowIfNew t read prefixes node prefix row text rest → ArePrefixed count old (prefixes done) → IsNewPrefix node prefix old new → IsRowNext t read done row text rest
 row_next t read prefixes count node prefix old new done row text rest h known fresh = record {
   members = h.members;
   stands = h.stands;
-  is_read = h.is_read done (room_left count node old (prefixes done) known fresh.room) (still_new count node prefix old (prefixes done) known fresh.is_new);
+  is_read = h.is_read done (room_left count node old (prefixes done) known fresh.room) (still_new count node prefix old (prefixes done) known fresh.taken.is_new);
 }
 
 pub route_next : (t : Table) (nodes : List (List ℕ)) (links : List Link) (node : ℕ) (prefix found text a b c rest : List ℕ)
     → IsLine (row_line (table_word t)) text a → IsFieldNext (node_at nodes) key.Node node a b → IsFieldNext prefix_at key.Prefix prefix b c → IsFieldNext (links_at links node) key.Links found c rest
     → IsRowIfNew t (route_of nodes links) route_prefixes node prefix (record { node = node; prefix = prefix; links = found }) text rest
-unfolding route_of new_prefix_at
+unfolding route_of new_prefix_at taken_by
 route_next t nodes links node prefix found text a b c rest header n p l =
     let with_node : Members = with_member (key_word key.Node) n.written no_members in
     let with_prefix : Members = with_member (key_word key.Prefix) p.written with_node in
@@ -144,7 +142,7 @@ pub stand_in_next : (t : Table) (nodes : List (List ℕ)) (node : ℕ) (prefix :
     → IsLine (row_line (table_word t)) text a → IsFieldNext (node_at nodes) key.Node node a b → IsFieldNext prefix_at key.Prefix prefix b c
     → IsFieldNext (whole_at 0 999_999_999_999) key.Day day c d → IsFieldNext (whole_at 0 999_999_999_999) key.Single single d rest
     → IsRowIfNew t (stand_in_of nodes) stand_in_prefixes node prefix (record { node = node; prefix = prefix; day = day; single = single }) text rest
-unfolding stand_in_of new_prefix_at
+unfolding stand_in_of new_prefix_at taken_by
 stand_in_next t nodes node prefix day single text a b c d rest header n p x y =
     let with_node : Members = with_member (key_word key.Node) n.written no_members in
     let with_prefix : Members = with_member (key_word key.Prefix) p.written with_node in

@@ -10,16 +10,12 @@ ghost use Rattle.named_rows.specs.Plain.{IsNamed};
 ghost use Rattle.net_rows.specs.Sound.{is_end};
 ghost use Rattle.net_tables.specs.Plain.{IsFieldNext, AreLinksNext};
 
-use card_digits::{Amount, LinkNo, NodeNo, Prefix};
+use card_digits::{Amount, LinkNo, MOST_AMOUNT, NodeNo, Prefix};
 use named_rows::{NamedRows, are_own};
-use net_rows::{Link, Links, Node};
+use net_rows::{Link, Links, MOST_ROUTE_LINKS, Node};
 use std::alloc::Global;
 use table_fields::Key;
 use toml_rows::{close_texts, next_text, open_texts, skip_blank};
-
-const MOST_AMOUNT: i64 = 999_999_999_999;
-
-const MOST_LINKS: usize = 8;
 
 /// The node of that name.
 pub(crate) fn node_named(nodes: &NamedRows<Node>, name: &str) -> Option<NodeNo>
@@ -44,7 +40,7 @@ pub(crate) fn prefix_of(digits: &str) -> Option<Prefix>
 pub(crate) fn amount_of(number: i64) -> Option<Amount>
     ensures { IfSome result (λ a. whole 0 999_999_999_999 number ≡ Some a) }
 {
-    if number < 0 || number > MOST_AMOUNT {
+    if number < 0 || number > MOST_AMOUNT as i64 {
         return None;
     }
     Some(Amount::new(number as u64))
@@ -68,7 +64,7 @@ fn plain_named<'a>(
         }
         let (name, after) = next_text(ahead)?;
         let link = links.find(name)?;
-        if found.as_slice().len() >= MOST_LINKS {
+        if found.as_slice().len() >= MOST_ROUTE_LINKS {
             return None;
         }
         let Ok(()) = found.push(LinkNo::new(link)) else {

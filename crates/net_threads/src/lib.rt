@@ -1,6 +1,7 @@
 //! The nodes of accepted tables as stations that threads share, and whether what they did is a run.
 #![tactic(auto)]
 
+mod byte_hash;
 mod ended;
 mod fault;
 mod judge;
@@ -12,6 +13,7 @@ mod puts;
 mod sending;
 mod station;
 
+pub use byte_hash::{hash_behind, hash_of};
 pub use ended::{Ended, Finished, LineEnd, SessionEnd, Verdict};
 pub use fault::StationFault;
 pub use network::Network;

@@ -18,6 +18,7 @@ pub(crate) struct Plans {
 }
 
 impl Plans {
+    /// No plan runs.
     pub fn none(alloc: Global) -> Plans {
         Plans {
             running: Mutex::new(Vec::new(alloc)),
@@ -36,6 +37,7 @@ impl Plans {
         Ok(number)
     }
 
+    /// One plan less, by the number that `add` gave it.
     pub fn remove<R: Wait>(&self, rt: &R, number: u64) {
         let mut running = self.running.lock(rt);
         if let Some(place) = running.iter().position(|plan| plan.number == number) {

@@ -3,6 +3,7 @@ ghost use Rattle.std.specs.Prelude.{◌≡◌, IsTrue, true};
 ghost use Rattle.std.specs.List.{list_any};
 ghost use Rattle.net_threads.specs.Found.{is_put, is_answer, entry_puts, entry_answers};
 
+use crate::byte_hash::hash_of;
 use card_digits::LinkNo;
 use request_book::Way;
 use std::alloc::{AllocError, Global};
@@ -147,14 +148,6 @@ struct Hashed {
 #[derive(Drop)]
 pub(crate) struct AnswerPlaces {
     slots: Vec<Option<Hashed>>,
-}
-
-fn hash_of(bytes: &[u8]) -> u64 {
-    let mut hash: u64 = 0xcbf2_9ce4_8422_2325;
-    for byte in bytes {
-        hash = (hash ^ *byte as u64).wrapping_mul(0x0000_0100_0000_01b3);
-    }
-    hash
 }
 
 fn count_answers(trace: &[Entry]) -> usize {

@@ -69,6 +69,7 @@ impl<'a> Station<'a> {
         self.place
     }
 
+    /// The tables of the network.
     pub fn tables(&self) -> &'a Tables
         ensures { result.now ≡ self.now.t }
     {

@@ -28,6 +28,7 @@ impl Model for NodeHandle {
 unsafe impl Send for NodeHandle {}
 
 impl NodeHandle {
+    /// A handle without a node.
     pub fn empty(alloc: Global) -> NodeHandle
         ensures { result.value ≡ None }
     {
@@ -37,12 +38,14 @@ impl NodeHandle {
         }
     }
 
+    /// A handle of the node in the box, which it owns from now on.
     pub fn of(value: Box<OwnedNode>) -> NodeHandle
         ensures { result.value ≡ Some value.value }
     {
         NodeHandle::of_loose(Loose::of(value))
     }
 
+    /// The node that the handle owned, none where it was empty.
     pub fn into_box(self) -> Option<Box<OwnedNode>>
         ensures { MatchOption result (self.value ≡ None) (λ b. self.value ≡ Some b.value) }
     {

@@ -29,6 +29,7 @@ impl Model for Picture {
 }
 
 impl Picture {
+    /// A picture of these parts, with the class whose routes it shows.
     pub fn new(
         class: Option<Prefix>,
         size: Size,
@@ -60,6 +61,7 @@ impl Picture {
         &self.class
     }
 
+    /// How wide and how high the picture is.
     pub fn size(&self) -> Size
         ensures { result ≡ self.now.size }
     {

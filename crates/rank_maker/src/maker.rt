@@ -2,8 +2,8 @@
 ghost use Rattle.std.specs.Prelude.{◌≡◌, true, false, length, Ok, OnOk};
 ghost use Rattle.rank_maker.specs.Adding.{AddsOf};
 
-use crate::walk::{MOST_NODES, Routes, Stop, Walk};
-use card_digits::{NodeNo, Prefix};
+use crate::walk::{Routes, Stop, Walk};
+use card_digits::{MOST_NODES, NodeNo, Prefix};
 use net_rows::{Route, Tables, classes};
 use rank_cert::Cert;
 use rows_in_force::{InForce, LinkEnds};

@@ -4,12 +4,10 @@ ghost use Rattle.net_rows.specs.Network.{Network};
 ghost use Rattle.rank_maker.specs.Longest.{known_rank, rank_past};
 ghost use Rattle.rows_in_force.specs.LinkEnds.{AreEnds};
 
-use card_digits::{LinkNo, NodeNo};
+use card_digits::{LinkNo, MOST_NODES, NodeNo};
 use net_rows::{Route, Tables};
 use rows_in_force::{InForce, LinkEnds};
 use std::alloc::{AllocError, AllocFailed, Global};
-
-pub(crate) const MOST_NODES: usize = 64;
 
 /// What is known of a node.
 #[derive(Clone, Copy, Debug)]

@@ -132,6 +132,7 @@ impl Faults {
         Ok(Faults { links })
     }
 
+    /// The faults of a link; none where the plan names none.
     pub fn of(&self, link: LinkNo) -> LinkFaults
         ensures { result ≡ faults_of self.now.links.items link }
     {

@@ -11,6 +11,7 @@ use crate::answered::Answered;
 use crate::messages::read_message;
 use crate::tally::Tally;
 use iso_message::Message;
+use message_elements::response_codes;
 use message_keys::{code_of, key_of};
 use net_threads::Station;
 use request_book::Way;
@@ -41,10 +42,10 @@ fn answer_of(message: &Message, alone: bool) -> Option<Answered>
 {
     let key = key_of(message)?;
     let code = code_of(message)?;
-    if code.as_slice() == b"94".as_slice() {
+    if code.as_slice() == response_codes::DUPLICATE_TRANSMISSION.as_slice() {
         return None;
     }
-    let approves = code.as_slice() == b"00".as_slice();
+    let approves = code.as_slice() == response_codes::APPROVED.as_slice();
     Some(Answered {
         key,
         approves,

@@ -4,7 +4,7 @@ ghost use Rattle.run_report.specs.Hosts.{is_within, limit_code};
 
 use card_digits::Amount;
 use iso_message::Message;
-use message_elements::Code;
+use message_elements::{Code, elements, response_codes};
 use net_operate::Host;
 
 /// Answers 00 up to an amount, and 05 above it and where the request has no amount.
@@ -17,7 +17,7 @@ pub struct LimitHost {
 fn is_within(limit: Amount, request: &Message) -> bool
     ensures { result ≡ is_within limit request.now }
 {
-    match request.get(4) {
+    match request.get(elements::AMOUNT) {
         Some(text) => match Amount::read(text) {
             Ok(amount) => amount.value() <= limit.value(),
             Err(_) => false,
@@ -31,9 +31,9 @@ impl Host for LimitHost {
         ensures { result ≡ limit_code self.now.amount request.now }
     {
         if is_within(self.amount, request) {
-            Code::new(*b"00")
+            Code::new(response_codes::APPROVED)
         } else {
-            Code::new(*b"05")
+            Code::new(response_codes::DO_NOT_HONOR)
         }
     }
 

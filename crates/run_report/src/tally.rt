@@ -33,6 +33,7 @@ impl Tally {
     ghost use Rattle.run_report.specs.declared.answered.Answered.{Answered};
     ghost use Rattle.run_report.specs.Tally.{Counts};
 
+    /// No answer was counted yet.
     pub fn new(alloc: Global) -> Tally
         ensures { Counts result [] }
     {

@@ -22,6 +22,7 @@ pub(crate) struct Firsts {
 }
 
 impl Firsts {
+    /// No refusal was found yet.
     pub fn new() -> Firsts
         ensures { (kind : Kind) → of_kind result kind ≡ None }
     {

@@ -4,9 +4,7 @@ ghost use Rattle.net_rows.specs.Network.{Network};
 ghost use Rattle.table_checker.specs.Known.{AreFalling, IsCodeOf};
 
 use crate::trail::Trail;
-use card_digits::NodeNo;
-
-pub(crate) const MOST_NODES: usize = 64;
+use card_digits::{MOST_NODES, NodeNo};
 
 /// The code of no rank. Those of ranks are lesser.
 pub(crate) const NO_RANK: u32 = 65_536;
@@ -29,6 +27,7 @@ pub(crate) struct Known {
 }
 
 impl Known {
+    /// Nothing was looked up yet.
     pub fn new() -> Known
         ensures { (t : Network) → AreFalling t result.ranks result.falling }
     {

@@ -1,7 +1,6 @@
 //! Where ranks are likely to stand.
 
-use crate::known::MOST_NODES;
-use card_digits::NodeNo;
+use card_digits::{MOST_NODES, NodeNo};
 
 /// So many more ranks may stand elsewhere than where they were guessed before no place is guessed any more: those of a few classes.
 const PATIENCE: u16 = 256;
@@ -22,6 +21,7 @@ pub(crate) struct Trail {
 }
 
 impl Trail {
+    /// No class was entered yet.
     pub fn new() -> Trail {
         Trail {
             begin: None,

@@ -1,5 +1,5 @@
 //! Ids that stand twice, and timers that run too long.
-ghost use Rattle.std.specs.Prelude.{◌≡◌, ◌==◌, ◌<◌, length, map, nat_lt, IfOk, IfSome, option_map, Some};
+ghost use Rattle.std.specs.Prelude.{◌≡◌, ◌==◌, ◌<◌, map, nat_lt, IfOk, Some};
 ghost use Rattle.std.specs.List.{list_any, position_from};
 ghost use Rattle.std.specs.Cmp.Lexicographic.{pointwise};
 ghost use Rattle.card_digits.specs.Numbers.{pad11};
@@ -7,7 +7,7 @@ ghost use Rattle.table_checker.specs.Rules.{first_repeated, acquirer_twice, node
 
 use crate::refusal::Refusal;
 use card_digits::{Id, LinkNo};
-use net_rows::{Acquirer, Link, Node, Tables};
+use net_rows::{Acquirer, Link, MOST_TICKS, Node, Tables};
 use std::alloc::{AllocError, Global};
 
 fn acquirer_ids(alloc: Global, acquirers: &[Acquirer]) -> Result<Vec<Id>, AllocError>
@@ -69,8 +69,6 @@ pub(crate) fn node_id_twice(alloc: Global, tables: &Tables) -> Result<Option<Ref
         None => Ok(None),
     }
 }
-
-const MOST_TICKS: u16 = 4_000;
 
 fn first_long(links: &[Link]) -> Option<usize>
     ensures { result ≡ position_from (λ l. nat_lt 4000 l.ticks) 0 links.now }

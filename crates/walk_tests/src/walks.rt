@@ -8,7 +8,7 @@ use card_digits::{NodeNo, Prefix};
 use made::{Form, network};
 use net_rows::{Route, Tables, classes};
 use old_walk::{MOST_NODES, Routes, Stop, Walk};
-use rank_cert::Cert;
+use rank_cert::{Cert, Rank};
 use rank_maker::{Made, make};
 use rows_in_force::InForce;
 use std::alloc::{AllocError, Global};
@@ -47,13 +47,17 @@ fn add_ranks(alloc: Global, routes: &Routes, class: &Prefix, cert: &mut Cert) ->
     Ok(())
 }
 
+fn is_same_row(row: &Rank, other: &Rank) -> bool {
+    row.node == other.node && row.prefix == other.prefix && row.rank == other.rank
+}
+
 fn are_same_ranks(cert: &Cert, other: &Cert) -> bool {
-    cert.rows().len() == other.rows().len()
-        && cert
-            .rows()
+    let rows = cert.rows();
+    rows.len() == other.rows().len()
+        && rows
             .iter()
             .zip(other.rows())
-            .all(|(row, old)| *row == *old && row.rank == old.rank)
+            .all(|(row, old)| is_same_row(row, old))
 }
 
 fn is_same(made: &Made, old: &Made) -> bool {
