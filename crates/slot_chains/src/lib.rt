@@ -3,80 +3,122 @@
 
 mod family;
 mod slot;
+mod slots;
 
-ghost use Rattle.std.specs.Prelude.{◌≡◌, ◌<◌, ◌+◌, ◌-◌, ◌≤◌, ◌^◌, ◌∷◌, ◌++◌, ℕ, [], All, IsOk, IsTrue, IsFalse, IfOk, IfErr, IfNone, OnErr, length, replicate, slice_index, slice_get, Some, None};
+ghost use Rattle.std.specs.Prelude.{◌≡◌, ◌<◌, ◌+◌, ◌-◌, ◌≤◌, ◌∷◌, ◌++◌, ℕ, [], IsOk, IsTrue, IsFalse, IfOk, OnOk, OnErr, length, slice_get, Some, None};
 ghost use Rattle.std.specs.Borrow.{sem};
 ghost use Rattle.std.specs.Option.{option_copied, option_copied_mut};
-ghost use Rattle.slab.specs.Slab.{get, slab_len, Updates, ContainsKey};
-ghost use Rattle.chain_links.specs.Rings.{LinksView, IsMember, AreApart, list_at, pushed, unlinked, popped, cleared, no_lists};
-ghost use Rattle.slot_chains.specs.Chains.{lists_in, with_lists, IsHeld, IsLoose};
+ghost use Rattle.slab.specs.Slab.{get, slab_len, HasRoomFor, Updates, SameValues};
+ghost use Rattle.chain_links.specs.Lists.{LinksView, IsMember, AreApart, list_at, no_lists, with_heads, pushed, unlinked, popped, cleared};
+ghost use Rattle.slot_chains.specs.Chains.{lists_in, with_lists, with_slots, IsHeld, IsLoose};
 
 use crate::slot::{named, named_if};
+use crate::slots::Slots;
 use chain_links::Links;
 pub use family::Family;
-use slab::Slab;
 pub use slot::SlotId;
 use std::alloc::{AllocError, Global};
 use std::marker::Model;
-
-/// Why a value was not inserted.
-#[derive(Clone, Copy, PartialEq, Eq, Debug)]
-pub enum ChainFault {
-    Full,
-    Memory,
-}
 
 /// Slots that hold values. Each is a member of at most one list of each family.
 #[derive(Drop)]
 pub struct Chains<T> {
     alloc: Global,
-    capacity: u32,
-    slots: Slab<T>,
+    slots: Slots<T>,
+    // Where memory was refused, a family may have more slots than there are.
     bucket: Links,
     card: Links,
     link: Links,
 }
 
 impl<T> Model for Chains<T> {
-    ghost use Rattle.slot_chains.specs.Chains.{ChainsView, AreSound};
+    ghost use Rattle.slot_chains.specs.Chains.{ChainsView, seen_as, AreSound};
 
     ghost Value = { ChainsView T };
 
-    ghost view = { λ c. record { slots = c.slots; bucket = c.bucket; card = c.card; link = c.link; capacity = c.capacity } };
+    ghost view = { λ c. seen_as c.slots c.bucket c.card c.link };
 
-    ghost invariant = { λ c. AreSound (record { slots = c.slots; bucket = c.bucket; card = c.card; link = c.link; capacity = c.capacity }) };
+    ghost invariant = { λ c. AreSound c.slots c.bucket c.card c.link };
 }
 
 impl<T: Drop> Chains<T> {
-    /// Chains without slots, with room for so many, and so many heads in each family.
-    pub fn new(alloc: Global, capacity: u32, heads: [u32; 3]) -> Result<Chains<T>, AllocError>
-        ensures slots { IfOk result (λ c. (c.slots.slots ≡ []) × (c.capacity ≡ capacity)) }
-        ensures lists { IfOk result (λ c. (c.bucket.lists ≡ replicate (slice_index heads 0) []) × (c.card.lists ≡ replicate (slice_index heads 1) []) × (c.link.lists ≡ replicate (slice_index heads 2) [])) }
+    /// Chains without slots and heads, which take no memory.
+    pub fn new(alloc: Global) -> Chains<T>
+        ensures slots { (result.slots.slots ≡ []) × (result.slots.capacity ≡ 0) }
+        ensures lists { (result.bucket ≡ no_lists) × (result.card ≡ no_lists) × (result.link ≡ no_lists) }
     {
-        let slots = Slab::with_capacity(alloc, capacity as usize)?;
-        let all = slots.capacity();
-        // The numbers of slots and heads fit 32 bits; more have no memory.
-        if all > MOST || heads[0] > LIMIT || heads[1] > LIMIT || heads[2] > LIMIT {
-            return Err(AllocError);
-        }
-        let all = all as u32;
-        let bucket = Links::new(alloc, all, heads[0])?;
-        let card = Links::new(alloc, all, heads[1])?;
-        let link = Links::new(alloc, all, heads[2])?;
-        Ok(Chains {
+        Chains {
             alloc,
-            capacity,
-            slots,
-            bucket,
-            card,
-            link,
-        })
+            slots: Slots::new(alloc),
+            bucket: Links::new(alloc),
+            card: Links::new(alloc),
+            link: Links::new(alloc),
+        }
+    }
+
+    /// Makes so many heads in a family, if there are fewer. The lists of the new ones have no slots.
+    pub fn grow_heads(&mut self, family: Family, heads: u32) -> Result<(), AllocError>
+        ensures ok { OnOk result (self.new ≡ with_lists self.old family (with_heads (lists_in self.old family) heads)) }
+        ensures err { OnErr result (self.new ≡ self.old) }
+        ensures succeeds { heads ≤ length (lists_in self.old family).lists → IsOk result }
+    {
+        match family {
+            Family::Bucket => self.bucket.grow_heads(heads),
+            Family::Card => self.card.grow_heads(heads),
+            Family::Link => self.link.grow_heads(heads),
+        }
+    }
+
+    /// Makes room: the next so many calls of `insert` find a slot.
+    pub fn room(&mut self, slots: u32) -> Result<(), AllocError>
+        ensures ok { OnOk result (HasRoomFor self.new.slots slots) }
+        ensures values { SameValues self.old.slots self.new.slots }
+        ensures len { slab_len self.new.slots ≡ slab_len self.old.slots }
+        ensures lists { self.new ≡ with_slots self.old self.new.slots }
+        ensures err { OnErr result (self.new ≡ self.old) }
+        ensures succeeds { HasRoomFor self.old.slots slots → IsOk result }
+        ensures same { HasRoomFor self.old.slots slots → self.new ≡ self.old }
+    {
+        let total = self.slots.len().checked_add(slots).ok_or(AllocError)?;
+        self.bucket.grow_slots(total)?;
+        self.card.grow_slots(total)?;
+        self.link.grow_slots(total)?;
+        self.slots.grow(total)
+    }
+
+    /// The number of slots that hold a value.
+    pub fn held_count(&self) -> u32
+        ensures { result ≡ slab_len self.now.slots }
+    {
+        self.slots.len()
+    }
+
+    /// Holds a value in a slot, which is in no list.
+    pub fn insert(&mut self, value: T) -> SlotId
+        requires { HasRoomFor self.old.slots 1 }
+        ensures was_free { get self.old.slots result ≡ None }
+        ensures slots { Updates self.old.slots self.new.slots result (Some value) }
+        ensures len { slab_len self.new.slots ≡ slab_len self.old.slots + 1 }
+        ensures capacity { self.new.slots.capacity ≡ self.old.slots.capacity }
+        ensures lists { self.new ≡ record self.old { slots = self.new.slots } }
+    {
+        named(self.slots.insert(value))
+    }
+
+    /// Gives up a slot that is in no list. The next value gets it.
+    pub fn take(&mut self, slot: SlotId) -> T
+        requires held { IsHeld self.old slot }
+        requires loose { IsLoose self.old slot }
+        ensures value { get self.old.slots slot ≡ Some result }
+        ensures slots { Updates self.old.slots self.new.slots slot None }
+        ensures len { slab_len self.new.slots + 1 ≡ slab_len self.old.slots }
+        ensures next { self.new.slots.vacant_key ≡ slot }
+        ensures capacity { self.new.slots.capacity ≡ self.old.slots.capacity }
+        ensures lists { self.new ≡ record self.old { slots = self.new.slots } }
+    {
+        self.slots.take(slot.index())
     }
 }
-
-const LIMIT: u32 = 0x7FFF_FFFF;
-
-const MOST: usize = 0x7FFF_FFFF;
 
 impl<T> Chains<T> {
     ghost use Rattle.slot_chains.specs.Lends.{lends_slot};
@@ -88,8 +130,8 @@ impl<T> Chains<T> {
         requires free { ¬ IsMember (lists_in self.old family) slot }
         ensures { self.new ≡ with_lists self.old family (pushed (lists_in self.old family) head slot) }
     {
-        // Each family has links for as many slots as there are, fewer than 2^32.
-        let _ = self.slots.capacity();
+        // Each slot that holds a value is one of those that stand in each family.
+        let _ = self.slots.total();
         let slot = slot.index();
         match family {
             Family::Bucket => self.bucket.push_back(head, slot),
@@ -213,52 +255,18 @@ impl<T> Chains<T> {
         Ok(found)
     }
 
-    /// Makes room: the next so many calls of `insert` find memory. It was all taken by `new`.
-    pub fn room(&mut self, _slots: u32) -> Result<(), AllocError>
-        ensures same { self.new ≡ self.old }
-        ensures succeeds { IsOk result }
-    {
-        Ok(())
-    }
-
-    /// Holds a value in a new slot, which is in no list. It is refused only where all slots are held.
-    pub fn insert(&mut self, value: T) -> Result<SlotId, (ChainFault, T)>
-        ensures ok { IfOk result (λ slot. (get self.old.slots slot ≡ None) × Updates self.old.slots self.new.slots slot (Some value) × (slab_len self.new.slots ≡ slab_len self.old.slots + 1) × (slab_len self.old.slots < self.old.capacity)) }
-        ensures lists { (self.new.bucket ≡ self.old.bucket) × (self.new.card ≡ self.old.card) × (self.new.link ≡ self.old.link) × (self.new.capacity ≡ self.old.capacity) }
-        ensures full { IfErr result (λ e. (e.0 ≡ ChainFault.Full) × (e.1 ≡ value) × (self.new ≡ self.old) × (self.old.capacity ≤ slab_len self.old.slots)) }
-        ensures succeeds { slab_len self.old.slots < self.old.capacity → IsOk result }
-    {
-        if self.slots.len() >= self.capacity as usize {
-            return Err((ChainFault::Full, value));
-        }
-        let key = self.slots.insert_reserved(value);
-        Ok(named(key as u32))
-    }
-
-    /// Gives up a slot that is in no list.
-    pub fn take(&mut self, slot: SlotId) -> T
-        requires held { IsHeld self.old slot }
-        requires loose { IsLoose self.old slot }
-        ensures value { get self.old.slots slot ≡ Some result }
-        ensures slots { Updates self.old.slots self.new.slots slot None }
-        ensures len { slab_len self.new.slots + 1 ≡ slab_len self.old.slots }
-        ensures lists { (self.new.bucket ≡ self.old.bucket) × (self.new.card ≡ self.old.card) × (self.new.link ≡ self.old.link) × (self.new.capacity ≡ self.old.capacity) }
-    {
-        self.slots.remove(slot.index() as usize)
-    }
-
     /// The value in a slot for writing. All else stays.
     pub fn get_mut(&mut self, slot: SlotId) -> Option<&mut T>
         ensures* writes_back { sem 𝓛 (lends_slot T.row self.entry slot result) }
         ensures value { option_copied_mut result ≡ get self.old.slots slot }
     {
-        self.slots.get_mut(slot.index() as usize)
+        self.slots.get_mut(slot.index())
     }
 
     /// The value in a slot, if it holds one.
     pub fn get(&self, slot: SlotId) -> Option<&T>
         ensures { option_copied result ≡ get self.now.slots slot }
     {
-        self.slots.get(slot.index() as usize)
+        self.slots.get(slot.index())
     }
 }
