@@ -1,0 +1,4 @@
+mod Heads
+mod Leaving
+mod Listing
+mod Waiting
