@@ -247,6 +247,13 @@ impl RequestSlots {
         self.count += 1;
     }
 
+    /// How many ticks went by.
+    pub fn count(&self) -> u64
+        ensures { result ≡ self.now.count }
+    {
+        self.count
+    }
+
     /// How many slots and ends of lists the last tick looked at: one more than the requests that were due at it.
     pub fn visits(&self) -> u64
         ensures { result ≡ self.now.visits }
