@@ -177,6 +177,17 @@ impl<T> Chains<T> {
         }
     }
 
+    /// The number of heads of a family.
+    pub fn head_count(&self, family: Family) -> u32
+        ensures { result ≡ length (lists_in self.now family).lists }
+    {
+        match family {
+            Family::Bucket => self.bucket.head_count(),
+            Family::Card => self.card.head_count(),
+            Family::Link => self.link.head_count(),
+        }
+    }
+
     /// Whether the slot is in a list of the family.
     pub fn is_member(&self, family: Family, slot: SlotId) -> bool
         ensures yes { IsTrue result → IsMember (lists_in self.now family) slot }

@@ -231,6 +231,18 @@ impl<T> Wheel<T> {
         }
     }
 
+    /// The number of heads of `Card` or `Link`.
+    pub fn head_count(&self, family: Family) -> u32
+        requires { family ≢ Family.Bucket }
+        ensures { result ≡ length (lists_in self.now family).lists }
+    {
+        match family {
+            Family::Bucket => 0,
+            Family::Card => self.chains.head_count(Family::Card),
+            Family::Link => self.chains.head_count(Family::Link),
+        }
+    }
+
     /// Whether the slot is in a list of `Card` or `Link`.
     pub fn is_member(&self, family: Family, slot: SlotId) -> bool
         requires { family ≢ Family.Bucket }
