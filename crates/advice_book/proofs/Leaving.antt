@@ -7,7 +7,7 @@ use Rattle.std.proofs.lemmas.Bool.{cases_Bool, cases_eq}
 use Rattle.std.proofs.lemmas.Bool.Decides.{nat_tests}
 use Rattle.std.proofs.lemmas.List.{length-map}
 use Rattle.slab.specs.Slab.{get, slab_len, Updates, ContainsKey}
-use Rattle.chain_links.specs.Rings.{LinksView, Among, AreApart, IsMember, list_at, unlinked, without}
+use Rattle.chain_links.specs.Lists.{LinksView, Among, AreApart, IsMember, list_at, unlinked, without}
 use Rattle.tick_wheel.specs.Wheel.{WheelView, IsArmed, disarmed}
 use Rattle.std.specs.List.{find}
 use Rattle.advice_book.specs.declared.item.ItemName.{ItemName}
@@ -71,7 +71,7 @@ module _ (places places' : List (ItemName × Held)) (w w' : WheelView ItemName) 
     (apart : AreApart w.card)
     (ups : Updates w.slots w'.slots h.slot None)
     (len : slab_len w'.slots + 1 ≡ slab_len w.slots)
-    (capacity : w'.capacity ≡ w.capacity)
+    (capacity : w'.slots.capacity ≡ w.slots.capacity)
     (card : w'.card ≡ unlinked w.card h.slot) (link : w'.link ≡ unlinked w.link h.slot)
     (waiting : w'.waiting ≡ map (without h.slot) w.waiting) where
   order_is : order w' ≡ without h.slot (order w)
@@ -132,14 +132,17 @@ module _ (places places' : List (ItemName × Held)) (w w' : WheelView ItemName) 
       ∙ (ap (λ (xs : List ℕ). without h.slot xs) (a.waiting ahead lt)
       ∙ cut (ltb ahead ticks) ((now + 1 + ahead) % ticks)))
 
+  as_many : length w'.link.lists ≡ length w.link.lists
+  as_many = ap (λ (l : LinksView). length l.lists) link ∙ length-map w.link.lists (without h.slot)
+
   pub left_kept : AreKept places' w' ticks now
   left_kept = record {
     some = a.some;
     few = a.few;
     early = a.early;
-    capacity = capacity ∙ a.capacity;
     heads = ap (λ (l : LinksView). length l.lists) card ∙ (length-map w.card.lists (without h.slot) ∙ a.heads);
-    class_heads = ap (λ (l : LinksView). length l.lists) link ∙ (length-map w.link.lists (without h.slot) ∙ a.class_heads);
+    class_heads = elim a.class_heads [ inl e ↦ inl (as_many ∙ e) | inr none ↦ inr (capacity ∙ none) ];
+    class_few = (let few = a.class_few in omega (arith, as_many));
     buckets = ap length waiting ∙ (length-map w.waiting (without h.slot) ∙ a.buckets);
     counted = (let k = a.all n h is in let e = ap length order_is in let f = a.counted in let g = length_without h.slot (order w) (apart.once 0) k.0 in omega (arith, e, f, g, len));
     each = each_now;
@@ -174,10 +177,8 @@ module _ (places places' : List (ItemName × Held)) (w w' : WheelView ItemName) 
     (apart : AreApart w.card)
     (ups : Updates w.slots w'.slots h.slot None)
     (len : slab_len w'.slots + 1 ≡ slab_len w.slots)
+    (capacity_is : w'.slots.capacity ≡ w.slots.capacity)
     (left : w' ≡ record (disarmed w h.slot) { slots = w'.slots; card = unlinked w.card h.slot; link = unlinked w.link h.slot }) where
-  capacity_is : w'.capacity ≡ w.capacity
-  capacity_is = ap (λ (v : WheelView ItemName). v.capacity) left
-
   card_is : w'.card ≡ unlinked w.card h.slot
   card_is = ap (λ (v : WheelView ItemName). v.card) left
 

@@ -143,8 +143,12 @@ impl AdviceBook {
         ensures err { OnErr result (self.new ≡ self.old) }
     {
         if n > self.room {
+            // More items have no memory.
+            if n > u32::MAX as usize {
+                return Err(AllocError);
+            }
             self.known.reserve(n)?;
-            self.held.reserve(n)?;
+            self.held.reserve(n as u32)?;
             self.room = n;
         }
         Ok(())

@@ -1,7 +1,7 @@
 //! Slots of items in their lists: the order of storing, a list for each class, and the tick at which each is due.
 ghost use Rattle.std.specs.Prelude.{◌≡◌, ◌≢◌, ◌<◌, ◌+◌, ◌-◌, ◌≤◌, ◌%◌, ◌^◌, ◌∷◌, ◌++◌, ℕ, [], length, map, slice_set, None};
 ghost use Rattle.slab.specs.Slab.{get, slab_len, Updates, ContainsKey};
-ghost use Rattle.chain_links.specs.Rings.{IsMember, Among, AreApart, list_at, pushed, unlinked, without};
+ghost use Rattle.chain_links.specs.Lists.{IsMember, Among, AreApart, list_at, pushed, unlinked, without};
 ghost use Rattle.tick_wheel.specs.Wheel.{IsArmed, due_after, armed, disarmed};
 
 use crate::item::ItemName;
@@ -42,6 +42,7 @@ pub(crate) fn leave(wheel: &mut Wheel<ItemName>, slot: SlotId)
     ensures wheel { wheel.new ≡ record (disarmed wheel.old slot) { slots = wheel.new.slots; card = unlinked wheel.old.card slot; link = unlinked wheel.old.link slot } }
     ensures slots { Updates wheel.old.slots wheel.new.slots slot None }
     ensures len { slab_len wheel.new.slots + 1 ≡ slab_len wheel.old.slots }
+    ensures capacity { wheel.new.slots.capacity ≡ wheel.old.slots.capacity }
     ensures apart { AreApart wheel.old.card }
 {
     // No slot stands twice in the order.
