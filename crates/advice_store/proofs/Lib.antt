@@ -1,6 +1,10 @@
-mod Mapped
-mod Ids
-mod Slotted
-mod Sorted
-mod Stores
 mod Derived
+mod Stores
+mod Looking
+mod Standing
+mod Items
+mod Due
+mod Arming
+mod Lists
+mod Turning
+mod Ids

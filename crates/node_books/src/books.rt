@@ -70,7 +70,7 @@ fn ask_in(asks: &mut Vec<Key>, way: Way, key: Key)
 
 /// What an output that goes this way does to the store.
 fn mark_in(advices: &mut AdviceStore, way: Way, output: &PreparedOutput)
-    ensures { advices.new ≡ record { store = store_by way (advice_of (message_of output.now)) advices.old.store; known = advices.old.known; room = advices.old.room } }
+    ensures { advices.new ≡ record advices.old { store = store_by way (advice_of (message_of output.now)) advices.old.store } }
 {
     if let Way::Put(_, _) = way {
         if let Some(id) = output.advice() {
@@ -443,7 +443,7 @@ impl Books {
             }
             Effect::Ticked => {
                 self.count += 1;
-                self.advices.tick(self.count);
+                self.advices.tick();
                 self.room -= 1;
             }
             Effect::PacketSent(link, serial, packet) => self.send_packet(link, serial, packet),

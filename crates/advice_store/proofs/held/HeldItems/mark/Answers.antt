@@ -1,0 +1,14 @@
+use Rattle.std.proofs.Common.{ap}
+use Rattle.std.proofs.Common.{List, ℕ}
+use Rattle.tick_wheel.specs.Wheel.{WheelView}
+use Rattle.node_machine.specs.Books.{Stored}
+use Rattle.advice_store.proofs.Standing.{marked_listed, same_turning}
+use Rattle.advice_store.proofs.held.HeldItems.mark.Goals as goal
+
+pub invariant_of-self : goal.invariant_of-self
+invariant_of-self c =
+    let i = c.self.inside in
+    let e = c.mark_in.ensures in (
+      same_turning i.wheel c.mark_in.new.wheel i.ticks i.turn c.self.invariant.0 (ap (λ (w : WheelView Stored). w.waiting) e.rest) (ap (λ (w : WheelView Stored). w.link.lists) e.rest),
+      marked_listed i.wheel c.mark_in.new.wheel i.ticks c.args.slot c.args.id c.self.invariant.1 e.slots e.rest,
+    )
