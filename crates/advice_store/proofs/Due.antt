@@ -1,5 +1,9 @@
 -- What is due.
 use Rattle.std.proofs.Common.{◌≡◌, ◌≢◌, inl, inr, ℕ, ◌+◌, ◌-◌, ◌*◌, ◌%◌, ◌/◌, ◌<◌, ◌≤◌, ◌&&◌, Bool, true, false, cond, List, [], ◌∷◌, ◌++◌, length, filter, filter_map, get_or, Option, Some, None, ltb, ltb-true, eqb, eqb-true, eq-eqb, arith, refl, sym, ap, ◌∙◌, subst}
+use Rattle.std.specs.Prelude.{IfOk, Result, Ok, Err}
+use Rattle.std.proofs.lemmas.List.{take_more}
+use Rattle.std.proofs.lemmas.List.Elements.{filter_map-append}
+use Rattle.std.proofs.Common.{take}
 use Rattle.std.proofs.Math.Nat.{add-mul-mod_self_right, mod-add-div', mul-mod_left, mul-sub, mul_comm}
 use Rattle.std.proofs.lemmas.Bool.{cases_Bool, cases_eq, and_parts, lt-ltb}
 use Rattle.slab.specs.Slab.{Slab, get}
@@ -64,11 +68,11 @@ due_in_class ticks now turn s (z ∷ zs) same = go (get s z) refl (due_in_class 
         → filter (is_due ticks now) (items_in s (filter (λ slot. in_class ticks turn (get s slot)) (z ∷ zs))) ≡ filter (is_due ticks now) (items_in s (z ∷ zs))
     go None e r = rw e r
     go (Some x) e r = elim (cases_Bool (eqb (count_of x % ticks) turn)) [
-      | inl t ↦ rw (e, t, e) (elim (cases_Bool (is_due ticks now x)) [
-        | inl d ↦ rw d (ap (λ ys. x ∷ ys) r)
-        | inr d ↦ rw d r
-      ])
-      | inr f ↦ (let d = not_due ticks now x (ap (eqb (count_of x % ticks)) same ∙ f) in rw (e, f, e, d) r)
+      | inl t ↦ elim (cases_Bool (is_due ticks now x)) [
+        | inl d ↦ rw (e, t, e, d) (ap (λ ys. x ∷ ys) r)
+        | inr d ↦ rw (e, t, e, d) r
+      ]
+      | inr f ↦ (let d = not_due ticks now x (ap (eqb (count_of x % ticks)) same ∙ f) in rw (e, f, d) r)
     ]
 
 pub class_items : (ticks turn : ℕ) (s : Slab Stored) (xs : List ℕ) → items_in s (filter (λ slot. in_class ticks turn (get s slot)) xs) ≡ filter (λ x. eqb (count_of x % ticks) turn) (items_in s xs)
@@ -109,3 +113,23 @@ turn_visits w ticks turn t l =
 -- the slots of the bucket that is due next hold all that is due
 pub bucket_due : (w : WheelView Stored) (ticks turn now : ℕ) (slots : List ℕ) → IsTurning w ticks turn → AreListed w ticks → now % ticks ≡ turn → slots ≡ get_or w.waiting 0 [] → filter (is_due ticks now) (items_in w.slots slots) ≡ filter (is_due ticks now) (items_in w.slots (order w))
 bucket_due w ticks turn now slots t l same is = ap (λ xs. filter (is_due ticks now) (items_in w.slots xs)) (is ∙ turn_slots w ticks turn t l) ∙ due_in_class ticks now turn w.slots (order w) same
+
+pub due_if : {V E : Type 0} (items : V → List ℕ) (w : WheelView Stored) (ticks turn now : ℕ) (r : Result V E) → IsTurning w ticks turn → AreListed w ticks → now % ticks ≡ turn → IfOk r (λ v. items v ≡ get_or w.waiting 0 []) → IfOk r (λ v. filter (is_due ticks now) (items_in w.slots (items v)) ≡ filter (is_due ticks now) (items_in w.slots (order w)))
+due_if items w ticks turn now (Ok v) t l same e = bucket_due w ticks turn now (items v) t l same e
+due_if items w ticks turn now (Err x) t l same e = tt
+
+-- the items that are due of one slot more
+pub due_more : (ticks now : ℕ) (s : Slab Stored) (slots : List ℕ) (i slot : ℕ) → i < length slots → slot ≡ get_or slots i slot
+    → filter (is_due ticks now) (items_in s (take (i + 1) slots)) ≡ filter (is_due ticks now) (items_in s (take i slots)) ++ filter (is_due ticks now) (items_in s (slot ∷ []))
+due_more ticks now s slots i slot lt is =
+    ap (λ xs. filter (is_due ticks now) (items_in s xs)) (take_more slots i slot lt)
+    ∙ (ap (filter (is_due ticks now)) (filter_map-append (get s) (take i slots) (get_or slots i slot ∷ []))
+    ∙ (due_parts (items_in s (take i slots)) (items_in s (get_or slots i slot ∷ []))
+    ∙ ap (λ z. filter (is_due ticks now) (items_in s (take i slots)) ++ filter (is_due ticks now) (items_in s (z ∷ []))) (sym is)))
+  where
+    due_parts : (xs ys : List Stored) → filter (is_due ticks now) (xs ++ ys) ≡ filter (is_due ticks now) xs ++ filter (is_due ticks now) ys
+    due_parts [] ys = refl
+    due_parts (x ∷ xs) ys = elim (cases_Bool (is_due ticks now x)) [
+      | inl t ↦ rw t (ap (λ zs. x ∷ zs) (due_parts xs ys))
+      | inr f ↦ rw f (due_parts xs ys)
+    ]

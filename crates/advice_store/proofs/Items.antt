@@ -60,6 +60,10 @@ key_is (wanted.NotPut id) x t = left (item_is (keys.Advice id) x) _ t
     left true b t = refl
     left false b t = t
 
+pub any_item : (k : StoredKey) (xs : List Stored) → list_any (wants (wanted.Item k)) xs ≡ list_any (item_is k) xs
+any_item k [] = refl
+any_item k (x ∷ xs) = rw (any_item k xs) refl
+
 -- where each item is found by its key
 module _ (v : HeldView) (places : List (StoredKey × ℕ)) (a : ArePlaced v places) (w : Wanted) where
   pub none_placed : lookup (stored_eq (key_wanted w)) places ≡ None → list_any (wants w) (items_of v) ≡ false

@@ -1,4 +1,5 @@
 mod Derived
+mod Loose
 mod Stores
 mod Looking
 mod Standing

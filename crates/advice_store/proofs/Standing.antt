@@ -262,15 +262,15 @@ grown_lists l n e = ap (λ (v : LinksView). (with_heads v n).lists) e ∙ (let s
 -- ---- another value in a slot that has one
 
 within : (xs : List (Option Stored)) (k : ℕ) (y : Stored) → get_or xs k None ≡ Some y → k < length xs
-within [] k y e = absurd (no_item y (sym e ∙ get_or_past {A = Option Stored} [] k None (omega arith)))
+within [] k y e = absurd (no_item y (sym e ∙ get_or_past [] k None (omega arith)))
 within (x ∷ xs) zero y e = omega arith
 within (x ∷ xs) (suc k) y e = let l = within xs k y e in omega (arith, l)
 
 count_written : (xs : List (Option Stored)) (k : ℕ) (y z : Stored) → get_or xs k None ≡ Some y → count_by is_some (set xs k (Some z)) ≡ count_by is_some xs
-count_written [] k y z e = absurd (no_item y (sym e ∙ get_or_past {A = Option Stored} [] k None (omega arith)))
+count_written [] k y z e = absurd (no_item y (sym e ∙ get_or_past [] k None (omega arith)))
 count_written (x ∷ xs) zero y z e = rw e refl
 count_written (None ∷ xs) (suc k) y z e = count_written xs k y z e
-count_written (Some u ∷ xs) (suc k) y z e = let r = count_written xs k y z e in omega (arith, r)
+count_written (Some u ∷ xs) (suc k) y z e = ap (λ (n : ℕ). 1 + n) (count_written xs k y z e)
 
 pub written_updates : (s : Slab Stored) (x : ℕ) (y z : Stored) (id : AdviceId) → get s x ≡ Some y → z ≡ marked_by id y → Updates s (with_value s x z) x (option_map (marked_by id) (get s x))
 written_updates s x y z id e is = record {

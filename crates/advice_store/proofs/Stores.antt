@@ -20,7 +20,7 @@ use Rattle.advice_store.specs.declared.wanted.Wanted.{Wanted}
 use Rattle.advice_store.specs.declared.wanted.Wanted.TheVariants as wanted
 use Rattle.std.specs.Option.{option_map}
 use Rattle.advice_store.proofs.Ids.{stored_flip, stored_refl}
-use Rattle.advice_store.proofs.Items.{found_any, items_less, items_marked, marked_put, none_left, none_placed, none_unmarked, other_placed, placed_less, placed_marked, placed_none}
+use Rattle.advice_store.proofs.Items.{any_item, found_any, items_less, items_marked, marked_put, none_left, none_placed, none_unmarked, other_placed, placed_less, placed_marked, placed_none}
 
 -- ---- lists of items
 
@@ -73,22 +73,18 @@ found_if w v None f = tt
 found_if w v (Some slot) f = found_any w v slot f
 
 pub is_any : (r : Option ℕ) (b : Bool) → IfSome r (λ slot. b ≡ true) → (r ≡ None → b ≡ false) → is_some r ≡ b
-is_any None b yes no = sym (no refl)
-is_any (Some slot) b yes no = sym yes
+is_any None b found missed = sym (missed refl)
+is_any (Some slot) b found missed = sym found
 
 any_put : (id : AdviceId) (xs : List Stored) → list_any (wants (wanted.Put id)) xs ≡ list_any (was_put id) xs
 any_put id [] = refl
 any_put id (x ∷ xs) = rw (any_put id xs) refl
 
 pub put_is : (id : AdviceId) (r : Option ℕ) (xs : List Stored) → IfSome r (λ slot. list_any (wants (wanted.Put id)) xs ≡ true) → (r ≡ None → list_any (wants (wanted.Put id)) xs ≡ false) → is_some r ≡ list_any (was_put id) xs
-put_is id r xs yes no = is_any r (list_any (wants (wanted.Put id)) xs) yes no ∙ any_put id xs
-
-any_item : (k : StoredKey) (xs : List Stored) → list_any (wants (wanted.Item k)) xs ≡ list_any (item_is k) xs
-any_item k [] = refl
-any_item k (x ∷ xs) = rw (any_item k xs) refl
+put_is id r xs found missed = is_any r (list_any (wants (wanted.Put id)) xs) found missed ∙ any_put id xs
 
 pub stored_is : (id : AdviceId) (r : Option ℕ) (xs : List Stored) → IfSome r (λ slot. list_any (wants (wanted.Item (keys.Advice id))) xs ≡ true) → (r ≡ None → list_any (wants (wanted.Item (keys.Advice id))) xs ≡ false) → is_some r ≡ list_any (has_id id) xs
-stored_is id r xs yes no = is_any r (list_any (wants (wanted.Item (keys.Advice id))) xs) yes no ∙ (any_item (keys.Advice id) xs ∙ any_by_id id xs)
+stored_is id r xs found missed = is_any r (list_any (wants (wanted.Item (keys.Advice id))) xs) found missed ∙ (any_item (keys.Advice id) xs ∙ any_by_id id xs)
 
 -- ---- an item leaves, where each is found by its key
 

@@ -1,9 +1,9 @@
-use Rattle.std.proofs.Common.{◌≡◌, ◌≤◌, ℕ, not, filter, length, arith, ap, sym, ◌∙◌, subst, None}
+use Rattle.std.proofs.Common.{rules, ◌≡◌, ◌≤◌, ◌<◌, List, ℕ, not, filter, length, arith, ap, sym, ◌∙◌, subst, None}
 use Rattle.slab.specs.Slab.{slab_len}
 use Rattle.chain_links.specs.Lists.{without}
 use Rattle.advice_store.specs.declared.wanted.Wanted.TheVariants as wanted
 use Rattle.advice_store.specs.Kept.{HeldView, IsFound, item_is, items_of}
-use Rattle.advice_store.proofs.Items.{fewer_slots, if_found, leave_step, none_left}
+use Rattle.advice_store.proofs.Items.{any_item, fewer_slots, if_found, leave_step, none_left}
 use Rattle.advice_store.proofs.held.HeldItems.leave_all.Goals as goal
 
 pub leave-requires : goal.leave-requires
@@ -28,3 +28,16 @@ loop-slot-preserved c =
       capacity = e.capacity ∙ inv.capacity;
       rest = e.rest ∙ ap (λ (h : HeldView). record h { slots = n.slots; order = without c.in-Some.slot v.order }) inv.rest ∙ ap (λ xs. record c.args.self.now { slots = n.slots; order = xs }) (sym order);
     }
+
+pub loop-slot-smaller : goal.loop-slot-smaller
+loop-slot-smaller c =
+    let v = c.loop-slot.self in
+    let f = if_found (λ x. IsFound (wanted.Item c.args.key) v.slots v.order x) c.find.result c.in-Some.slot c.in-Some.is c.find.ensures.found in
+    let order : c.leave.new.self.order ≡ without c.in-Some.slot v.order = ap (λ (h : HeldView). h.order) c.leave.ensures.rest in
+    subst (λ (xs : List ℕ). length xs < length v.order) (sym order) (fewer_slots c.in-Some.slot v.order f.among)
+
+pub returns-clause-items : goal.returns-clause-items
+returns-clause-items c =
+    let none : c.find.result ≡ None = search rules in
+    let items = items_of c.loop-slot.self in
+    sym (none_left c.args.key items (sym (any_item c.args.key items) ∙ c.find.ensures.none none)) ∙ c.loop-slot.invariant.items

@@ -1,6 +1,7 @@
 use Rattle.std.proofs.Common.{◌≡◌, ◌-◌, ℕ, List, [], length, ap, sym, ◌∙◌, get_or}
 use Rattle.std.proofs.Math.ListN.{set}
 use Rattle.chain_links.specs.Lists.{AreApart, Among, list_at}
+use Rattle.slab.specs.Slab.{Slab, get}
 use Rattle.tick_wheel.specs.Wheel.{WheelView, advanced}
 use Rattle.node_machine.specs.Books.{Stored}
 use Rattle.advice_store.specs.Kept.{order}
@@ -35,9 +36,9 @@ invariant_of-self c =
     let slots : c.arm_class.new.wheel.slots ≡ i.wheel.slots = ap (λ (w : WheelView Stored). w.slots) e ∙ ap (λ (w : WheelView Stored). w.slots) f in
     let waiting : c.arm_class.new.wheel.waiting ≡ set (advanced i.wheel).waiting (i.ticks - 1) (list_at i.wheel.link i.turn) =
     ap (λ (w : WheelView Stored). w.waiting) e ∙ ap (λ (w : WheelView Stored). set w.waiting (i.ticks - 1) (list_at w.link i.turn)) f in
-    rw c.turn_after.ensures (
+    rw c.turn_after-self-inside.ensures (
       turned_turning i.wheel i.ticks i.turn c.self.invariant.0 c.arm_class.new.wheel link waiting,
-      same_listed i.wheel c.arm_class.new.wheel i.ticks c.self.invariant.1 (λ k. ap (λ s. get_or s.slots k _) slots) (ap (λ l. l.lists) card) (ap (λ l. l.lists) link),
+      same_listed i.wheel c.arm_class.new.wheel i.ticks c.self.invariant.1 (λ k. ap (λ (s : Slab Stored). get s k) slots) (ap (λ l. l.lists) card) (ap (λ l. l.lists) link),
     )
 
 pub returns-clause-visits : goal.returns-clause-visits
@@ -49,4 +50,4 @@ returns-clause-visits c =
 pub returns-clause-turn : goal.returns-clause-turn
 returns-clause-turn c =
     let i = c.self.inside in
-    rw (← c.self.view_is) (c.turn_after.ensures ∙ after_rest i.ticks i.turn c.self.invariant.0.within)
+    rw (← c.self.view_is) (c.turn_after-self-inside.ensures ∙ after_rest i.ticks i.turn c.self.invariant.0.within)
