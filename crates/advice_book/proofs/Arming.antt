@@ -3,7 +3,7 @@ use Rattle.std.proofs.Common.{◌≡◌, ◌≢◌, inl, inr, ℕ, ◌-◌, ◌<
 use Rattle.std.proofs.Math.ListN.{set}
 use Rattle.std.proofs.lemmas.List.{get_or-set_same, get_or-set_other, set-get_or, length-set}
 use Rattle.std.proofs.lemmas.Bool.{cases_eq}
-use Rattle.chain_links.specs.Rings.{Among, Distinct}
+use Rattle.chain_links.specs.Lists.{Among, Distinct}
 use Rattle.chain_links.proofs.Chains.{among_right, distinct_split, each_left, each_among}
 use Rattle.slot_chains.specs.Chains.{IsListed}
 use Rattle.slot_chains.proofs.Listing.{listed_step, listed_all}

@@ -8,7 +8,7 @@ use Rattle.std.proofs.lemmas.Bool.{cases_Bool, cases_lt, cases_eq}
 use Rattle.std.proofs.lemmas.Bool.Decides.{nat_tests}
 use Rattle.std.proofs.lemmas.List.{length-set, get_or-set_same, get_or-set_other}
 use Rattle.slab.specs.Slab.{Slab, get, slab_len, Updates}
-use Rattle.chain_links.specs.Rings.{LinksView, Among, list_at, pushed}
+use Rattle.chain_links.specs.Lists.{LinksView, Among, list_at, pushed}
 use Rattle.chain_links.proofs.Chains.{among_left, among_right}
 use Rattle.tick_wheel.specs.Wheel.{WheelView, armed}
 use Rattle.advice_book.specs.declared.item.ItemName.{ItemName}
@@ -40,7 +40,8 @@ module _ (places places' : List (ItemName × Held)) (w w' : WheelView ItemName) 
     (own : name_in h.item ≡ n) (here : h.slot ≡ x) (at : h.count ≡ now) (rest : class ≡ now % ticks)
     (ups : Updates w.slots w'.slots x (Some n))
     (len : slab_len w'.slots ≡ slab_len w.slots + 1)
-    (capacity : w'.capacity ≡ w.capacity)
+    (capacity : w'.slots.capacity ≡ w.slots.capacity)
+    (full : length w.link.lists ≡ ticks)
     (card : w'.card ≡ pushed w.card 0 x) (link : w'.link ≡ pushed w.link class x)
     (waiting : w'.waiting ≡ set w.waiting (ticks - 1) (get_or w.waiting (ticks - 1) [] ++ x ∷ [])) where
   one_head : 0 < length w.card.lists
@@ -104,7 +105,7 @@ module _ (places places' : List (ItemName × Held)) (w w' : WheelView ItemName) 
   ]
 
   class_heads_now : class < length w.link.lists
-  class_heads_now = let e = a.class_heads in let s = class_small in omega (arith, e, s)
+  class_heads_now = let s = class_small in omega (arith, full, s)
 
   passes : ℕ → ℕ → Bool
   passes c slot = in_class ticks c (held_in places' w'.slots slot)
@@ -179,14 +180,17 @@ module _ (places places' : List (ItemName × Held)) (w w' : WheelView ItemName) 
             ])))
       ]
 
+  as_many : length w'.link.lists ≡ ticks
+  as_many = ap (λ (l : LinksView). length l.lists) link ∙ (length-set w.link.lists class (list_at w.link class ++ x ∷ []) ∙ full)
+
   pub entered_kept : AreKept places' w' ticks now
   entered_kept = record {
     some = a.some;
     few = a.few;
     early = a.early;
-    capacity = capacity ∙ a.capacity;
     heads = ap (λ (l : LinksView). length l.lists) card ∙ (length-set w.card.lists 0 (list_at w.card 0 ++ x ∷ []) ∙ a.heads);
-    class_heads = ap (λ (l : LinksView). length l.lists) link ∙ (length-set w.link.lists class (list_at w.link class ++ x ∷ []) ∙ a.class_heads);
+    class_heads = inl as_many;
+    class_few = omega (arith, as_many);
     buckets = ap length waiting ∙ (length-set w.waiting (ticks - 1) (get_or w.waiting (ticks - 1) [] ++ x ∷ []) ∙ a.buckets);
     counted = (let e = ap length order_is in let f = a.counted in omega (arith, e, f, len, length-append (order w) (x ∷ [])));
     each = each_now;
@@ -210,6 +214,8 @@ module _ (places places' : List (ItemName × Held)) (w W w' : WheelView ItemName
     (own : name_in h.item ≡ n) (here : h.slot ≡ x) (at : h.count ≡ now) (rest : class ≡ now % ticks)
     (ups : Updates w.slots W.slots x (Some n))
     (len : slab_len W.slots ≡ slab_len w.slots + 1)
+    (capacity : W.slots.capacity ≡ w.slots.capacity)
+    (full : length w.link.lists ≡ ticks)
     (lists : W ≡ record w { slots = W.slots })
     (entered : w' ≡ record (armed W x ticks) { card = pushed W.card 0 x; link = pushed W.link class x }) where
   slots_are : w'.slots ≡ W.slots
@@ -221,8 +227,8 @@ module _ (places places' : List (ItemName × Held)) (w W w' : WheelView ItemName
   link_is : w'.link ≡ pushed w.link class x
   link_is = ap (λ (v : WheelView ItemName). v.link) entered ∙ ap (λ (v : WheelView ItemName). pushed v.link class x) lists
 
-  capacity_is : w'.capacity ≡ w.capacity
-  capacity_is = ap (λ (v : WheelView ItemName). v.capacity) entered ∙ ap (λ (v : WheelView ItemName). v.capacity) lists
+  pub capacity_is : w'.slots.capacity ≡ w.slots.capacity
+  capacity_is = ap (λ (s : Slab ItemName). s.capacity) slots_are ∙ capacity
 
   waiting_is : w'.waiting ≡ set w.waiting (ticks - 1) (get_or w.waiting (ticks - 1) [] ++ x ∷ [])
   waiting_is = ap (λ (v : WheelView ItemName). v.waiting) entered ∙ ap (λ (v : WheelView ItemName). set v.waiting (ticks - 1) (get_or v.waiting (ticks - 1) [] ++ x ∷ [])) lists
@@ -230,14 +236,14 @@ module _ (places places' : List (ItemName × Held)) (w W w' : WheelView ItemName
   ups_are : Updates w.slots w'.slots x (Some n)
   ups_are = let S : Slab ItemName → Type 0 = λ s. Updates w.slots s x (Some n) in subst S (sym slots_are) ups
 
-  len_is : slab_len w'.slots ≡ slab_len w.slots + 1
+  pub len_is : slab_len w'.slots ≡ slab_len w.slots + 1
   len_is = ap (λ (s : Slab ItemName). slab_len s) slots_are ∙ len
 
   pub pushed_kept : AreKept places' w' ticks now
-  pushed_kept = entered_kept places places' w w' ticks now class x n h a new free put own here at rest ups_are len_is capacity_is card_is link_is waiting_is
+  pushed_kept = entered_kept places places' w w' ticks now class x n h a new free put own here at rest ups_are len_is capacity_is full card_is link_is waiting_is
 
   pub pushed_items : items_in places' w'.slots (order w') ≡ items_in places w.slots (order w) ++ shown h ∷ []
-  pushed_items = entered_items places places' w w' ticks now class x n h a new free put own here at rest ups_are len_is capacity_is card_is link_is waiting_is
+  pushed_items = entered_items places places' w w' ticks now class x n h a new free put own here at rest ups_are len_is capacity_is full card_is link_is waiting_is
 
   pub pushed_visits : w'.visits ≡ w.visits
   pushed_visits = ap (λ (v : WheelView ItemName). v.visits) entered ∙ ap (λ (v : WheelView ItemName). v.visits) lists

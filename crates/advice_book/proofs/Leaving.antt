@@ -7,8 +7,9 @@ use Rattle.std.proofs.lemmas.Bool.{cases_Bool, cases_eq}
 use Rattle.std.proofs.lemmas.Bool.Decides.{nat_tests}
 use Rattle.std.proofs.lemmas.List.{length-map}
 use Rattle.slab.specs.Slab.{get, slab_len, Updates, ContainsKey}
-use Rattle.chain_links.specs.Rings.{LinksView, Among, AreApart, IsMember, list_at, unlinked, without}
-use Rattle.tick_wheel.specs.Wheel.{WheelView, IsArmed, disarmed}
+use Rattle.chain_links.specs.Lists.{LinksView, Among, AreApart, IsMember, list_at, unlinked, without}
+use Rattle.slot_chains.specs.Chains.{over}
+use Rattle.tick_wheel.specs.Wheel.{with_slots, WheelView, IsArmed, disarmed}
 use Rattle.std.specs.List.{find}
 use Rattle.advice_book.specs.declared.item.ItemName.{ItemName}
 use Rattle.advice_book.specs.declared.places.Held.{Held}
@@ -71,8 +72,7 @@ module _ (places places' : List (ItemName × Held)) (w w' : WheelView ItemName) 
     (apart : AreApart w.card)
     (ups : Updates w.slots w'.slots h.slot None)
     (len : slab_len w'.slots + 1 ≡ slab_len w.slots)
-    (capacity : w'.capacity ≡ w.capacity)
-    (card : w'.card ≡ unlinked w.card h.slot) (link : w'.link ≡ unlinked w.link h.slot)
+    (card : w'.card ≡ over (unlinked w.card h.slot) w'.slots.capacity) (link : w'.link ≡ over (unlinked w.link h.slot) w'.slots.capacity)
     (waiting : w'.waiting ≡ map (without h.slot) w.waiting) where
   order_is : order w' ≡ without h.slot (order w)
   order_is = ap (λ (l : LinksView). list_at l 0) card ∙ at_unlinked w.card h.slot 0
@@ -132,14 +132,21 @@ module _ (places places' : List (ItemName × Held)) (w w' : WheelView ItemName) 
       ∙ (ap (λ (xs : List ℕ). without h.slot xs) (a.waiting ahead lt)
       ∙ cut (ltb ahead ticks) ((now + 1 + ahead) % ticks)))
 
+  as_many : length w'.link.lists ≡ length w.link.lists
+  as_many = ap (λ (l : LinksView). length l.lists) link ∙ length-map w.link.lists (without h.slot)
+
   pub left_kept : AreKept places' w' ticks now
   left_kept = record {
     some = a.some;
     few = a.few;
     early = a.early;
-    capacity = capacity ∙ a.capacity;
     heads = ap (λ (l : LinksView). length l.lists) card ∙ (length-map w.card.lists (without h.slot) ∙ a.heads);
-    class_heads = ap (λ (l : LinksView). length l.lists) link ∙ (length-map w.link.lists (without h.slot) ∙ a.class_heads);
+    class_heads =
+        elim a.class_heads [
+          | inl e ↦ inl (as_many ∙ e)
+          | inr none ↦ (let m = held_classed places w ticks now n h a is in absurd (subst (Among h.slot) (ap (λ (ls : List (List ℕ)). get_or ls m.0 []) none.1) m.1))
+        ];
+    class_few = (let few = a.class_few in omega (arith, as_many));
     buckets = ap length waiting ∙ (length-map w.waiting (without h.slot) ∙ a.buckets);
     counted = (let k = a.all n h is in let e = ap length order_is in let f = a.counted in let g = length_without h.slot (order w) (apart.once 0) k.0 in omega (arith, e, f, g, len));
     each = each_now;
@@ -174,24 +181,21 @@ module _ (places places' : List (ItemName × Held)) (w w' : WheelView ItemName) 
     (apart : AreApart w.card)
     (ups : Updates w.slots w'.slots h.slot None)
     (len : slab_len w'.slots + 1 ≡ slab_len w.slots)
-    (left : w' ≡ record (disarmed w h.slot) { slots = w'.slots; card = unlinked w.card h.slot; link = unlinked w.link h.slot }) where
-  capacity_is : w'.capacity ≡ w.capacity
-  capacity_is = ap (λ (v : WheelView ItemName). v.capacity) left
-
-  card_is : w'.card ≡ unlinked w.card h.slot
+    (left : w' ≡ with_slots (record (disarmed w h.slot) { card = unlinked w.card h.slot; link = unlinked w.link h.slot }) w'.slots) where
+  card_is : w'.card ≡ over (unlinked w.card h.slot) w'.slots.capacity
   card_is = ap (λ (v : WheelView ItemName). v.card) left
 
-  link_is : w'.link ≡ unlinked w.link h.slot
+  link_is : w'.link ≡ over (unlinked w.link h.slot) w'.slots.capacity
   link_is = ap (λ (v : WheelView ItemName). v.link) left
 
   waiting_is : w'.waiting ≡ map (without h.slot) w.waiting
   waiting_is = ap (λ (v : WheelView ItemName). v.waiting) left
 
   pub removed_kept : AreKept places' w' ticks now
-  removed_kept = left_kept places places' w w' ticks now n h a is gone apart ups len capacity_is card_is link_is waiting_is
+  removed_kept = left_kept places places' w w' ticks now n h a is gone apart ups len card_is link_is waiting_is
 
   pub removed_items : items_in places' w'.slots (order w') ≡ filter (λ x. not (is_named n x)) (items_in places w.slots (order w))
-  removed_items = left_items places places' w w' ticks now n h a is gone apart ups len capacity_is card_is link_is waiting_is
+  removed_items = left_items places places' w w' ticks now n h a is gone apart ups len card_is link_is waiting_is
 
   pub removed_visits : w'.visits ≡ w.visits
   removed_visits = ap (λ (v : WheelView ItemName). v.visits) left

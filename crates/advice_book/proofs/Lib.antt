@@ -11,3 +11,4 @@ pub mod Turning
 pub mod Marking
 pub mod Listing
 pub mod Holding
+pub mod Reserving

@@ -4,7 +4,7 @@ use Rattle.std.proofs.Math.ListN.{set}
 use Rattle.std.specs.List.{find}
 use Rattle.std.proofs.lemmas.Bool.{cases_Bool, cases_eq, eqb-true}
 use Rattle.std.proofs.lemmas.Bool.Decides.{nat_tests}
-use Rattle.chain_links.specs.Rings.{Among, Distinct, without}
+use Rattle.chain_links.specs.Lists.{Among, Distinct, without}
 use Rattle.chain_links.proofs.Chains.{among_split, distinct_split, without_split}
 
 pub not_eqb : (x y : ℕ) → x ≢ y → eqb x y ≡ false

@@ -3,7 +3,7 @@ use Rattle.std.proofs.Common.{◌≡◌, ℕ, List, [], get_or, subst, map}
 use Rattle.std.proofs.Math.ListN.{get_or-map}
 use Rattle.std.proofs.lemmas.List.{get_or_past}
 use Rattle.std.proofs.Common.{arith}
-use Rattle.chain_links.specs.Rings.{LinksView, IsMember, Among, no_lists, without, unlinked, list_at}
+use Rattle.chain_links.specs.Lists.{LinksView, IsMember, Among, no_lists, without, unlinked, list_at}
 use Rattle.slot_chains.specs.declared.family.Family.{Family}
 use Rattle.slot_chains.specs.declared.family.Family.TheVariants.{Bucket, Card, Link}
 use Rattle.tick_wheel.specs.Wheel.{WheelView, IsArmed, lists_in}
@@ -16,7 +16,7 @@ at_unlinked l slot h = get_or-map (without slot) l.lists h []
 loose_after : (l : LinksView) (slot : ℕ) → IsMember (unlinked l slot) slot → ⊥
 loose_after l slot m = let P : List ℕ → Type 0 = λ xs. Among slot xs in among_gone slot (list_at l m.0) (subst P (at_unlinked l slot m.0) m.1)
 
-no_members : (x : ℕ) → IsMember (no_lists 0 0) x → ⊥
+no_members : (x : ℕ) → IsMember no_lists x → ⊥
 no_members x m = let P : List ℕ → Type 0 = λ xs. Among x xs in subst P (get_or_past [] m.0 [] (omega arith)) m.1
 
 unarmed_after : (ws : List (List ℕ)) (x h : ℕ) → Among x (get_or (map (without x) ws) h []) → ⊥

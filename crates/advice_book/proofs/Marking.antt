@@ -4,7 +4,7 @@ use Rattle.std.specs.Option.{option_map}
 use Rattle.std.specs.Map.{lookup}
 use Rattle.std.proofs.lemmas.Bool.{cases_Bool}
 use Rattle.slab.specs.Slab.{get}
-use Rattle.chain_links.specs.Rings.{Among}
+use Rattle.chain_links.specs.Lists.{Among}
 use Rattle.tick_wheel.specs.Wheel.{WheelView}
 use Rattle.advice_book.specs.declared.item.ItemName.{ItemName}
 use Rattle.advice_book.specs.declared.places.Held.{Held}
@@ -88,9 +88,9 @@ module _ (places places' : List (ItemName × Held)) (w : WheelView ItemName) (ti
     some = a.some;
     few = a.few;
     early = a.early;
-    capacity = a.capacity;
     heads = a.heads;
     class_heads = a.class_heads;
+    class_few = a.class_few;
     buckets = a.buckets;
     counted = a.counted;
     each = each_now;

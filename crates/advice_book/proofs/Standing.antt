@@ -1,11 +1,11 @@
 -- Where items stand, and how they are found.
-use Rattle.std.proofs.Common.{◌≡◌, ◌≢◌, inl, inr, ℕ, ◌+◌, ◌≤◌, ◌%◌, Bool, true, false, cond, List, [], length, filter, get_or, Option, Some, None, is_some, replicate, ltb, arith, refl, sym, ap, ◌∙◌, subst}
+use Rattle.std.proofs.Common.{◌≡◌, ◌≢◌, ◌⊎◌, inl, inr, ℕ, ◌+◌, ◌≤◌, ◌%◌, Bool, true, false, cond, List, [], ◌∷◌, length, filter, get_or, Option, Some, None, is_some, replicate, ltb, arith, refl, sym, ap, ◌∙◌, subst}
 use Rattle.std.specs.Option.{option_map, option_and_then}
 use Rattle.std.specs.Map.{lookup}
 use Rattle.std.proofs.lemmas.Bool.{cases_lt}
 use Rattle.std.proofs.lemmas.List.{get_or_past, get_or-replicate, length-replicate}
-use Rattle.slab.specs.Slab.{Slab, get}
-use Rattle.chain_links.specs.Rings.{Among, IsMember, list_at}
+use Rattle.slab.specs.Slab.{Slab, get, slab_len, SameValues}
+use Rattle.chain_links.specs.Lists.{Among, IsMember, list_at}
 use Rattle.tick_wheel.specs.Wheel.{WheelView, IsArmed}
 use Rattle.advice_book.specs.declared.item.ItemName.{ItemName}
 use Rattle.advice_book.specs.declared.places.Held.{Held}
@@ -41,8 +41,12 @@ module _ (places : List (ItemName × Held)) (w : WheelView ItemName) (ticks now 
       let P : List ℕ → Type 0 = λ xs. Among x xs in
       elim (cases_lt c ticks) [
         | inl lt ↦ (let k = among_filter (λ slot. in_class ticks c (held_in places w.slots slot)) x (order w) (subst P (a.classes c lt) m) in k.0)
-        | inr ge ↦ absurd (subst P (get_or_past w.link.lists c [] (omega (arith, ge, a.class_heads))) m)
+        | inr ge ↦ absurd (subst P (get_or_past w.link.lists c [] (omega (arith, ge, a.class_few))) m)
       ]
+
+  -- where there are slots, each class has its list
+  pub classes_there : 1 ≤ w.slots.capacity → length w.link.lists ≡ ticks
+  classes_there some = elim a.class_heads [ inl e ↦ e | inr none ↦ (let zero_is = none.0 in absurd (omega (arith, zero_is, some))) ]
 
   pub class_member : (x : ℕ) → IsMember w.link x → Among x (order w)
   class_member x m = in_some_class m.0 x m.1
@@ -138,9 +142,9 @@ module _ (places : List (ItemName × Held)) (w : WheelView ItemName) (ticks now 
       some = a.some;
       few = a.few;
       early = a.early;
-      capacity = a.capacity;
       heads = a.heads;
       class_heads = a.class_heads;
+      class_few = a.class_few;
       buckets = a.buckets;
       counted = a.counted;
       each = λ y m. let e = a.each y m in record { name = e.name; held = e.held; named = e.named; placed = same e.name ∙ e.placed; own = e.own; here = e.here; past = e.past };
@@ -149,19 +153,62 @@ module _ (places : List (ItemName × Held)) (w : WheelView ItemName) (ticks now 
       waiting = a.waiting;
     }
 
-pub new_kept : (places : List (ItemName × Held)) (w : WheelView ItemName) (ticks : ℕ) → 1 ≤ ticks → ticks ≤ 4000 → places ≡ [] → w.slots.slots ≡ [] → w.capacity ≡ 65536 → w.waiting ≡ replicate 4096 [] → w.card.lists ≡ replicate 1 [] → w.link.lists ≡ replicate ticks [] → AreKept places w ticks 0
+-- the same items in a wheel with more slots and classes
+module _ (places : List (ItemName × Held)) (w w' : WheelView ItemName) (ticks now : ℕ) (a : AreKept places w ticks now) (values : SameValues w.slots w'.slots) (len : slab_len w'.slots ≡ slab_len w.slots)
+    (waiting : w'.waiting ≡ w.waiting) (card : w'.card.lists ≡ w.card.lists) (link : (c : ℕ) → list_at w'.link c ≡ list_at w.link c)
+    (heads : (length w'.link.lists ≡ ticks) ⊎ ((w'.slots.capacity ≡ 0) × (w'.link.lists ≡ []))) (few : length w'.link.lists ≤ ticks) where
+  order_is : order w' ≡ order w
+  order_is = ap (λ (ls : List (List ℕ)). get_or ls 0 []) card
+
+  held_is : (y : ℕ) → held_in places w'.slots y ≡ held_in places w.slots y
+  held_is y = ap (λ (o : Option ItemName). option_and_then (λ n. lookup (name_eq n) places) o) (values y)
+
+  in_order : (y : ℕ) → Among y (order w') → Among y (order w)
+  in_order y m = let P : List ℕ → Type 0 = λ xs. Among y xs in subst P order_is m
+
+  pub wider_items : items_in places w'.slots (order w') ≡ items_in places w.slots (order w)
+  wider_items =
+      ap (λ (xs : List ℕ). items_in places w'.slots xs) order_is
+      ∙ same_found (λ slot. option_map shown (held_in places w'.slots slot)) (λ slot. option_map shown (held_in places w.slots slot)) (order w) (λ y m. ap (λ (o : Option Held). option_map shown o) (held_is y))
+
+  at_class : (b : Bool) (c : ℕ) → cond b (list_at w.link c) [] ≡ cond b (list_at w'.link c) []
+  at_class true c = sym (link c)
+  at_class false c = refl
+
+  pub wider_kept : AreKept places w' ticks now
+  wider_kept = record {
+    some = a.some;
+    few = a.few;
+    early = a.early;
+    heads = ap length card ∙ a.heads;
+    class_heads = heads;
+    class_few = few;
+    buckets = ap length waiting ∙ a.buckets;
+    counted = len ∙ (a.counted ∙ sym (ap length order_is));
+    each = λ y m. let e = a.each y (in_order y m) in record { name = e.name; held = e.held; named = values y ∙ e.named; placed = e.placed; own = e.own; here = e.here; past = e.past };
+    all = λ n h e. let k = a.all n h e in (let P : List ℕ → Type 0 = λ xs. Among h.slot xs in subst P (sym order_is) k.0, values h.slot ∙ k.1);
+    classes =
+        λ c lt.
+        link c
+        ∙ (a.classes c lt
+        ∙ (same_filter (λ slot. in_class ticks c (held_in places w.slots slot)) (λ slot. in_class ticks c (held_in places w'.slots slot)) (order w) (λ y m. ap (λ (o : Option Held). in_class ticks c o) (sym (held_is y)))
+        ∙ ap (λ (xs : List ℕ). filter (λ slot. in_class ticks c (held_in places w'.slots slot)) xs) (sym order_is)));
+    waiting = λ ahead lt. ap (λ (ws : List (List ℕ)). get_or ws ahead []) waiting ∙ (a.waiting ahead lt ∙ at_class (ltb ahead ticks) ((now + 1 + ahead) % ticks));
+  }
+
+pub new_kept : (places : List (ItemName × Held)) (w : WheelView ItemName) (ticks : ℕ) → 1 ≤ ticks → ticks ≤ 4000 → places ≡ [] → w.slots.slots ≡ [] → w.slots.capacity ≡ 0 → w.waiting ≡ replicate 4096 [] → w.card.lists ≡ [] ∷ [] → w.link.lists ≡ [] → AreKept places w ticks 0
 new_kept places w ticks some few np ns cap nw nc nl = record {
   some = some;
   few = few;
   early = omega arith;
-  capacity = cap;
   heads = ap length nc;
-  class_heads = ap length nl ∙ length-replicate {A = List ℕ} ticks [];
+  class_heads = inr (cap, nl);
+  class_few = omega (arith, ap length nl);
   buckets = ap length nw ∙ length-replicate {A = List ℕ} 4096 [];
   counted = rw (ns, none) refl;
   each = λ y m. let P : List ℕ → Type 0 = λ xs. Among y xs in absurd (subst P none m);
   all = λ n h e. (let f : None ≡ Some h = rw np at e in absurd (cc));
-  classes = λ c lt. ap (λ (ls : List (List ℕ)). get_or ls c []) nl ∙ (get_or-replicate ticks c [] [] lt ∙ sym (ap (λ (xs : List ℕ). filter (λ slot. in_class ticks c (held_in places w.slots slot)) xs) none));
+  classes = λ c lt. empty c ∙ sym (ap (λ (xs : List ℕ). filter (λ slot. in_class ticks c (held_in places w.slots slot)) xs) none);
   waiting =
       λ ahead lt.
       ap (λ (ls : List (List ℕ)). get_or ls ahead []) nw ∙ (get_or-replicate 4096 ahead [] [] lt ∙ sym (go (ltb ahead ticks) ((0 + 1 + ahead) % ticks)));
@@ -170,14 +217,11 @@ new_kept places w ticks some few np ns cap nw nc nl = record {
   none = ap (λ (ls : List (List ℕ)). get_or ls 0 []) nc
 
   empty : (c : ℕ) → list_at w.link c ≡ []
-  empty c = elim (cases_lt c ticks) [
-    | inl lt ↦ ap (λ (ls : List (List ℕ)). get_or ls c []) nl ∙ get_or-replicate ticks c [] [] lt
-    | inr ge ↦ ap (λ (ls : List (List ℕ)). get_or ls c []) nl ∙ get_or_past (replicate ticks []) c [] (omega (arith, ge, length-replicate {A = List ℕ} ticks []))
-  ]
+  empty c = ap (λ (ls : List (List ℕ)). get_or ls c []) nl
 
   go : (b : Bool) (c : ℕ) → cond b (list_at w.link c) [] ≡ []
   go true c = empty c
   go false c = refl
 
-pub new_items : (places : List (ItemName × Held)) (w : WheelView ItemName) → w.card.lists ≡ replicate 1 [] → items_in places w.slots (order w) ≡ []
+pub new_items : (places : List (ItemName × Held)) (w : WheelView ItemName) → w.card.lists ≡ [] ∷ [] → items_in places w.slots (order w) ≡ []
 new_items places w nc = ap (λ (xs : List ℕ). items_in places w.slots xs) (ap (λ (ls : List (List ℕ)). get_or ls 0 []) nc)

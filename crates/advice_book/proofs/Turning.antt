@@ -7,7 +7,7 @@ use Rattle.std.proofs.lemmas.Bool.{cases_lt, cases_eq}
 use Rattle.std.proofs.lemmas.Bool.Decides.{nat_tests}
 use Rattle.std.proofs.lemmas.List.{length-set, get_or_past, get_or-set_same, get_or-set_other, get_or-drop, get_or_append_left, get_or-append_right}
 use Rattle.slab.specs.Slab.{get, ContainsKey}
-use Rattle.chain_links.specs.Rings.{Among, list_at}
+use Rattle.chain_links.specs.Lists.{Among, list_at}
 use Rattle.tick_wheel.specs.Wheel.{WheelView, IsArmed, advanced}
 use Rattle.advice_book.specs.declared.item.ItemName.{ItemName}
 use Rattle.advice_book.specs.declared.places.Held.{Held}
@@ -164,9 +164,9 @@ module _ (places : List (ItemName × Held)) (w : WheelView ItemName) (ticks now 
     some = a.some;
     few = a.few;
     early = omega (arith, lt);
-    capacity = a.capacity;
     heads = a.heads;
     class_heads = a.class_heads;
+    class_few = a.class_few;
     buckets = length-set (drop 1 w.waiting ++ [] ∷ []) (ticks - 1) (list_at w.link ((now + 1) % ticks)) ∙ length_moved w.waiting a.buckets;
     counted = a.counted;
     each = λ y m. let e = a.each y m in record { name = e.name; held = e.held; named = e.named; placed = e.placed; own = e.own; here = e.here; past = (let p = e.past in omega (arith, p)) };

@@ -1,9 +1,9 @@
 -- How the items are kept, and how that stands to what they are seen as.
-use Rattle.std.specs.Prelude.{◌≡◌, ◌==◌, ℕ, ◌+◌, ◌%◌, ◌<◌, ◌≤◌, ◌^◌, Bool, false, cond, nat_lt, List, [], length, filter, filter_map, Option, Some, None, slice_index_or}
+use Rattle.std.specs.Prelude.{◌≡◌, ◌==◌, ◌⊎◌, ℕ, ◌+◌, ◌-◌, ◌%◌, ◌<◌, ◌≤◌, ◌^◌, Bool, false, cond, min, nat_lt, List, [], length, filter, filter_map, Option, Some, None, slice_index_or}
 use Rattle.std.specs.Option.{option_map, option_and_then}
 use Rattle.std.specs.Map.{lookup}
 use Rattle.slab.specs.Slab.{Slab, get, slab_len}
-use Rattle.chain_links.specs.Rings.{Among, list_at}
+use Rattle.chain_links.specs.Lists.{Among, list_at}
 use Rattle.tick_wheel.specs.Wheel.{WheelView}
 use Rattle.advice_book.specs.declared.item.ItemName.{ItemName}
 use Rattle.advice_book.specs.declared.places.Held.{Held}
@@ -41,6 +41,10 @@ abbrev pub in_class : ℕ → ℕ → Option Held → Bool
 in_class ticks class None = false
 in_class ticks class (Some h) = h.count % ticks == class
 
+-- for how many items there is memory, where the map has so much to spare
+abbrev pub room_in : ℕ → WheelView ItemName → ℕ
+room_in spare w = min spare (w.slots.capacity - slab_len w.slots)
+
 -- a slot has the name of its item
 pub record IsHeldAt (places : List (ItemName × Held)) (s : Slab ItemName) (now slot : ℕ) : Type 0 where
   pub name : ItemName
@@ -56,9 +60,9 @@ pub record AreKept (places : List (ItemName × Held)) (w : WheelView ItemName) (
   pub some : 1 ≤ ticks
   pub few : ticks ≤ 4000
   pub early : now ≤ 2 ^ 63
-  pub capacity : w.capacity ≡ 65536
   pub heads : length w.card.lists ≡ 1
-  pub class_heads : length w.link.lists ≡ ticks
+  pub class_heads : (length w.link.lists ≡ ticks) ⊎ ((w.slots.capacity ≡ 0) × (w.link.lists ≡ []))
+  pub class_few : length w.link.lists ≤ ticks
   pub buckets : length w.waiting ≡ 4096
   pub counted : slab_len w.slots ≡ length (order w)
   pub each : (slot : ℕ) → Among slot (order w) → IsHeldAt places w.slots now slot

@@ -137,14 +137,20 @@ impl AdviceBook {
         self.reserved -= n;
     }
 
-    /// Makes room: the next so many calls of `store`, `store_grant` and `note` find memory.
+    /// Makes room: the next so many calls of `store`, `store_grant` and `note` find memory. Where it is refused, room that was made before is
+    /// lost.
     pub fn room(&mut self, n: usize) -> Result<(), AllocError>
         ensures ok { OnOk result (self.new ≡ record self.old { room = max self.old.room n }) }
-        ensures err { OnErr result (self.new ≡ self.old) }
+        ensures err { OnErr result (self.new ≡ record self.old { room = 0 }) }
     {
         if n > self.room {
+            self.room = 0;
+            // More items have no memory.
+            if n > u32::MAX as usize {
+                return Err(AllocError);
+            }
             self.known.reserve(n)?;
-            self.held.reserve(n)?;
+            self.held.reserve(n as u32)?;
             self.room = n;
         }
         Ok(())

@@ -12,9 +12,6 @@ use std::collections::HashMap;
 use std::marker::Model;
 use tick_wheel::{Family, SlotId, Wheel};
 
-/// How many items may be held.
-const PLACES: u32 = 65536;
-
 /// More ticks than a node makes.
 const MOST_TICKS: u64 = 1 << 63;
 
@@ -32,11 +29,11 @@ pub(crate) struct HeldItems {
 
 impl Model for HeldItems {
     ghost use Rattle.std.specs.HashMap.{spare};
-    ghost use Rattle.advice_book.specs.Kept.{HeldView, items_in, order, AreKept};
+    ghost use Rattle.advice_book.specs.Kept.{HeldView, items_in, order, room_in, AreKept};
 
     ghost Value = { HeldView };
 
-    ghost view = { λ h. record { items = items_in h.places.entries h.wheel.slots (order h.wheel); ticks = h.ticks; count = h.count; visits = h.wheel.visits; room = spare h.places } };
+    ghost view = { λ h. record { items = items_in h.places.entries h.wheel.slots (order h.wheel); ticks = h.ticks; count = h.count; visits = h.wheel.visits; room = room_in (spare h.places) h.wheel } };
 
     ghost invariant = { λ h. AreKept h.places.entries h.wheel h.ticks h.count };
 }
@@ -64,11 +61,13 @@ impl HeldItems {
         requires few { ticks ≤ 4000 }
         ensures { IfOk result (λ h. h ≡ record { items = []; ticks = ticks; count = 0; visits = 0; room = h.room }) }
     {
+        let mut wheel = Wheel::new(alloc)?;
+        wheel.grow_heads(Family::Card, 1)?;
         Ok(HeldItems {
             alloc,
             ticks,
             count: 0,
-            wheel: Wheel::new(alloc, PLACES, 1, ticks as u32)?,
+            wheel,
             places: HashMap::new(alloc),
         })
     }
@@ -80,14 +79,20 @@ impl HeldItems {
         self.wheel.len(Family::Card, 0)
     }
 
-    /// The next n items need no memory.
-    pub fn reserve(&mut self, n: usize) -> Result<(), AllocError>
+    /// The next n items need no memory. Where it is refused, the next item may need some.
+    pub fn reserve(&mut self, n: u32) -> Result<(), AllocError>
         ensures same { self.new ≡ record self.old { room = self.new.room } }
-        ensures more { self.old.room ≤ self.new.room }
+        ensures more { OnOk result (self.old.room ≤ self.new.room) }
         ensures ok { OnOk result (n ≤ self.new.room) }
         ensures succeeds { n ≤ self.old.room → IsOk result }
     {
-        self.places.reserve(n)
+        if n == 0 {
+            return Ok(());
+        }
+        self.places.reserve(n as usize)?;
+        // The classes come with the first slots.
+        self.wheel.grow_heads(Family::Link, self.ticks as u32)?;
+        self.wheel.room(n)
     }
 
     pub fn find(&self, name: &ItemName) -> Option<&Item>
@@ -136,16 +141,15 @@ impl HeldItems {
         ensures room { self.old.room ≤ self.new.room + 1 }
     {
         let name = item.name();
-        if let Ok(slot) = self.wheel.insert(name) {
-            let count = self.count;
-            enter(
-                &mut self.wheel,
-                slot,
-                class_of(count, self.ticks),
-                self.ticks,
-            );
-            place(&mut self.places, name, Held { slot, count, item });
-        }
+        let slot = self.wheel.insert(name);
+        let count = self.count;
+        enter(
+            &mut self.wheel,
+            slot,
+            class_of(count, self.ticks),
+            self.ticks,
+        );
+        place(&mut self.places, name, Held { slot, count, item });
     }
 
     /// Takes the item of a name out. Answers whether there was one.

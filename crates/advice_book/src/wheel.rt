@@ -1,8 +1,8 @@
 //! Slots of items in their lists: the order of storing, a list for each class, and the tick at which each is due.
 ghost use Rattle.std.specs.Prelude.{◌≡◌, ◌≢◌, ◌<◌, ◌+◌, ◌-◌, ◌≤◌, ◌%◌, ◌^◌, ◌∷◌, ◌++◌, ℕ, [], length, map, slice_set, None};
-ghost use Rattle.slab.specs.Slab.{get, slab_len, Updates, ContainsKey};
-ghost use Rattle.chain_links.specs.Rings.{IsMember, Among, AreApart, list_at, pushed, unlinked, without};
-ghost use Rattle.tick_wheel.specs.Wheel.{IsArmed, due_after, armed, disarmed};
+ghost use Rattle.slab.specs.Slab.{get, slab_len, HasRoomFor, Updates, ContainsKey};
+ghost use Rattle.chain_links.specs.Lists.{IsMember, Among, AreApart, list_at, pushed, unlinked, without};
+ghost use Rattle.tick_wheel.specs.Wheel.{with_slots, IsArmed, due_after, armed, disarmed};
 
 use crate::item::ItemName;
 use tick_wheel::{Family, SlotId, Wheel};
@@ -39,9 +39,10 @@ pub(crate) fn leave(wheel: &mut Wheel<ItemName>, slot: SlotId)
     requires armed { IsArmed wheel.old slot }
     requires member { IsMember wheel.old.card slot }
     requires classed { IsMember wheel.old.link slot }
-    ensures wheel { wheel.new ≡ record (disarmed wheel.old slot) { slots = wheel.new.slots; card = unlinked wheel.old.card slot; link = unlinked wheel.old.link slot } }
+    ensures wheel { wheel.new ≡ with_slots (record (disarmed wheel.old slot) { card = unlinked wheel.old.card slot; link = unlinked wheel.old.link slot }) wheel.new.slots }
     ensures slots { Updates wheel.old.slots wheel.new.slots slot None }
     ensures len { slab_len wheel.new.slots + 1 ≡ slab_len wheel.old.slots }
+    ensures room { (n : ℕ) → HasRoomFor wheel.old.slots n → HasRoomFor wheel.new.slots n }
     ensures apart { AreApart wheel.old.card }
 {
     // No slot stands twice in the order.

@@ -1,7 +1,6 @@
 -- The derived comparison of keys is the stated one.
-use Rattle.std.proofs.Common.{◌≡◌, Bool, List, refl}
-use Rattle.book_index.specs.Found.{found}
-use Rattle.book_index.specs.declared.index.Place.{Place}
+use Rattle.std.proofs.Common.{◌≡◌, ℕ, Bool, List, refl}
+use Rattle.std.specs.Map.{lookup}
 use Rattle.message_keys.specs.declared.keys.AdviceKind.{AdviceKind}
 use Rattle.message_keys.specs.declared.keys.AdviceKind.TheVariants as kinds
 use Rattle.advice_store.specs.Kept.{stored_eq}
@@ -24,5 +23,5 @@ derived_is (keys.Grant a) (keys.Grant b) = refl
 derived_is (keys.Advice a) (keys.Grant b) = refl
 derived_is (keys.Grant a) (keys.Advice b) = refl
 
-pub found_is : (k : StoredKey) (es : List (StoredKey × Place)) → found (derived_eq k) es ≡ found (stored_eq k) es
-found_is k es = λ i. found (λ x. derived_is k x i) es
+pub lookup_is : (k : StoredKey) (es : List (StoredKey × ℕ)) → lookup (derived_eq k) es ≡ lookup (stored_eq k) es
+lookup_is k es = λ i. lookup (λ x. derived_is k x i) es

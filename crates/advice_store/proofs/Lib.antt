@@ -1,6 +1,11 @@
-mod Mapped
-mod Ids
-mod Slotted
-mod Sorted
-mod Stores
 mod Derived
+mod Loose
+mod Stores
+mod Looking
+mod Standing
+mod Items
+mod Due
+mod Arming
+mod Lists
+mod Turning
+mod Ids

@@ -1,58 +1,61 @@
-//! The places of items by what they are known by.
-ghost use Rattle.std.specs.Prelude.{◌≡◌, ◌≤◌, ◌+◌, OnOk, cond};
+//! The slots of items by what they are known by.
+ghost use Rattle.std.specs.Prelude.{◌≡◌, ◌≤◌, ◌+◌, OnOk, Some, None, cond, is_some};
+ghost use Rattle.std.specs.Map.{lookup};
 ghost use Rattle.crowded_map.specs.Values.{spare};
-ghost use Rattle.book_index.specs.Found.{found, joined};
 ghost use Rattle.advice_store.specs.Kept.{stored_eq};
 
 use crate::key::StoredKey;
-use book_index::{Place, PlaceIndex};
+use crowded_map::CrowdedMap;
 use std::alloc::{AllocError, Global};
+use tick_wheel::SlotId;
 
-/// The places of items.
+/// The slot of each key, of the newest item where there are several of it.
 #[derive(Drop)]
 pub(crate) struct StoredPlaces {
-    pub index: PlaceIndex<StoredKey>,
+    pub slots: CrowdedMap<StoredKey, SlotId>,
 }
 
 impl StoredPlaces {
-    /// No item has a place.
+    /// No key has a slot.
     pub fn new(alloc: Global) -> StoredPlaces
-        ensures { (k : StoredKey) → found (stored_eq k) result.index.places.entries ≡ Place.Nowhere }
+        ensures { (k : StoredKey) → lookup (stored_eq k) result.slots.entries ≡ None }
     {
         StoredPlaces {
-            index: PlaceIndex::new(alloc),
+            slots: CrowdedMap::new(alloc),
         }
     }
 
-    /// The next n items need no memory.
+    /// The next n keys need no memory.
     pub fn reserve(&mut self, n: usize) -> Result<(), AllocError>
-        ensures found { (k : StoredKey) → found (stored_eq k) self.new.index.places.entries ≡ found (stored_eq k) self.old.index.places.entries }
-        ensures room { OnOk result (n ≤ spare self.new.index.places) }
+        ensures slots { (k : StoredKey) → lookup (stored_eq k) self.new.slots.entries ≡ lookup (stored_eq k) self.old.slots.entries }
+        ensures room { OnOk result (n ≤ spare self.new.slots) }
     {
-        self.index.reserve(n)
+        self.slots.reserve(n)
     }
 
-    /// What is known of a key.
-    pub fn find(&self, key: StoredKey) -> Place
-        ensures { result ≡ found (stored_eq key) self.now.index.places.entries }
+    /// The slot of a key.
+    pub fn find(&self, key: StoredKey) -> Option<SlotId>
+        ensures { result ≡ lookup (stored_eq key) self.now.slots.entries }
     {
-        self.index.find(&key)
+        self.slots.get(&key).copied()
     }
 
-    /// The key has this place too.
-    pub fn add(&mut self, key: StoredKey, place: usize)
-        requires { 1 ≤ spare self.old.index.places }
-        ensures found { (k : StoredKey) → found (stored_eq k) self.new.index.places.entries ≡ cond (stored_eq key k) (joined (found (stored_eq key) self.old.index.places.entries) place) (found (stored_eq k) self.old.index.places.entries) }
-        ensures room { spare self.old.index.places ≤ spare self.new.index.places + 1 }
+    /// The key has this slot. Answers whether it had one before.
+    pub fn put(&mut self, key: StoredKey, slot: SlotId) -> bool
+        requires { 1 ≤ spare self.old.slots }
+        ensures again { result ≡ is_some (lookup (stored_eq key) self.old.slots.entries) }
+        ensures slots { (k : StoredKey) → lookup (stored_eq k) self.new.slots.entries ≡ cond (stored_eq key k) (Some slot) (lookup (stored_eq k) self.old.slots.entries) }
+        ensures room { spare self.old.slots ≤ spare self.new.slots + 1 }
     {
-        self.index.add(key, place);
+        self.slots.insert(key, slot).is_some()
     }
 
-    /// The key has no place.
-    pub fn remove(&mut self, key: StoredKey)
-        ensures found { (k : StoredKey) → found (stored_eq k) self.new.index.places.entries ≡ cond (stored_eq key k) Place.Nowhere (found (stored_eq k) self.old.index.places.entries) }
-        ensures room { spare self.old.index.places ≤ spare self.new.index.places }
+    /// The key has no slot. Answers the one that it had.
+    pub fn remove(&mut self, key: StoredKey) -> Option<SlotId>
+        ensures slot { result ≡ lookup (stored_eq key) self.old.slots.entries }
+        ensures slots { (k : StoredKey) → lookup (stored_eq k) self.new.slots.entries ≡ cond (stored_eq key k) None (lookup (stored_eq k) self.old.slots.entries) }
+        ensures room { spare self.old.slots ≤ spare self.new.slots }
     {
-        self.index.remove(&key);
+        self.slots.remove(&key)
     }
 }

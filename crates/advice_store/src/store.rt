@@ -1,112 +1,110 @@
 //! The store of advices.
-ghost use Rattle.std.specs.Prelude.{◌≡◌, ◌+◌, ◌-◌, ◌<◌, ◌≤◌, [], ◌∷◌, ◌++◌, map, filter, not, OnOk, IfOk, length, drop};
+ghost use Rattle.std.specs.Prelude.{◌≡◌, ◌+◌, ◌-◌, ◌%◌, ◌<◌, ◌≤◌, [], ◌∷◌, ◌++◌, ℕ, false, map, filter, not, min, max, None, OnOk, IfOk, IfSome, length};
 ghost use Rattle.std.specs.List.{list_any};
+ghost use Rattle.std.specs.Map.{lookup};
+ghost use Rattle.std.specs.Vec.{vec_len, vec_capacity};
+ghost use Rattle.slab.specs.Slab.{slab_len, HasRoomFor, SameValues};
+ghost use Rattle.crowded_map.specs.Sets as sets;
 ghost use Rattle.message_keys.specs.Keys.{identity_of, identity_eq};
 ghost use Rattle.node_machine.specs.Lists.{is_among};
 ghost use Rattle.node_machine.specs.Books.{Advised, Granted};
 ghost use Rattle.node_machine.specs.Machine.{is_due, was_put};
-ghost use Rattle.advice_store.specs.Advices.{marked_by, has_id, packet_acked};
 ghost use Rattle.crowded_map.specs.Values.{spare};
-ghost use Rattle.crowded_map.specs.Sets as sets;
-ghost use Rattle.std.specs.Vec.{vec_len, vec_capacity};
-ghost use Rattle.book_index.specs.Found.{found};
-ghost use Rattle.advice_store.specs.Kept.{HasRoom, item_is, stored_eq};
+ghost use Rattle.advice_store.specs.Advices.{AreBefore, marked_by, has_id, packet_acked};
+ghost use Rattle.advice_store.specs.Kept.{ArePlaced, HasRoom, item_is, items_of, stored_eq, wants};
 
-use crate::classes::{PlaceList, no_classes, prune, sort_all};
+use crate::held::HeldItems;
 use crate::item::{KeptAdvice, KeptGrant, StoredCase, StoredItem};
 use crate::key::{GrantNumber, StoredKey};
 use crate::known::KnownIds;
 use crate::places::StoredPlaces;
-use crate::slots::{
-    Slot, count_after, free_at, has_at, mark_at, push_all_due, push_due_at, was_put_at,
-};
-use book_index::Place;
+use crate::wanted::Wanted;
 use message_keys::AdviceId;
 use network_law::GrantPacket;
 use std::alloc::{AllocError, Global};
 use std::marker::Model;
+use tick_wheel::SlotId;
+
+/// After how many ticks at most an item is due again by the wheel.
+const MOST_TICKS: u16 = 4000;
 
 /// The advices and grants that wait for their acknowledgement, and all identities that were ever known.
 #[derive(Drop)]
 pub struct AdviceStore {
-    alloc: Global,
-    // After so many ticks an item is sent again.
-    ticks: u16,
-    // In stored order. An item keeps its place until it is acknowledged, and its place is never used again.
-    slots: Vec<Slot>,
-    // The number of items.
-    len: usize,
+    held: HeldItems,
     places: StoredPlaces,
-    // The places of the items of each class, but for those that are staged.
-    classes: Vec<PlaceList>,
-    // The places of the newest items. The first ones are in their classes already.
-    staged: Vec<usize>,
-    moved: usize,
+    // Whether a key ever had an item more while it had one. The places of keys don't tell enough then.
+    several: bool,
     known: Vec<AdviceId>,
     ids: KnownIds,
     room: usize,
 }
 
 impl Model for AdviceStore {
-    ghost use Rattle.std.specs.Prelude.{vec_len, vec_capacity, drop};
+    ghost use Rattle.std.specs.Prelude.{vec_len, vec_capacity};
     ghost use Rattle.crowded_map.specs.Values.{spare};
     ghost use Rattle.crowded_map.specs.Sets as sets;
     ghost use Rattle.advice_store.specs.Advices.{Store};
-    ghost use Rattle.advice_store.specs.Kept.{live, IsStore, HasRoom};
+    ghost use Rattle.advice_store.specs.Kept.{items_of, IsStore, HasRoom};
 
     ghost Value = { Store };
 
-    ghost view = { λ b. record { store = live b.slots.items; known = b.known.items; room = b.room } };
+    ghost view = { λ b. record { store = items_of b.held; known = b.known.items; room = b.room; ticks = b.held.ticks; turn = b.held.turn; visits = b.held.visits } };
 
-    ghost invariant = { λ b. IsStore b.slots.items b.len b.ticks b.classes.items (drop b.moved b.staged.items) b.places.index.places.entries b.ids.ids.keys b.known.items × HasRoom b.room (vec_len b.slots) (vec_capacity b.slots) (vec_len b.known) (vec_capacity b.known) b.moved (vec_len b.staged) (vec_capacity b.staged) (spare b.places.index.places) (sets.spare b.ids.ids) };
-}
-
-/// What stands from a place on.
-fn rest_of(staged: &[usize], moved: usize) -> &[usize]
-    requires { moved ≤ length staged.now }
-    ensures { result.now ≡ drop moved staged.now }
-{
-    &staged[moved..]
+    ghost invariant = { λ b. IsStore b.held b.several b.places.slots.entries b.ids.ids.keys b.known.items × HasRoom b.room b.held (spare b.places.slots) (vec_len b.known) (vec_capacity b.known) (sets.spare b.ids.ids) };
 }
 
 /// Makes room for n items and identities more.
 fn grow(
-    slots: &mut Vec<Slot>,
+    held: &mut HeldItems,
     places: &mut StoredPlaces,
-    staged: &mut Vec<usize>,
     known: &mut Vec<AdviceId>,
     ids: &mut KnownIds,
     n: usize,
 ) -> Result<(), AllocError>
-    ensures slots { slots.new.items ≡ slots.old.items }
-    ensures places { (k : StoredKey) → found (stored_eq k) places.new.index.places.entries ≡ found (stored_eq k) places.old.index.places.entries }
-    ensures staged { staged.new.items ≡ staged.old.items }
+    ensures values { SameValues held.old.slots held.new.slots }
+    ensures rest { held.new ≡ record held.old { slots = held.new.slots } }
+    ensures fits { HasRoomFor held.old.slots 0 → HasRoomFor held.new.slots 0 }
+    ensures places { (k : StoredKey) → lookup (stored_eq k) places.new.slots.entries ≡ lookup (stored_eq k) places.old.slots.entries }
     ensures known { known.new.items ≡ known.old.items }
     ensures ids { (id : AdviceId) → list_any (identity_eq id) ids.new.ids.keys ≡ list_any (identity_eq id) ids.old.ids.keys }
-    ensures room { OnOk result (HasRoom n (vec_len slots.new) (vec_capacity slots.new) (vec_len known.new) (vec_capacity known.new) 0 (vec_len staged.new) (vec_capacity staged.new) (spare places.new.index.places) (sets.spare ids.new.ids)) }
+    ensures room { OnOk result (HasRoom n held.new (spare places.new.slots) (vec_len known.new) (vec_capacity known.new) (sets.spare ids.new.ids)) }
 {
-    slots.reserve(n)?;
+    let Ok(slots) = u32::try_from(n) else {
+        return Err(AllocError);
+    };
+    held.reserve(slots)?;
     places.reserve(n)?;
-    staged.reserve(n)?;
     known.reserve(n)?;
     ids.reserve(n)
+}
+
+/// Adds an item at the end. Answers whether its key had a slot before.
+fn add(held: &mut HeldItems, places: &mut StoredPlaces, item: StoredItem) -> bool
+    requires slot { HasRoomFor held.old.slots 1 }
+    requires place { 1 ≤ spare places.old.slots }
+    ensures items { items_of held.new ≡ items_of held.old ++ item ∷ [] }
+    ensures placed { ArePlaced held.old places.old.slots.entries → result ≡ false → ArePlaced held.new places.new.slots.entries }
+    ensures len { slab_len held.new.slots ≡ slab_len held.old.slots + 1 }
+    ensures capacity { held.new.slots.capacity ≡ held.old.slots.capacity }
+    ensures rest { held.new ≡ record held.old { slots = held.new.slots; order = held.new.order } }
+    ensures room { spare places.old.slots ≤ spare places.new.slots + 1 }
+{
+    let key = item.key();
+    let slot = held.push(item);
+    places.put(key, slot)
 }
 
 impl AdviceStore {
     /// A store without items, for a network in which they are sent again after so many ticks.
     pub fn new(alloc: Global, ticks: u16) -> Result<AdviceStore, AllocError>
-        ensures { IfOk result (λ b. b ≡ record { store = []; known = []; room = 0 }) }
+        ensures { IfOk result (λ b. b ≡ record { store = []; known = []; room = 0; ticks = min (max ticks 1) 4000; turn = 1 % min (max ticks 1) 4000; visits = 0 }) }
     {
-        let ticks = ticks.max(1);
+        let ticks = ticks.max(1).min(MOST_TICKS);
         Ok(AdviceStore {
-            alloc,
-            ticks,
-            slots: Vec::new(alloc),
-            len: 0,
+            held: HeldItems::new(alloc, ticks)?,
             places: StoredPlaces::new(alloc),
-            classes: no_classes(alloc, ticks)?,
-            staged: Vec::new(alloc),
-            moved: 0,
+            several: false,
             known: Vec::new(alloc),
             ids: KnownIds::new(alloc),
             room: 0,
@@ -115,30 +113,35 @@ impl AdviceStore {
 
     /// The next n calls need no memory.
     pub fn reserve(&mut self, n: usize) -> Result<(), AllocError>
-        ensures store { self.new.store ≡ self.old.store }
-        ensures known { self.new.known ≡ self.old.known }
+        ensures same { self.new ≡ record self.old { room = self.new.room } }
         ensures ok { OnOk result (self.new.room ≡ n) }
     {
         self.room = 0;
-        sort_all(
-            self.classes.as_mut_slice(),
-            self.slots.as_slice(),
-            self.ticks,
-            self.staged.as_slice(),
-            &mut self.moved,
-        )?;
-        self.moved = 0;
-        self.staged.clear();
         grow(
-            &mut self.slots,
+            &mut self.held,
             &mut self.places,
-            &mut self.staged,
             &mut self.known,
             &mut self.ids,
             n,
         )?;
         self.room = n;
         Ok(())
+    }
+
+    /// A slot whose item is looked for. One look-up, unless several items had one key.
+    fn find(&self, wanted: Wanted) -> Option<SlotId>
+        ensures found { IfSome result (λ slot. list_any (wants wanted) self.now.store ≡ true) }
+        ensures none { result ≡ None → list_any (wants wanted) self.now.store ≡ false }
+    {
+        if self.several {
+            return self.held.find(wanted);
+        }
+        let slot = self.places.find(wanted.key())?;
+        if self.held.is_wanted(slot, wanted) {
+            Some(slot)
+        } else {
+            None
+        }
     }
 
     /// Whether an identity is known. One look-up.
@@ -152,94 +155,84 @@ impl AdviceStore {
     pub fn is_stored(&self, id: AdviceId) -> bool
         ensures { result ≡ list_any (has_id id) self.now.store }
     {
-        let key = StoredKey::Advice(id);
-        has_at(self.slots.as_slice(), self.places.find(key), key)
+        self.find(Wanted::Item(StoredKey::Advice(id))).is_some()
     }
 
     /// Whether an advice of this identity is stored, and was put. One look-up.
     pub fn was_put(&self, id: AdviceId) -> bool
         ensures { result ≡ list_any (was_put id) self.now.store }
     {
-        let place = self.places.find(StoredKey::Advice(id));
-        was_put_at(self.slots.as_slice(), place, id)
+        self.find(Wanted::Put(id)).is_some()
     }
 
     /// An identity is known from now on, and its advice isn't stored.
     pub fn note(&mut self, id: AdviceId)
         requires { 0 < self.old.room }
-        ensures { self.new ≡ record { store = self.old.store; known = self.old.known ++ id ∷ []; room = self.old.room - 1 } }
+        ensures { self.new ≡ record self.old { known = self.old.known ++ id ∷ []; room = self.old.room - 1 } }
     {
         self.ids.insert(id);
         self.known.push_reserved(id);
-        self.room -= 1;
-    }
-
-    /// Adds an item at the end.
-    fn push(&mut self, item: StoredItem)
-        requires { 0 < self.old.room }
-        ensures { self.new ≡ record { store = self.old.store ++ item ∷ []; known = self.old.known; room = self.old.room - 1 } }
-    {
-        let place = self.slots.len();
-        self.places.add(item.key(), place);
-        self.staged.push_reserved(place);
-        self.slots.push_reserved(Some(item));
-        self.len += 1;
         self.room -= 1;
     }
 
     /// An identity is known from now on, and its advice is stored.
     pub fn store(&mut self, advice: KeptAdvice)
         requires { 0 < self.old.room }
-        ensures { self.new ≡ record { store = self.old.store ++ Advised advice ∷ []; known = self.old.known ++ identity_of advice.message ∷ []; room = self.old.room - 1 } }
+        ensures { self.new ≡ record self.old { store = self.old.store ++ Advised advice ∷ []; known = self.old.known ++ identity_of advice.message ∷ []; room = self.old.room - 1 } }
     {
         let id = advice.id();
         let item = StoredItem::new(StoredCase::Advice(advice));
-        let place = self.slots.len();
+        let again = add(&mut self.held, &mut self.places, item);
+        self.several |= again;
         self.ids.insert(id);
         self.known.push_reserved(id);
-        self.places.add(item.key(), place);
-        self.staged.push_reserved(place);
-        self.slots.push_reserved(Some(item));
-        self.len += 1;
         self.room -= 1;
     }
 
     /// A grant is stored.
     pub fn lend(&mut self, grant: KeptGrant)
         requires { 0 < self.old.room }
-        ensures { self.new ≡ record { store = self.old.store ++ Granted grant ∷ []; known = self.old.known; room = self.old.room - 1 } }
+        ensures { self.new ≡ record self.old { store = self.old.store ++ Granted grant ∷ []; room = self.old.room - 1 } }
     {
-        self.push(StoredItem::new(StoredCase::Grant(grant)));
+        let item = StoredItem::new(StoredCase::Grant(grant));
+        let again = add(&mut self.held, &mut self.places, item);
+        self.several |= again;
+        self.room -= 1;
     }
 
     /// The advice of this identity was put. One look-up.
     pub fn mark_put(&mut self, id: AdviceId)
-        ensures { self.new ≡ record { store = map (marked_by id) self.old.store; known = self.old.known; room = self.old.room } }
+        ensures { self.new ≡ record self.old { store = map (marked_by id) self.old.store } }
     {
-        let place = self.places.find(StoredKey::Advice(id));
-        mark_at(self.slots.as_mut_slice(), place, id);
+        if self.several {
+            self.held.mark_all(id);
+        } else if let Some(slot) = self.places.find(StoredKey::Advice(id)) {
+            self.held.mark(slot, id);
+        }
     }
 
     /// The item of a key was acknowledged.
     fn remove(&mut self, key: StoredKey)
-        ensures { self.new ≡ record { store = filter (λ a. not (item_is key a)) self.old.store; known = self.old.known; room = self.old.room } }
+        ensures { self.new ≡ record self.old { store = filter (λ a. not (item_is key a)) self.old.store } }
     {
-        let place = self.places.find(key);
-        free_at(self.slots.as_mut_slice(), place, key);
-        self.len = count_after(self.slots.as_slice(), place, self.len);
-        self.places.remove(key);
+        let slot = self.places.remove(key);
+        if self.several {
+            self.held.leave_all(key);
+        } else if let Some(slot) = slot {
+            self.held.leave(slot);
+        }
     }
 
     /// The advice of this identity was acknowledged. One look-up.
     pub fn ack(&mut self, id: AdviceId)
-        ensures { self.new ≡ record { store = filter (λ a. not (has_id id a)) self.old.store; known = self.old.known; room = self.old.room } }
+        ensures { self.new ≡ record self.old { store = filter (λ a. not (has_id id a)) self.old.store } }
     {
         self.remove(StoredKey::Advice(id));
     }
 
     /// A packet was taken. An acknowledgement takes its grant out. One look-up.
     pub fn take_packet(&mut self, packet: &GrantPacket)
-        ensures { self.new ≡ record { store = filter (λ a. not (packet_acked packet.now a)) self.old.store; known = self.old.known; room = self.old.room } }
+        ensures { self.new ≡ record self.old { store = filter (λ a. not (packet_acked packet.now a)) self.old.store } }
     {
         match packet {
             GrantPacket::Ack { lender, number } => {
@@ -257,38 +250,32 @@ impl AdviceStore {
     pub fn len(&self) -> usize
         ensures { result ≡ length self.now.store }
     {
-        self.len
+        self.held.len() as usize
     }
 
-    /// Copies of the items that are sent again at a count of ticks, the oldest first. It looks at those alone, and at those that were
-    /// acknowledged since their last turn; where they are sent again after another number of ticks than the store was made for, at all.
+    /// Copies of the items that are sent again at a count of ticks, the oldest first. At the next tick it looks at those alone; at another
+    /// one, or where they are sent again after another number of ticks than the store was made for, at all.
     pub fn due(&self, ticks: u16, now: u64) -> Result<Vec<StoredItem>, AllocError>
         ensures { IfOk result (λ v. v.items ≡ filter (is_due ticks now) self.now.store) }
     {
-        let mut items = Vec::new(self.alloc);
-        let slots = self.slots.as_slice();
-        if ticks != self.ticks {
-            push_all_due(&mut items, slots, ticks, now)?;
-            return Ok(items);
-        }
-        let class = (now % ticks as u64) as usize;
-        push_due_at(
-            &mut items,
-            slots,
-            self.classes[class].as_slice(),
-            ticks,
-            now,
-        )?;
-        let staged = rest_of(self.staged.as_slice(), self.moved);
-        push_due_at(&mut items, slots, staged, ticks, now)?;
-        Ok(items)
+        self.held.due(ticks, now)
     }
 
-    /// A tick was made, at this count. Forgets what was acknowledged of the items whose turn it was.
-    pub fn tick(&mut self, now: u64)
-        ensures { self.new ≡ self.old }
+    /// A tick was made. It looks at the items that are sent again at it, and one list end.
+    pub fn tick(&mut self)
+        ensures same { self.new ≡ record self.old { turn = self.new.turn; visits = self.new.visits } }
+        ensures turn { self.new.turn ≡ (self.old.turn + 1) % self.old.ticks }
+        ensures visits { (now : ℕ) → now % self.old.ticks ≡ self.old.turn → AreBefore now self.old.store → self.new.visits ≡ length (filter (is_due self.old.ticks now) self.old.store) + 1 }
     {
-        let class = (now % self.ticks as u64) as usize;
-        prune(self.classes.as_mut_slice(), self.slots.as_slice(), class);
+        self.held.tick();
+    }
+
+    /// The number of slots and list ends that the last tick looked at.
+    pub fn visits(&self) -> u64
+        ensures { result ≡ self.now.visits }
+    {
+        self.held.visits()
     }
 }
+
+ghost use Rattle.std.specs.Prelude.{true};

@@ -14,4 +14,6 @@ mod looks;
 #[cfg(test)]
 mod packets;
 #[cfg(test)]
+mod requests;
+#[cfg(test)]
 mod samples;

@@ -1,6 +1,7 @@
 //! Looks at links, requests, advices and ticks after few changes and after many.
 ghost use Rattle.std.specs.Prelude.{◌≡◌, ◌≤◌, ◌+◌, ◌^◌, [], IfOk, OnOk, length};
 
+use crate::requests::words::waits;
 use crate::samples::{KEY, REVERSAL, STAND_IN};
 use card_digits::{DateLabel, LinkNo};
 use entry_changes::{AdviceState, Changes, Forwarding, LinkAfter};
@@ -93,10 +94,14 @@ fn after_many_changes(rt: HostRuntime) -> Result<(), Fail> {
 }
 
 /// New books, after changes.
-fn books_after(alloc: Global, date: DateLabel, changes: &mut Changes) -> Result<Books, AllocError>
+pub(crate) fn books_after(
+    alloc: Global,
+    date: DateLabel,
+    changes: &mut Changes,
+) -> Result<Books, AllocError>
     requires { length changes.old ≤ 2 ^ 62 }
 {
-    let mut books = Books::new(alloc, date, 2, 5)?;
+    let mut books = Books::new(alloc, date, 2, 5, waits(alloc)?)?;
     books.reserve(changes.len())?;
     changes.apply_to(&mut books);
     Ok(books)

@@ -37,17 +37,21 @@ fn store_all(alloc: Global, into: &mut AdviceStore, count: u32) -> Result<(), Al
 /// A tick at this count. The result is how many advices are due.
 fn tick(store: &mut AdviceStore, now: u64) -> Result<u64, AllocError> {
     let due = store.due(TICKS, now)?;
-    store.tick(now);
+    store.tick();
     Ok(due.len() as u64)
 }
 
-/// So many ticks, over and over at the counts from 1 to 99, at which none is due.
+/// So many ticks, one after another. Of each hundredth, at which all are due, it isn't asked what is due.
 fn ticks(store: &mut AdviceStore, count: u32) -> Result<u64, AllocError> {
     let mut due = 0u64;
     let mut now = 0u64;
     for _ in 0..count {
-        now = if now < 99 { now.wrapping_add(1) } else { 1 };
-        due = due.wrapping_add(tick(store, now)?);
+        now = now.wrapping_add(1);
+        if now % TICKS as u64 == 0 {
+            store.tick();
+        } else {
+            due = due.wrapping_add(tick(store, now)?);
+        }
     }
     Ok(due)
 }

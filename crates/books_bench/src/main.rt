@@ -6,6 +6,7 @@
 mod advices;
 mod approvals;
 mod messages;
+mod puts;
 mod report;
 mod requests;
 mod rest;
@@ -19,7 +20,7 @@ const CALLS: u32 = 1_000;
 /// Each request has a trace number of its own, of six digits.
 const MOST_CALLS: u32 = 900_000;
 
-/// How many requests are pending beside those that are opened and closed.
+/// How many requests are pending beside those that are opened and answered.
 const MOST_PENDING: u32 = 60_000;
 
 /// How many advices are stored.
@@ -29,6 +30,7 @@ const MOST_STORED: u32 = 65_536;
 fn measure(rt: &HostRuntime, calls: u32) -> io::Result<()> {
     let pending = calls.min(MOST_PENDING);
     requests::measure(rt, pending, calls)?;
+    puts::measure(rt, pending, calls)?;
     waiting::measure(rt, pending, calls)?;
     advices::measure(rt, calls.min(MOST_STORED), calls)?;
     approvals::measure(rt, calls)

@@ -1,4 +1,4 @@
-//! The messages of the measurement, written out but for their trace numbers.
+//! The messages of the measurement, written out but for their trace numbers, with which their cards end too.
 use card_digits::Key;
 use iso_message::{Message, decode};
 use std::alloc::{AllocError, Global};
@@ -31,6 +31,9 @@ fn written(
 ) -> Result<Option<Message>, AllocError> {
     let mut bytes = Vec::with_capacity(alloc, 256)?;
     bytes.extend_from_slice(head)?;
+    bytes.extend_from_slice(b"164111111111")?;
+    bytes.extend_from_slice(&digits(trace))?;
+    bytes.extend_from_slice(b"0000000000000010000314091530")?;
     bytes.extend_from_slice(&digits(trace))?;
     bytes.extend_from_slice(tail)?;
     Ok(decode(alloc, &bytes).ok())
@@ -38,18 +41,17 @@ fn written(
 
 /// A request of 83 bytes.
 pub(crate) fn request(alloc: Global, trace: u32) -> Result<Option<Message>, AllocError> {
-    let head = b"010072200001000080001641111111111111110000000000000010000314091530";
-    written(alloc, head, trace, b"06400001840")
+    written(alloc, b"01007220000100008000", trace, b"06400001840")
 }
 
 /// Its answer with code 00.
 pub(crate) fn approval(alloc: Global, trace: u32) -> Result<Option<Message>, AllocError> {
-    let head = b"011072220001020080001641111111111111110000000000000010000314091530";
-    written(alloc, head, trace, b"03140640000100840")
+    let tail = b"03140640000100840";
+    written(alloc, b"01107222000102008000", trace, tail)
 }
 
 /// The advice of a stand-in approval.
 pub(crate) fn advice(alloc: Global, trace: u32) -> Result<Option<Message>, AllocError> {
-    let head = b"012072220001820080001641111111111111110000000000000010000314091530";
-    written(alloc, head, trace, b"03140640000104100100840")
+    let tail = b"03140640000104100100840";
+    written(alloc, b"01207222000182008000", trace, tail)
 }

@@ -5,10 +5,14 @@ use crate::messages::{approval, request};
 use crate::report::{report, start};
 use iso_message::{Message, encode};
 use message_keys::{has_own_key, key_of};
-use request_book::{KeptMessage, PendingBook, PreparedOutput, Row, Way};
+use request_book::{KeptMessage, PendingBook, PreparedOutput, Row, Waits, Way};
 use shared_bytes::SharedBytes;
 use std::alloc::{AllocError, Global};
 use std::io;
+use step_rules::card_of;
+
+/// For how many ticks requests wait.
+const MOST_TICKS: u16 = 4_000;
 
 /// A message as the book keeps it.
 fn kept(alloc: Global, message: &Message) -> Result<KeptMessage, AllocError>
@@ -20,7 +24,7 @@ fn kept(alloc: Global, message: &Message) -> Result<KeptMessage, AllocError>
 }
 
 #[tactic(auto, using(crate::proofs::Keys::known_key))]
-fn row_of(alloc: Global, message: &Message) -> Result<Option<Row>, AllocError> {
+pub(crate) fn row_of(alloc: Global, message: &Message) -> Result<Option<Row>, AllocError> {
     let Some(key) = key_of(message) else {
         return Ok(None);
     };
@@ -28,11 +32,15 @@ fn row_of(alloc: Global, message: &Message) -> Result<Option<Row>, AllocError> {
         return Ok(None);
     }
     let kept = kept(alloc, message)?;
-    Ok(Some(Row::new(key, kept, None, 0)))
+    Ok(Some(Row::new(key, card_of(message), kept, None, 0)))
 }
 
 #[tactic(auto, using(crate::proofs::Keys::known_key))]
-fn answer_of(alloc: Global, message: &Message) -> Result<Option<PreparedOutput>, AllocError> {
+pub(crate) fn output_of(
+    alloc: Global,
+    message: &Message,
+    way: Way,
+) -> Result<Option<PreparedOutput>, AllocError> {
     let Some(key) = key_of(message) else {
         return Ok(None);
     };
@@ -40,7 +48,14 @@ fn answer_of(alloc: Global, message: &Message) -> Result<Option<PreparedOutput>,
         return Ok(None);
     }
     let kept = kept(alloc, message)?;
-    Ok(Some(PreparedOutput::of_message(Way::Answer, key, kept)))
+    Ok(Some(PreparedOutput::of_message(way, key, kept)))
+}
+
+/// A book of a network with one link, on which requests wait as long as they may.
+pub(crate) fn new_book(alloc: Global) -> Result<PendingBook, AllocError> {
+    let mut links = Vec::new(alloc);
+    links.push(MOST_TICKS)?;
+    PendingBook::new(alloc, Waits::new(links, MOST_TICKS))
 }
 
 /// So many requests from a trace number on.
@@ -57,11 +72,11 @@ fn rows(alloc: Global, first: u32, count: u32) -> Result<Vec<Row>, AllocError> {
 }
 
 /// The answers of so many requests from the first on.
-fn answers(alloc: Global, count: u32) -> Result<Vec<PreparedOutput>, AllocError> {
+pub(crate) fn answers(alloc: Global, count: u32) -> Result<Vec<PreparedOutput>, AllocError> {
     let mut answers = Vec::new(alloc);
     for trace in 0..count {
         if let Some(message) = approval(alloc, trace)? {
-            if let Some(answer) = answer_of(alloc, &message)? {
+            if let Some(answer) = output_of(alloc, &message, Way::Answer)? {
                 answers.push(answer)?;
             }
         }
@@ -69,15 +84,15 @@ fn answers(alloc: Global, count: u32) -> Result<Vec<PreparedOutput>, AllocError>
     Ok(answers)
 }
 
-fn open(book: &mut PendingBook, row: Row) -> Result<(), AllocError> {
+pub(crate) fn open(book: &mut PendingBook, row: Row) -> Result<(), AllocError> {
     book.reserve(1)?;
     book.open(row);
     Ok(())
 }
 
-fn close(book: &mut PendingBook, answer: PreparedOutput) -> Result<(), AllocError> {
+pub(crate) fn send(book: &mut PendingBook, output: PreparedOutput) -> Result<(), AllocError> {
     book.reserve(1)?;
-    book.after(answer);
+    book.after(output);
     Ok(())
 }
 
@@ -90,7 +105,7 @@ fn open_all(book: &mut PendingBook, rows: Vec<Row>) -> Result<(), AllocError> {
 
 fn pair(book: &mut PendingBook, row: Row, answer: PreparedOutput) -> Result<(), AllocError> {
     open(book, row)?;
-    close(book, answer)
+    send(book, answer)
 }
 
 /// Opens a request and closes the oldest one, for each of these.
@@ -145,6 +160,6 @@ fn measure_in(
 
 /// Beside so many that are pending, requests are opened and closed. As many are pending in the end.
 pub(crate) fn measure(rt: &HostRuntime, pending: u32, calls: u32) -> io::Result<()> {
-    let mut book = PendingBook::new(rt.alloc());
+    let mut book = new_book(rt.alloc())?;
     measure_in(rt, &mut book, pending, calls)
 }

@@ -2,17 +2,19 @@
 use card_digits::DateLabel;
 use node_books::Books;
 use pending_book::PendingBook;
+use request_book::Waits;
 use std::alloc::{AllocError, Global};
 use std::io;
 
 /// As many links as a network may have.
 const LINKS: usize = 256;
 
-/// After so many ticks an advice is sent again, the most that there may be. The store has a list for each.
+/// After so many ticks an advice is sent again, and for so many a request waits, the most that there may be. The store has a list for each.
 const TICKS: u16 = 4_000;
 
 fn make_books(alloc: Global, held: &mut Vec<Books>, date: DateLabel) -> Result<(), AllocError> {
-    let books = Books::new(alloc, date, LINKS, TICKS)?;
+    let waits = Waits::new(vec![in alloc; TICKS; LINKS]?, TICKS);
+    let books = Books::new(alloc, date, LINKS, TICKS, waits)?;
     held.push(books)?;
     Ok(())
 }

@@ -1,5 +1,5 @@
 //! A node.
-ghost use Rattle.std.specs.Prelude.{◌≡◌, ◌≢◌, None, Some, IfErr, IfOk};
+ghost use Rattle.std.specs.Prelude.{◌≡◌, ◌≢◌, None, Some, IfErr, IfOk, IfSome};
 ghost use Rattle.card_switch_c.specs.Nodes.{Makes, make_status, refusal_told, TellsInput, TellsHandle, GivesOutput, GivesOutputOf, FindsLink, FindsLinkOf, NamesLink, NamesLinkOf, refusal_number, refused_message, refused_element};
 ghost use Rattle.node_calls.specs.Making.{node_in};
 ghost use Rattle.std.specs.Prelude.{Ok, Err};
@@ -44,6 +44,16 @@ fn make_status(fault: MakeFault) -> u8
     }
 }
 
+/// A value on the heap, if there is memory for it.
+fn boxed<T: Drop>(alloc: Global, value: T) -> Option<Box<T>>
+    ensures { IfSome result (λ b. b.value ≡ value) }
+{
+    match Box::new(alloc, value) {
+        Ok(boxed) => Some(boxed),
+        Err(_) => None,
+    }
+}
+
 /// The node on the heap, or the status of why there is none.
 fn boxed_node(
     alloc: Global,
@@ -55,9 +65,9 @@ fn boxed_node(
     ensures fault { IfErr result (λ f. f ≢ MakeFault.Memory → node_in tables.now ranks.now name.now ≡ Err f) }
 {
     let node = make_node(alloc, tables, ranks, name)?;
-    match Box::new(alloc, node) {
-        Ok(boxed) => Ok(boxed),
-        Err(_) => Err(MakeFault::Memory),
+    match boxed(alloc, node) {
+        Some(node) => Ok(node),
+        None => Err(MakeFault::Memory),
     }
 }
 

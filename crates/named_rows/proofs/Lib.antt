@@ -4,3 +4,4 @@ pub mod Places
 pub mod Sets
 pub mod Pushed
 pub mod Again
+pub mod Masks

@@ -4,7 +4,6 @@ use Rattle.std.specs.List.{list_any}
 use Rattle.std.specs.Ordering.{nat_cmp}
 use Rattle.std.specs.Cmp.Lexicographic.{pointwise, slice_cmp}
 use Rattle.std.specs.FinSet as set
-use Rattle.std.specs.Map.{keys_of}
 use Rattle.net_rows.specs.declared.row.Node.{Node}
 use Rattle.net_rows.specs.declared.row.Link.{Link}
 
@@ -25,10 +24,6 @@ pub record AreNamed {R : Type 0} (most : ℕ) (name_of : R → List ℕ) (names 
 
 abbrev pub PrefixSet : Type 0
 PrefixSet = set.FinSet (slice_cmp nat_cmp)
-
--- the keys of a map
-abbrev pub set_of : {X : Type 0} → List (List ℕ × X) → PrefixSet
-set_of entries = set.from_list (keys_of entries)
 
 -- the prefixes of a node, in sets for each node
 abbrev pub prefixes_at : List PrefixSet → ℕ → PrefixSet

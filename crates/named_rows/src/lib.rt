@@ -3,9 +3,9 @@
 
 mod named_rows;
 mod node;
+mod node_masks;
 mod node_prefixes;
 mod several;
-mod taken_prefixes;
 
 pub use named_rows::{Named, NamedRows};
 pub use node::node_at;

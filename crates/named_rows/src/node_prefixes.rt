@@ -1,5 +1,5 @@
 //! Rows at a node, with a prefix that is new there.
-ghost use Rattle.std.specs.Prelude.{◌≡◌, ◌<◌, [], true, false, not, length, nat_le, slice_set, OnOk, OnErr, IfOk};
+ghost use Rattle.std.specs.Prelude.{◌≡◌, ◌<◌, [], true, false, not, length, nat_le, replicate, slice_set, OnOk, OnErr, IfOk};
 ghost use Rattle.std.specs.FinSet as set;
 ghost use Rattle.card_digits.specs.Attempts.{Gives};
 ghost use Rattle.table_fields.specs.Faults.{is_memory};
@@ -10,19 +10,23 @@ ghost use Rattle.named_rows.specs.Plain.{IsNewPrefix};
 
 use crate::named_rows::NamedRows;
 use crate::node::node_at;
-use crate::taken_prefixes::TakenPrefixes;
+use crate::node_masks::add_node;
 use card_digits::{NodeNo, Prefix};
 use net_rows::Node;
+use prefix_map::PrefixMap;
 use std::alloc::{AllocError, Global};
 use std::marker::Model;
 use table_fields::{Key, Row, TableFault};
 
 const MOST_ROWS: usize = 4_096;
 
-/// A set of prefixes for each node, by its place.
+/// The prefixes of each node, by its place.
 #[derive(Drop)]
 pub struct NodePrefixes {
-    sets: Vec<TakenPrefixes>,
+    /// The nodes that have a prefix, each by a bit.
+    masks: PrefixMap<u64>,
+    /// How many prefixes each node has.
+    counts: Vec<usize>,
 }
 
 impl Model for NodePrefixes {
@@ -30,12 +34,22 @@ impl Model for NodePrefixes {
     ghost use Rattle.std.specs.Coded.{coded_ℕ, coded_list};
     ghost use Rattle.std.specs.FinSet as set;
     ghost use Rattle.named_rows.specs.Rows.{PrefixSet};
+    ghost use Rattle.named_rows.specs.Masks.{sets_from, AreCounted};
 
     ghost Value = { List PrefixSet };
 
     ghost coded = { coded_list (set.code (coded_list coded_ℕ)) };
 
-    ghost view = { λ a. a.sets.items };
+    ghost view = { λ a. sets_from a.masks.entries 0 a.counts.items };
+
+    ghost invariant = { λ a. AreCounted a.masks.entries 0 a.counts.items };
+}
+
+/// So many counts of nothing.
+fn zeros(alloc: Global, count: usize) -> Result<Vec<usize>, AllocError>
+    ensures { IfOk result (λ v. v.items ≡ replicate count 0) }
+{
+    vec![in alloc; 0; count]
 }
 
 impl NodePrefixes {
@@ -43,11 +57,10 @@ impl NodePrefixes {
     pub fn new(alloc: Global, nodes: usize) -> Result<NodePrefixes, AllocError>
         ensures { IfOk result (λ v. ArePrefixed nodes v (λ _. [])) }
     {
-        let mut sets = Vec::new(alloc);
-        for _ in 0..nodes {
-            sets.push(TakenPrefixes::new(alloc))?;
-        }
-        Ok(NodePrefixes { sets })
+        Ok(NodePrefixes {
+            masks: PrefixMap::new(alloc),
+            counts: zeros(alloc, nodes)?,
+        })
     }
 
     /// Whether the node has as many rows as it may have.
@@ -56,7 +69,7 @@ impl NodePrefixes {
         requires { node < length self.now }
         ensures { result ≡ nat_le 4_096 (taken_in self.now node).count }
     {
-        self.sets[node.place()].len() >= MOST_ROWS
+        self.counts[node.place()] >= MOST_ROWS
     }
 
     /// Puts one prefix more at a node that has room, and says whether it is new there.
@@ -67,7 +80,11 @@ impl NodePrefixes {
         ensures set { OnOk result (self.new ≡ slice_set self.old node (set.insert (prefixes_at self.old node) prefix)) }
         ensures stays { OnErr result (self.new ≡ self.old) }
     {
-        Ok(self.sets[node.place()].insert(prefix)?)
+        let is_new = add_node(&mut self.masks, node, prefix)?;
+        if is_new {
+            self.counts[node.place()] += 1;
+        }
+        Ok(is_new)
     }
 
     /// Takes a prefix for one row more of a node. Nothing is taken, and the answer is false, where the node has 4,096 rows, where the

@@ -4,3 +4,4 @@ pub mod Fresh
 pub mod Loads
 pub mod Packets
 pub mod Few
+pub mod Ticks

@@ -1,11 +1,13 @@
 -- What contracts see of the books' rows.
-use Rattle.std.specs.Prelude.{◌≤◌, ◌+◌, ◌^◌, ℕ, Bool, ◌&&◌, not, if◌then◌else◌, Option, Some, None}
+use Rattle.std.specs.Prelude.{◌≤◌, ◌+◌, ◌^◌, ℕ, List, map, Bool, ◌&&◌, not, if◌then◌else◌, Option, Some, None}
 use Rattle.card_digits.specs.declared.key.Key.{Key}
 use Rattle.iso_message.specs.Fields.{Fields}
 use Rattle.message_elements.specs.Groups.{is_04xx}
 use Rattle.message_keys.specs.Keys.{key_of, key_eq}
 use Rattle.node_machine.specs.Counts.{PutsAreWithin}
+use Rattle.net_rows.specs.declared.row.Link.{Link}
 use Rattle.node_machine.specs.Lists.{Lists, leaves}
+use Rattle.request_book.specs.Waits.{WaitsView}
 
 -- an advice that was made here, or accepted; whether this node is the home of its card, and whether it was put
 pub record NewAdvice : Type 0 where
@@ -36,3 +38,7 @@ pub record HasRooms (room pending standin advices lending len capacity : ℕ) : 
 pub record AreFew (x : Lists) : Type 0 where
   pub puts : PutsAreWithin (2 ^ 62) x.links
   pub ticks : x.count ≤ 2 ^ 62
+
+-- how long requests wait in a network with these links and this wait for the host
+abbrev pub waits_of : List Link → ℕ → WaitsView
+waits_of links host = record { links = map (λ l. l.ticks) links; host = host }

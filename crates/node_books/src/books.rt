@@ -1,11 +1,13 @@
 //! All books of a node.
-ghost use Rattle.std.specs.Prelude.{◌≡◌, ◌+◌, ◌-◌, ◌<◌, ◌≤◌, ◌^◌, [], ◌∷◌, ◌++◌, filter, OnOk, IfOk, length, replicate, ℕ, is_some, vec_len, vec_capacity};
+ghost use Rattle.std.specs.Prelude.{◌≡◌, ◌+◌, ◌-◌, ◌<◌, ◌≤◌, ◌^◌, ◌↔◌, [], ◌∷◌, ◌++◌, filter, IsTrue, OnOk, IfOk, length, replicate, ℕ, is_some, vec_len, vec_capacity};
 ghost use Rattle.node_machine.specs.Lists.{row_link, after_output, ask_at, of_key, is_marked, left_marks, is_among, fresh, view};
 ghost use Rattle.std.specs.Option.{option_and_then, option_copied};
 ghost use Rattle.node_books.specs.Effects.{applied_one, keep_in};
-ghost use Rattle.node_books.specs.Values.{AreFew};
+ghost use Rattle.node_books.specs.Values.{AreFew, waits_of};
 ghost use Rattle.node_machine.specs.Counts.{PutsAreWithin};
-ghost use Rattle.request_book.specs.Values.{AreBetween, AreCovered, IsUnique, waits_on, message_of};
+ghost use Rattle.request_book.specs.Values.{AreCovered, IsUnique, waits_on, message_of};
+ghost use Rattle.request_book.specs.Values as requests;
+ghost use Rattle.request_book.specs.Waits.{is_over};
 ghost use Rattle.net_rows.specs.Network.{Network};
 ghost use Rattle.node_machine.specs.Machine.{borrowed_for, is_due, lent_for, load, was_put};
 ghost use Rattle.node_machine.specs.Lists as lists;
@@ -20,10 +22,11 @@ ghost use Rattle.node_books.specs.Ways.{asks_by, store_by};
 use crate::effect::{Effect, NewAdvice};
 use crate::links::{LinkState, Links};
 use advice_store::{AdviceStore, KeptAdvice, KeptGrant, StoredItem};
-use card_digits::{Amount, DateLabel, Key, LinkNo};
+use card_digits::{Amount, Card, DateLabel, Key, LinkNo};
 use message_keys::AdviceId;
+use net_rows::Link;
 use network_law::GrantPacket;
-use request_book::{Mark, PendingBook, PreparedOutput, Row, Span, Way};
+use request_book::{Mark, PendingBook, PreparedOutput, Row, Waits, Way};
 use standin_book::{Borrowed, CardDay, LendingBook, Loan, OwnApproval, StandInBook};
 use std::alloc::{AllocError, Global};
 use std::marker::Model;
@@ -42,7 +45,6 @@ pub struct Books {
     pub(crate) links: Links,
     pub(crate) asks: Vec<Key>,
     pub(crate) date: DateLabel,
-    pub(crate) count: u64,
     pub(crate) room: usize,
 }
 
@@ -52,9 +54,9 @@ impl Model for Books {
 
     ghost Value = { Roomy };
 
-    ghost view = { λ b. record { lists = record { rows = b.pending.rows; marks = b.pending.marks; takes = b.standin.takes; store = b.advices.store; known = b.advices.known; loans = b.lending.loans; borrowed = b.lending.borrowed; links = b.links; asks = b.asks.items; date = b.date; count = b.count }; room = b.room } };
+    ghost view = { λ b. record { lists = record { rows = b.pending.rows; marks = b.pending.marks; takes = b.standin.takes; store = b.advices.store; known = b.advices.known; loans = b.lending.loans; borrowed = b.lending.borrowed; links = b.links; asks = b.asks.items; date = b.date; count = b.pending.count }; room = b.room } };
 
-    ghost invariant = { λ b. HasRooms b.room b.pending.room b.standin.room b.advices.room b.lending.room (vec_len b.asks) (vec_capacity b.asks) × (b.count ≤ 2 ^ 62) };
+    ghost invariant = { λ b. HasRooms b.room b.pending.room b.standin.room b.advices.room b.lending.room (vec_len b.asks) (vec_capacity b.asks) × (b.pending.count ≤ 2 ^ 62) };
 }
 
 fn ask_in(asks: &mut Vec<Key>, way: Way, key: Key)
@@ -70,7 +72,7 @@ fn ask_in(asks: &mut Vec<Key>, way: Way, key: Key)
 
 /// What an output that goes this way does to the store.
 fn mark_in(advices: &mut AdviceStore, way: Way, output: &PreparedOutput)
-    ensures { advices.new ≡ record { store = store_by way (advice_of (message_of output.now)) advices.old.store; known = advices.old.known; room = advices.old.room } }
+    ensures { advices.new ≡ record advices.old { store = store_by way (advice_of (message_of output.now)) advices.old.store } }
 {
     if let Way::Put(_, _) = way {
         if let Some(id) = output.advice() {
@@ -79,26 +81,43 @@ fn mark_in(advices: &mut AdviceStore, way: Way, output: &PreparedOutput)
     }
 }
 
+/// Whether requests wait so long in a network with these links and this wait for the host.
+fn are_waits_of(waits: &Waits, links: &[Link], host: u16) -> bool
+    ensures { IsTrue result ↔ waits.now ≡ waits_of links.now host }
+{
+    let ticks = waits.links();
+    if ticks.len() != links.len() || waits.host() != host {
+        return false;
+    }
+    for (i, link) in links.iter().enumerate() {
+        if ticks[i] != link.ticks {
+            return false;
+        }
+    }
+    true
+}
+
 impl Books {
-    /// The books of a new node with so many links, in a network in which advices are sent again after so many ticks.
+    /// The books of a new node with so many links, in a network in which advices are sent again after so many ticks and requests wait so
+    /// long.
     pub fn new(
         alloc: Global,
         date: DateLabel,
         links: usize,
         ticks: u16,
+        waits: Waits,
     ) -> Result<Books, AllocError>
         ensures { IfOk result (λ b. b.lists ≡ record { rows = []; marks = []; takes = []; store = []; known = []; loans = []; borrowed = []; links = replicate links fresh; asks = []; date = date; count = 0 }) }
     {
         let links = Links::new(alloc, links)?;
         Ok(Books {
-            pending: PendingBook::new(alloc),
+            pending: PendingBook::new(alloc, waits)?,
             standin: StandInBook::new(alloc),
             advices: AdviceStore::new(alloc, ticks)?,
             lending: LendingBook::new(alloc),
             links,
             asks: Vec::new(alloc),
             date,
-            count: 0,
             room: 0,
         })
     }
@@ -201,12 +220,28 @@ impl Books {
         self.pending.put_on(link)
     }
 
-    /// From where to where the requests stand that were opened at this count.
-    pub fn opened_at(&self, count: u64) -> Span
-        ensures between { AreBetween count self.now.lists.rows result.start result.end }
-        ensures few { result.end ≤ length self.now.lists.rows }
+    /// The places of the pending requests of a card that were put on a link or asked of the host, in no order.
+    pub fn of_card(&self, card: &Card) -> Result<Vec<usize>, AllocError>
+        ensures { IfOk result (λ places. AreCovered (requests.waits_of card.now) self.now.lists.rows places.items) }
     {
-        self.pending.opened_at(count)
+        self.pending.of_card(card)
+    }
+
+    /// The places of the requests whose time is over at the next tick, in no order, in a network with these links, in which requests wait so
+    /// long for the host. Others may stand there too.
+    pub fn over(&self, links: &[Link], host: u16) -> Result<Vec<usize>, AllocError>
+        ensures { IfOk result (λ places. AreCovered (is_over (waits_of links.now host) (self.now.lists.count + 1)) self.now.lists.rows places.items) }
+    {
+        if are_waits_of(self.pending.waits(), links, host) {
+            self.pending.due()
+        } else {
+            self.pending.all_places()
+        }
+    }
+
+    /// How many slots and ends of lists the last tick looked at among the requests.
+    pub fn visits(&self) -> u64 {
+        self.pending.visits()
     }
 
     /// The places taken: one by each stored advice and grant, two by each pending request.
@@ -340,7 +375,7 @@ impl Books {
         ensures count { result ≡ self.now.lists.count }
         ensures few { result ≤ 2 ^ 62 }
     {
-        self.count
+        self.pending.count()
     }
 
     /// An output went out.
@@ -433,7 +468,6 @@ impl Books {
                 self.room -= 1;
             }
             Effect::LinkIs(link, up) => {
-                self.pending.prune(link);
                 self.links.set_up(link, up);
                 self.room -= 1;
             }
@@ -442,8 +476,8 @@ impl Books {
                 self.room -= 1;
             }
             Effect::Ticked => {
-                self.count += 1;
-                self.advices.tick(self.count);
+                self.pending.tick();
+                self.advices.tick();
                 self.room -= 1;
             }
             Effect::PacketSent(link, serial, packet) => self.send_packet(link, serial, packet),

@@ -2,7 +2,7 @@
 use Rattle.std.proofs.Common.{◌≡◌, ℕ, ◌==◌, ◌&&◌, ◌||◌, ◌++◌, Bool, true, false, cond, List, [], ◌∷◌, Option, Some, None, is_some, refl, sym, ap, ◌∙◌, inl, inr, arith, length, drop, length-append, length-drop, ◌<◌, rules}
 use Rattle.std.specs.Cmp.{IsEquivalence}
 use Rattle.std.specs.Cmp.Rules.{comparing}
-use Rattle.std.specs.Prelude.{MatchOption, IfOk, OnErr, Result, Ok, Err}
+use Rattle.std.specs.Prelude.{MatchOption, IfOk, OnErr, Result, Ok, Err, is_none}
 use Rattle.std.specs.Option.{option_or}
 use Rattle.std.specs.Cmp.Lexicographic.{pointwise, same_text}
 use Rattle.std.proofs.lemmas.Bool.{cases_Bool}
@@ -189,3 +189,8 @@ begins_last rows begins last prefix runs within ends = by (drop last rows) refl
         let same : ends.last.prefix ≡ s.prefix = of_last (drop last ends.front) ends.last s.prefix (rw end at (runs.last_goes_on s.prefix first)) in
         let here : s.prefix ≡ prefix = sym same ∙ ends.is in
         rw here (same_digits prefix)
+
+-- a prefix that had a place keeps it, and so do all others
+pub begins_known : (old new : List (List ℕ × ℕ)) (prefix : List ℕ) (place : ℕ) (o : Option ℕ) → is_some o ≡ true → ((q : List ℕ) → begin_of new q ≡ cond (is_none o && pointwise ◌==◌ prefix q) (Some place) (begin_of old q)) → (q : List ℕ) → begin_of new q ≡ begin_of old q
+begins_known old new prefix place None some put q = absurd cc
+begins_known old new prefix place (Some x) some put q = put q

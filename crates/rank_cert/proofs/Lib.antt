@@ -6,6 +6,7 @@ mod GreatestName
 mod Growing
 mod Lines
 pub mod LineFields
+mod ByName
 mod Pairs
 pub mod Ranked
 mod Repeated

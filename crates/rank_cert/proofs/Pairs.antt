@@ -1,15 +1,14 @@
 -- One row more.
 use Rattle.std.proofs.Common.{◌≡◌, ℕ, suc, ◌+◌, ◌<◌, ◌++◌, ◌==◌, ◌&&◌, length, get_or, drop, drop-cons, add-one, ap, sym, ◌∙◌, true, false, cond, List, [], ◌∷◌, Option, Some, None, is_some, refl, append_assoc, append-nil}
 use Rattle.std.specs.Cmp.Lexicographic.{pointwise}
-use Rattle.std.specs.Map.{lookup}
 use Rattle.std.specs.Option.{option_map, option_or}
 use Rattle.std.specs.Prelude.{All, is_none, Bool, Result, Ok, Err, IfOk, OnErr}
 use Rattle.std.proofs.lemmas.List.Elements.{All-nil, All-cons}
 use Rattle.rank_cert.specs.declared.cert.Rank.{Rank}
-use Rattle.rank_cert.specs.declared.apart.Pair.{Pair}
-use Rattle.rank_cert.specs.declared.apart.Found.{Found}
+use Rattle.rank_cert.specs.declared.pair.Pair.{Pair}
+use Rattle.rank_cert.specs.declared.pair.Found.{Found}
 use Rattle.rank_cert.specs.Apart.{is_same_pair, AreFound}
-use Rattle.rank_cert.specs.Ranks.{rank_of, is_of, IsRow, AddsRows, IsCert}
+use Rattle.rank_cert.specs.Ranks.{rank_of, IsRow, AddsRows, IsCert}
 use Rattle.rank_cert.proofs.Growing.{rank-push, digits_are}
 
 adds-push : (done rows : List Rank) (r : Rank) → AddsRows done rows → IsRow r → rank_of (done ++ rows) r.node r.prefix ≡ None → AddsRows done (rows ++ r ∷ [])
@@ -47,9 +46,9 @@ or_none : (o : Option ℕ) → o ≡ option_or o None
 or_none None = refl
 or_none (Some x) = refl
 
--- the map has the pair of one row more
-pub found_push : (rows : List Rank) (old new : List (Pair × Found)) (r : Rank) (p : Pair) (f : Found) → p.node ≡ r.node → p.prefix ≡ r.prefix → f.rank ≡ r.rank → rank_of rows r.node r.prefix ≡ None
-    → AreFound rows old → ((q : Pair) → lookup (is_same_pair q) new ≡ cond (is_same_pair p q) (Some f) (lookup (is_same_pair q) old)) → AreFound (rows ++ r ∷ []) new
+-- the pair of one row more is found too
+pub found_push : (rows : List Rank) (old new : Pair → Option Found) (r : Rank) (p : Pair) (f : Found) → p.node ≡ r.node → p.prefix ≡ r.prefix → f.rank ≡ r.rank → rank_of rows r.node r.prefix ≡ None
+    → AreFound rows old → ((q : Pair) → new q ≡ cond (is_same_pair p q) (Some f) (old q)) → AreFound (rows ++ r ∷ []) new
 found_push rows old new r p f node prefix rank none are put q =
     rw (put q, rank-push rows r q.node q.prefix, ← node, ← prefix, ← rank) (by (is_same_pair p q) refl)
   where
@@ -58,22 +57,28 @@ found_push rows old new r p f node prefix rank none are put q =
         let same = both (pointwise ◌==◌ p.node q.node) (pointwise ◌==◌ p.prefix q.prefix) is in
         rw (← digits_are p.node q.node same.0, ← digits_are p.prefix q.prefix same.1, node, prefix) none
 
-    by : (b : Bool) → is_same_pair p q ≡ b → option_map (λ (g : Found). g.rank) (cond b (Some f) (lookup (is_same_pair q) old)) ≡ option_or (rank_of rows q.node q.prefix) (cond b (Some f.rank) None)
+    by : (b : Bool) → is_same_pair p q ≡ b → option_map (λ (g : Found). g.rank) (cond b (Some f) (old q)) ≡ option_or (rank_of rows q.node q.prefix) (cond b (Some f.rank) None)
     by true is = rw (none_here is) refl
     by false is = are q ∙ or_none (rank_of rows q.node q.prefix)
 
--- a pair that the map hasn't has no rank
-pub none_known : (rows : List Rank) (found : List (Pair × Found)) (p : Pair) → AreFound rows found → is_some (lookup (is_same_pair p) found) ≡ false → rank_of rows p.node p.prefix ≡ None
-none_known rows found p are not = sym (are p) ∙ by (lookup (is_same_pair p) found) not
-  where
-    by : (o : Option Found) → is_some o ≡ false → option_map (λ (f : Found). f.rank) o ≡ None
-    by None h = refl
-    by (Some f) h = absurd cc
-
--- the map has the same for each pair
-pub found_same : (rows : List Rank) (old new : List (Pair × Found)) → AreFound rows old → ((q : Pair) → lookup (is_same_pair q) new ≡ lookup (is_same_pair q) old) → AreFound rows new
+-- the same is found
+pub found_same : (rows : List Rank) (old new : Pair → Option Found) → AreFound rows old → ((q : Pair) → new q ≡ old q) → AreFound rows new
 found_same rows old new are same q = ap (option_map (λ (f : Found). f.rank)) (same q) ∙ are q
+
+-- what becomes of a row whose pair finds this
+pub found_or_push : (rows : List Rank) (old new : Pair → Option Found) (r : Rank) (p : Pair) (f : Found) (had : Option Found) → p.node ≡ r.node → p.prefix ≡ r.prefix → f.rank ≡ r.rank → had ≡ old p
+    → AreFound rows old → ((q : Pair) → new q ≡ cond (is_none had && is_same_pair p q) (Some f) (old q)) → had ≡ None → AreFound (rows ++ r ∷ []) new
+found_or_push rows old new r p f had node prefix rank is are put none =
+    found_push rows old new r p f node prefix rank (rw (← node, ← prefix) (sym (are p) ∙ ap (option_map (λ (f : Found). f.rank)) (sym is ∙ none))) are (λ q. put q ∙ rw none refl)
+
+pub found_again : (rows : List Rank) (old new : Pair → Option Found) (p : Pair) (f : Found) (had : Option Found) → AreFound rows old → ((q : Pair) → new q ≡ cond (is_none had && is_same_pair p q) (Some f) (old q)) → is_some had ≡ true → AreFound rows new
+found_again rows old new p f None are put some = absurd cc
+found_again rows old new p f (Some g) are put some = found_same rows old new are put
 
 pub each_row : (done rows : List Rank) → AddsRows done rows → All IsRow rows
 each_row done [] h = All-nil IsRow
 each_row done (r ∷ rows) h = All-cons IsRow r rows h.0 (each_row (done ++ r ∷ []) rows h.2)
+
+pub nothing_found : (o : Option Found) → is_some o ≡ false → o ≡ None
+nothing_found None h = refl
+nothing_found (Some f) h = absurd cc

@@ -1,5 +1,6 @@
 pub mod Adding
 pub mod Apart
+pub mod Found
 pub mod Greatest
 pub mod Kept
 pub mod Like

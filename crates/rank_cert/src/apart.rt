@@ -4,80 +4,30 @@ ghost use Rattle.rank_cert.specs.Ranks.{rank_of, IsCert};
 ghost use Rattle.std.specs.Option.{option_map};
 
 use crate::cert::{NEAR, Rank};
+use crate::found::FoundPairs;
+use crate::pair::{Found, Pair};
 use card_digits::{Name, Prefix};
-use crowded_map::CrowdedMap;
 use std::alloc::{AllocError, Global};
-use std::hash::{Hash, Hasher};
 use std::marker::Model;
-
-/// What a row is found by.
-#[derive(Clone, Copy, Debug, PartialOrd, Ord)]
-pub(crate) struct Pair {
-    pub node: Name,
-    pub prefix: Prefix,
-}
-
-impl PartialEq for Pair {
-    ghost use Rattle.rank_cert.specs.Apart.{is_same_pair};
-    ghost use Rattle.std.proofs.Common.{rules};
-    ghost use Rattle.std.specs.Cmp.Rules.{comparing};
-
-    ghost eq = { is_same_pair };
-
-    ghost laws = { Prim.search (comparing, rules) };
-
-    fn eq(&self, other: &Pair) -> bool {
-        self.node == other.node && self.prefix == other.prefix
-    }
-}
-
-impl Eq for Pair {
-    ghost use Rattle.std.proofs.Common.{rules};
-    ghost use Rattle.std.specs.Cmp.Rules.{comparing};
-
-    ghost laws = { Prim.search (comparing, rules) };
-}
-
-// The letters at once and the digits at once.
-impl Hash for Pair {
-    ghost use Rattle.std.specs.Prelude.{[], ◌∷◌};
-    ghost use Rattle.std.proofs.Common.{rules};
-    ghost use Rattle.std.specs.Cmp.Rules.{hashing};
-
-    ghost hash_input = { λ p. p.node ∷ p.prefix ∷ [] };
-
-    ghost respects_eq = { Prim.search (hashing, rules) };
-
-    fn hash<H: Hasher>(&self, state: &mut H) {
-        state.write(self.node.as_slice());
-        state.write(self.prefix.digits());
-    }
-}
-
-/// The rank that a pair has, and where its row stands.
-#[derive(Clone, Copy, Debug)]
-pub(crate) struct Found {
-    pub rank: u16,
-    pub place: usize,
-}
 
 /// Rows in the order in which they were added, no two of the same pair. Whoever writes them chooses their pairs.
 #[derive(Debug, Drop)]
 pub(crate) struct ApartRows {
     rows: Vec<Rank>,
-    found: CrowdedMap<Pair, Found>,
+    found: FoundPairs,
 }
 
 impl Model for ApartRows {
     ghost use Rattle.std.specs.Prelude.{List};
     ghost use Rattle.rank_cert.specs.declared.cert.Rank.{Rank};
     ghost use Rattle.rank_cert.specs.Apart.{AreFound};
+    ghost use Rattle.rank_cert.specs.Found.{found_of};
 
     ghost Value = { List Rank };
 
     ghost view = { λ a. a.rows.items };
 
-    ghost invariant = { λ a. AreFound a.rows.items a.found.entries };
+    ghost invariant = { λ a. AreFound a.rows.items (found_of a.found) };
 }
 
 impl ApartRows {
@@ -85,11 +35,9 @@ impl ApartRows {
     fn with_room(alloc: Global, rows: usize) -> Result<ApartRows, AllocError>
         ensures { IfOk result (λ apart. apart ≡ []) }
     {
-        let mut found = CrowdedMap::new(alloc);
-        found.reserve(rows)?;
         Ok(ApartRows {
             rows: Vec::with_capacity(alloc, rows)?,
-            found,
+            found: FoundPairs::new(alloc),
         })
     }
 
@@ -122,16 +70,14 @@ impl ApartRows {
             node: row.node,
             prefix: row.prefix,
         };
-        if self.found.contains_key(&pair) {
-            return Ok(false);
-        }
         self.rows.reserve(1)?;
-        self.found.reserve(1)?;
         let found = Found {
             rank: row.rank,
             place: self.rows.len(),
         };
-        let _ = self.found.insert(pair, found);
+        if self.found.get_or_insert(pair, found)?.is_some() {
+            return Ok(false);
+        }
         self.rows.push_reserved(row);
         Ok(true)
     }
@@ -143,7 +89,7 @@ impl ApartRows {
             node: *node,
             prefix: *prefix,
         };
-        self.found.get(&pair).copied()
+        self.found.get(&pair)
     }
 
     /// The rank of a pair.

@@ -4,10 +4,12 @@
 mod apart;
 mod cert;
 mod fault;
+mod found;
 mod greatest;
 mod kept;
 mod marks;
 mod page;
+mod pair;
 mod read;
 mod row;
 mod runs;

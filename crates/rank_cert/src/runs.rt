@@ -12,17 +12,17 @@ use crate::cert::{NEAR, Rank};
 use crate::greatest::Greatest;
 use crate::marks::{Marks, place_of};
 use card_digits::{Name, Prefix};
-use crowded_map::CrowdedMap;
+use prefix_map::PrefixMap;
 use std::alloc::{AllocError, Global};
 use std::marker::Model;
 
 /// Rows in the order in which they were added. Those of one prefix are a run: no row of another prefix stands among them. So only
-/// the place where its run begins is kept for a prefix, and a row costs no hash where the row before it has its prefix.
+/// the place where its run begins is kept for a prefix, and a prefix is looked up only where the row before has another.
 #[derive(Debug, Drop)]
 pub(crate) struct Runs {
     rows: Vec<Rank>,
     /// The place of the first row of each prefix.
-    begins: CrowdedMap<Prefix, usize>,
+    begins: PrefixMap<usize>,
     /// Where the run of the last row begins.
     last: usize,
     /// The marks of the names in that run: of a name without one no row has to be looked at.
@@ -62,7 +62,7 @@ impl Runs {
     {
         Runs {
             rows: Vec::new(alloc),
-            begins: CrowdedMap::new(alloc),
+            begins: PrefixMap::new(alloc),
             last: 0,
             marks: Marks::none(),
             greatest: Greatest::none(),
@@ -75,7 +75,7 @@ impl Runs {
     {
         Ok(Runs {
             rows: Vec::with_capacity(alloc, rows)?,
-            begins: CrowdedMap::new(alloc),
+            begins: PrefixMap::new(alloc),
             last: 0,
             marks: Marks::none(),
             greatest: Greatest::none(),
@@ -95,7 +95,7 @@ impl Runs {
         self.begins.get(prefix).copied()
     }
 
-    /// The rank of a name at a prefix: one look-up by hash, and then the rows of the prefix one after the other.
+    /// The rank of a name at a prefix: one look-up, and then the rows of the prefix one after the other.
     pub fn rank(&self, node: &Name, prefix: &Prefix) -> Option<u16>
         ensures { result ≡ rank_of self.now node.now prefix.now }
     {
@@ -277,7 +277,7 @@ fn add_to_run(
 #[inline(never)]
 fn begin_run(
     rows: &mut Vec<Rank>,
-    begins: &mut CrowdedMap<Prefix, usize>,
+    begins: &mut PrefixMap<usize>,
     row: Rank,
 ) -> Result<bool, AllocError>
     ensures new { result ≡ Ok true → begin_of begins.old.entries row.prefix ≡ None }
@@ -286,12 +286,11 @@ fn begin_run(
     ensures rows_stay { result ≢ Ok true → rows.new.items ≡ rows.old.items }
     ensures begins_stay { result ≢ Ok true → (p : List ℕ) → begin_of begins.new.entries p ≡ begin_of begins.old.entries p }
 {
-    if begins.contains_key(&row.prefix) {
-        return Ok(false);
-    }
     rows.reserve(1)?;
     begins.reserve(1)?;
-    let _ = begins.insert(row.prefix, rows.len());
+    if begins.get_or_insert(row.prefix, rows.len()).is_some() {
+        return Ok(false);
+    }
     rows.push_reserved(row);
     Ok(true)
 }
@@ -300,7 +299,7 @@ fn begin_run(
 /// asked for before anything is written.
 fn begin_repeat(
     rows: &mut Vec<Rank>,
-    begins: &mut CrowdedMap<Prefix, usize>,
+    begins: &mut PrefixMap<usize>,
     place: usize,
     prefix: Prefix,
     ranks: &[u16],
@@ -312,12 +311,11 @@ fn begin_repeat(
     ensures rows_stay { result ≢ Ok true → rows.new.items ≡ rows.old.items }
     ensures begins_stay { result ≢ Ok true → (p : List ℕ) → begin_of begins.new.entries p ≡ begin_of begins.old.entries p }
 {
-    if begins.contains_key(&prefix) {
-        return Ok(false);
-    }
     rows.reserve(ranks.len())?;
     begins.reserve(1)?;
-    let _ = begins.insert(prefix, rows.len());
+    if begins.get_or_insert(prefix, rows.len()).is_some() {
+        return Ok(false);
+    }
     repeat_names(rows, place, prefix, ranks);
     Ok(true)
 }

@@ -44,3 +44,9 @@ pub at_got : {X : Type 0} (xs : List X) (k : ℕ) (d : X) → k < length xs → 
 at_got [] k d lt = absurd (omega arith)
 at_got (a ∷ xs) zero d lt = refl
 at_got (a ∷ xs) (suc k) d lt = at_got xs k d (omega arith)
+
+-- the element at a place, as a function changes it
+pub mapped_get : {X : Type 0} (f : X → X) (xs : List X) (k : ℕ) (d e : X) → k < length xs → get_or (map f xs) k e ≡ f (get_or xs k d)
+mapped_get f [] k d e lt = absurd (omega arith)
+mapped_get f (a ∷ xs) zero d e lt = refl
+mapped_get f (a ∷ xs) (suc k) d e lt = mapped_get f xs k d e (omega arith)

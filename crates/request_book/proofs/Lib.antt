@@ -1,7 +1,7 @@
 pub mod At
 pub mod Codes
 pub mod Unique
-pub mod Forwarding
+pub mod Waiting
 pub mod Places
 pub mod Least
 pub mod Spelled

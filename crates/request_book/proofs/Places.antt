@@ -1,5 +1,5 @@
 -- The place of a key, and the request there.
-use Rattle.std.proofs.Common.{◌≡◌, ℕ, suc, zero, ◌+◌, ◌<◌, Bool, true, false, cond, List, [], ◌∷◌, ◌++◌, length, map, get_or, set, Option, Some, None, arith, refl, sym, ap, ◌∙◌, subst, inl, inr, count_by, not, ◌^◌, ◌≤◌, slice_get, nat_eq, Result, Ok, Err, OnOk, IsOk}
+use Rattle.std.proofs.Common.{◌≡◌, ℕ, suc, zero, ◌+◌, ◌<◌, Bool, true, false, cond, List, [], ◌∷◌, ◌++◌, length, map, get_or, set, Option, Some, None, arith, refl, sym, ap, ◌∙◌, subst, inl, inr, count_by, not, ◌^◌, Result, Ok, Err, OnOk, IsOk}
 use Rattle.std.specs.Prelude.{is_some, is_none}
 use Rattle.std.specs.Map.{lookup}
 use Rattle.std.specs.Option.{option_map, option_or}
@@ -8,19 +8,12 @@ use Rattle.std.proofs.lemmas.List.Sums.{sum_by-append, count_by-le-length}
 use Rattle.card_digits.specs.declared.key.Key.{Key}
 use Rattle.message_keys.specs.Keys.{key_eq}
 use Rattle.iso_message.specs.Fields.{Fields}
-use Rattle.network_law.specs.Traces.{ReadOutput, answers, sent, forwards}
+use Rattle.network_law.specs.Traces.{ReadOutput, answers, sent}
 use Rattle.node_machine.specs.Lists.{Row, of_key, row_key, row_has, row_after, row_pending}
 use Rattle.request_book.specs.Values.{IsUnique, output_key, opened}
-use Rattle.request_book.specs.Kept.{AreKept, IsOver, place_of, bit, head_of, head_after, noted, newly, widened}
-use Rattle.request_book.specs.declared.forwards.Forward.{Forward}
-use Rattle.request_book.specs.declared.spans.Span.{Span}
-use Rattle.request_book.proofs.At.{last_at, at_mapped, at_got}
-use Rattle.request_book.proofs.Forwarding.{no_spans, no_forwards, spans_opened, spans_after, spans_same, forwards_after, forwards_opened, forwards_noted, forwards_pruned, forwards_same}
+use Rattle.request_book.specs.Kept.{place_of, bit}
 use Rattle.message_keys.proofs.Equality.{key_eq_is, key_eq_flip}
-use Rattle.request_book.proofs.Unique.{quiet_all, unique_after, unique_more, quiet}
-
-pub no_rows : AreKept [] [] 0 [] [] []
-no_rows = record { unique = tt; keyed = λ k. refl; counted = refl; spanned = no_spans; forwarded = no_forwards }
+use Rattle.request_book.proofs.Unique.{quiet_all, quiet}
 
 some_not_none : {A : Type 0} (x : A) → Some x ≡ None → ⊥
 some_not_none x e = cc
@@ -160,61 +153,6 @@ count_set (x ∷ xs) zero d r lt = (let a = count_cons r xs in let b = count_con
 count_set (x ∷ xs) (suc i) d r lt = (let a = count_cons x (set xs i r) in let b = count_cons x xs in let h = count_set xs i d r (omega arith) in omega (arith, a, b, h))
 
 -- the book's facts
-
-pub kept_same : (rows : List Row) (es es' : List (Key × ℕ)) (n : ℕ) (spans spans' : List (ℕ × Span)) (list : List Forward) (heads heads' : List (ℕ × ℕ)) → ((k : Key) → lookup (key_eq k) es' ≡ lookup (key_eq k) es) → ((c : ℕ) → lookup (nat_eq c) spans' ≡ lookup (nat_eq c) spans) → ((l : ℕ) → head_of l heads' ≡ head_of l heads) → AreKept rows es n spans list heads → AreKept rows es' n spans' list heads'
-kept_same rows es es' n spans spans' list heads heads' keys counts links a = record {
-  unique = a.unique;
-  keyed = λ k. keys k ∙ a.keyed k;
-  counted = a.counted;
-  spanned = spans_same rows spans spans' counts a.spanned;
-  forwarded = forwards_same rows list heads heads' links a.forwarded;
-}
-
-pub kept_opened : (rows : List Row) (r : Row) (es es' : List (Key × ℕ)) (n : ℕ) (spans spans' : List (ℕ × Span)) (list : List Forward) (heads heads' : List (ℕ × ℕ)) → AreKept rows es n spans list heads → place_of (row_key r) rows ≡ None
-    → ((k : Key) → lookup (key_eq k) es' ≡ cond (key_eq (row_key r) k) (Some (length rows)) (lookup (key_eq k) es))
-    → ((c : ℕ) → lookup (nat_eq c) spans' ≡ cond (nat_eq r.count c) (Some (widened (lookup (nat_eq r.count) spans) (length rows))) (lookup (nat_eq c) spans))
-    → ((l : ℕ) → head_of l heads' ≡ head_after r.link (length list) l (head_of l heads))
-    → AreKept (rows ++ r ∷ []) es' (n + bit (row_pending r)) spans' (noted (length rows) r.link heads list) heads'
-kept_opened rows r es es' n spans spans' list heads heads' a none put counts links = record {
-  unique = unique_more r rows (found_none (row_key r) rows none) a.unique;
-  keyed = λ k. elim (cases_Bool (key_eq (row_key r) k)) [
-    | inl t ↦ put k ∙ rw t (sym (place_last k rows r (subst (λ q. place_of q rows ≡ None) (key_eq_is (row_key r) k t) none) t))
-    | inr f ↦ put k ∙ rw f (a.keyed k ∙ sym (place_same k rows r f))
-  ];
-  counted = ap (λ m. m + bit (row_pending r)) a.counted ∙ sym (count_more rows r);
-  spanned = spans_opened rows r spans spans' a.spanned counts;
-  forwarded = forwards_noted (length rows) r.link (rows ++ r ∷ []) list heads heads' (forwards_opened rows r list heads a.forwarded) links (λ l e. (r, last_at rows r, e));
-}
-
--- what is newly on a link is there afterwards
-on_link_after : (o : ReadOutput) (rows : List Row) (place : ℕ) (d : Row) (l : ℕ) → place < length rows → newly o (get_or rows place d) ≡ Some l → (r : Row) × (slice_get (map (row_after o) rows) place ≡ Some r) × (r.link ≡ Some l)
-on_link_after o rows place d l lt e =
-    (row_after o (get_or rows place d), at_mapped (row_after o) rows place (get_or rows place d) (at_got rows place d lt), go (get_or rows place d).link e)
-  where
-    go : (m : Option ℕ) → cond (is_none m) (forwards (row_key (get_or rows place d)) o) None ≡ Some l → option_or m (forwards (row_key (get_or rows place d)) o) ≡ Some l
-    go None e = e
-    go (Some k) e = absurd (cc)
-
-pub kept_after : (o : ReadOutput) (rows : List Row) (es : List (Key × ℕ)) (n m : ℕ) (b : Bool) (spans : List (ℕ × Span)) (list : List Forward) (heads heads' : List (ℕ × ℕ)) (place : ℕ) (d : Row) → AreKept rows es n spans list heads → place_of (output_key o) rows ≡ Some place
-    → count_by row_pending (map (row_after o) rows) + bit b ≡ count_by row_pending rows → m + bit b ≡ n
-    → ((l : ℕ) → head_of l heads' ≡ head_after (newly o (get_or rows place d)) (length list) l (head_of l heads))
-    → AreKept (map (row_after o) rows) es m spans (noted place (newly o (get_or rows place d)) heads list) heads'
-kept_after o rows es n m b spans list heads heads' place d a at closed is links = record {
-  unique = unique_after o rows a.unique;
-  keyed = λ k. a.keyed k ∙ sym (places_after k o rows);
-  counted = (let c = a.counted in omega (arith, closed, is, c));
-  spanned = spans_after o rows spans a.spanned;
-  forwarded = forwards_noted place (newly o (get_or rows place d)) (map (row_after o) rows) list heads heads' (forwards_after o rows list heads place d a.unique at a.forwarded) links (λ l e. on_link_after o rows place d l (place_within (output_key o) rows place at) e);
-}
-
-pub kept_pruned : (link head : ℕ) (rows : List Row) (es : List (Key × ℕ)) (n : ℕ) (spans : List (ℕ × Span)) (list : List Forward) (heads heads' : List (ℕ × ℕ)) → AreKept rows es n spans list heads → ((l : ℕ) → head_of l heads' ≡ cond (nat_eq link l) head (head_of l heads)) → ((i : ℕ) (p : Forward) → slice_get list i ≡ Some p → p.link ≡ link → head ≤ i → IsOver rows p.place) → AreKept rows es n spans list heads'
-kept_pruned link head rows es n spans list heads heads' a same over = record {
-  unique = a.unique;
-  keyed = a.keyed;
-  counted = a.counted;
-  spanned = a.spanned;
-  forwarded = forwards_pruned link head rows list heads heads' a.forwarded same over;
-}
 
 pub opened_new : (r : Row) (rows : List Row) → place_of (row_key r) rows ≡ None → opened r rows ≡ rows ++ r ∷ []
 opened_new r rows none = let e = found_none (row_key r) rows none in rw e refl

@@ -2,3 +2,4 @@ pub mod Values
 pub mod Ways
 pub mod Kept
 pub mod Spelled
+pub mod Waits

@@ -1,14 +1,19 @@
 -- What contracts see of requests and outputs.
-use Rattle.std.specs.Prelude.{◌≡◌, ◌<◌, ◌≤◌, ℕ, List, [], ◌∷◌, ◌++◌, Bool, true, ◌&&◌, if◌then◌else◌, slice_get, Option, Some, None, is_none, ⊤}
+use Rattle.std.specs.Prelude.{◌≡◌, ◌==◌, ℕ, List, [], ◌∷◌, ◌++◌, Bool, true, false, ◌&&◌, ◌||◌, if◌then◌else◌, slice_get, Option, Some, None, is_some, is_none, ⊤}
+use Rattle.std.specs.Cmp.Lexicographic.{pointwise}
+use Rattle.std.specs.Option.{option_map_or}
 use Rattle.card_digits.specs.declared.key.Key.{Key}
 use Rattle.message_elements.specs.declared.kind.Kind.TheVariants.{K0100}
-use Rattle.iso_message.specs.Fields.{Fields}
+use Rattle.std.specs.Result.{result_ok}
+use Rattle.card_digits.specs.Reading.{read_digits}
+use Rattle.iso_message.specs.Fields.{Fields, el}
 use Rattle.message_elements.specs.Groups.{is_request, is_answer}
 use Rattle.message_keys.specs.Keys.{key_of}
 use Rattle.iso_message.specs.Made.{has_own_key}
 use Rattle.network_law.specs.Traces.{Source, Gate, ByLink, ReadOutput, Put, Answer, Ask, Post, PutPacket, is_link}
 use Rattle.node_machine.specs.Lists.{Row, Mark, of_key, row_key, row_pending}
 use Rattle.std.specs.List.{Contains}
+use Rattle.request_book.specs.Waits.{WaitsView}
 
 -- a source is the gate, or a link
 abbrev pub source_of : Option ℕ → Source
@@ -32,6 +37,10 @@ pub record IsKeyOf (key : Key) (m : Fields) : Type 0 where
   pub own : has_own_key m ≡ true
   pub request : is_request m.kind ≡ true
 
+-- the card of a message: none where element 2 is absent or is none
+abbrev pub card_in : Fields → Option (List ℕ)
+card_in m = result_ok (read_digits 8 19 (el m 2))
+
 -- an answer of this key
 abbrev pub IsAnswerOf : Key → Option Fields → Type 0
 IsAnswerOf key None = ⊤
@@ -46,20 +55,24 @@ IsUnique (r ∷ rs) = (of_key (row_key r) rs ≡ None) × IsUnique rs
 abbrev pub opened : Row → List Row → List Row
 opened r rows = if is_none (of_key (row_key r) rows) then rows ++ r ∷ [] else rows
 
--- requests and marks, and how many more need no memory
+-- requests and marks; for how many ticks requests wait, and how many went by; what the last of them looked at; and how many more changes need
+-- no memory
 pub record Pending : Type 0 where
   pub rows : List Row
   pub marks : List Mark
+  pub waits : WaitsView
+  pub count : ℕ
+  pub visits : ℕ
   pub room : ℕ
 
 -- pending, and put on this link
 abbrev pub waits_on : ℕ → Row → Bool
 waits_on l r = row_pending r && is_link l r.link
 
+-- pending, of this card, and put on a link or asked of the host
+abbrev pub waits_of : List ℕ → Row → Bool
+waits_of card r = row_pending r && ((is_some r.link || r.asked) && option_map_or (λ own. pointwise ◌==◌ own card) (card_in r.message) false)
+
 -- each request that passes a test stands at one of these places
 abbrev pub AreCovered : (Row → Bool) → List Row → List ℕ → Type 0
 AreCovered p rows places = (k : ℕ) (r : Row) → slice_get rows k ≡ Some r → p r ≡ true → Contains places k
-
--- each request that was opened at this count stands from one place up to another
-abbrev pub AreBetween : ℕ → List Row → ℕ → ℕ → Type 0
-AreBetween count rows start end = (k : ℕ) (r : Row) → slice_get rows k ≡ Some r → r.count ≡ count → (start ≤ k) × (k < end)

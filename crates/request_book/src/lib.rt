@@ -2,17 +2,16 @@
 //! Memory for a growth is reserved before, and where it is refused nothing has changed.
 #![tactic(auto)]
 
-mod forwards;
 mod kept_message;
 mod marks;
 mod output;
 mod pending;
 mod row;
-mod spans;
+mod waits;
 
 pub use kept_message::KeptMessage;
 pub use marks::Mark;
 pub use output::{PreparedOutput, Way};
 pub use pending::PendingBook;
 pub use row::Row;
-pub use spans::Span;
+pub use waits::Waits;

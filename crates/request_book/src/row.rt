@@ -3,11 +3,11 @@ ghost use Rattle.std.specs.Prelude.{◌≡◌, true, false, None, is_none};
 ghost use Rattle.std.specs.Option.{option_copied};
 ghost use Rattle.message_keys.specs.Keys.{key_eq};
 ghost use Rattle.node_machine.specs.Lists.{row_after};
-ghost use Rattle.request_book.specs.Values.{source_of, output_key, IsKeyOf, IsAnswerOf};
+ghost use Rattle.request_book.specs.Values.{source_of, card_in, output_key, IsKeyOf, IsAnswerOf};
 
 use crate::kept_message::KeptMessage;
 use crate::output::{PreparedOutput, Way};
-use card_digits::{Key, LinkNo};
+use card_digits::{Card, Key, LinkNo};
 use message_elements::response_codes;
 use std::marker::Model;
 
@@ -19,32 +19,42 @@ pub struct Row {
     answer: Option<KeptMessage>,
     count: u64,
     key: Key,
+    card: Option<Card>,
     source: Option<LinkNo>,
     link: Option<LinkNo>,
     asked: bool,
 }
 
 impl Model for Row {
+    ghost use Rattle.std.specs.Prelude.{◌≡◌};
     ghost use Rattle.node_machine.specs.Lists.{Row};
-    ghost use Rattle.request_book.specs.Values.{source_of, IsKeyOf, IsAnswerOf};
+    ghost use Rattle.request_book.specs.Values.{source_of, card_in, IsKeyOf, IsAnswerOf};
 
     ghost Value = { Row };
 
     ghost view = { λ r. record { message = r.message; source = source_of r.source; count = r.count; link = r.link; asked = r.asked; answer = r.answer } };
 
-    ghost invariant = { λ r. (IsKeyOf r.key r.message) × IsAnswerOf r.key r.answer };
+    ghost invariant = { λ r. (IsKeyOf r.key r.message) × IsAnswerOf r.key r.answer × (r.card ≡ card_in r.message) };
 }
 
 impl Row {
     ghost use Rattle.node_machine.specs.Lists.{row_key};
 
     /// A request that was just opened.
-    pub fn new(key: Key, message: KeptMessage, source: Option<LinkNo>, count: u64) -> Row
-        requires { IsKeyOf key message }
+    pub fn new(
+        key: Key,
+        card: Option<Card>,
+        message: KeptMessage,
+        source: Option<LinkNo>,
+        count: u64,
+    ) -> Row
+        requires key { IsKeyOf key message }
+        requires card { card ≡ card_in message }
         ensures { result ≡ record { message = message; source = source_of source; count = count; link = None; asked = false; answer = None } }
     {
         Row {
             key,
+            card,
             message,
             source,
             count,
@@ -60,6 +70,13 @@ impl Row {
         ensures own { IsKeyOf result self.now.message }
     {
         self.key
+    }
+
+    /// Its card, where element 2 is one.
+    pub fn card(&self) -> Option<Card>
+        ensures { result ≡ card_in self.now.message }
+    {
+        self.card
     }
 
     /// The request, as it came.

@@ -9,7 +9,7 @@ ghost use Rattle.rows_in_force.specs.Kept.{AreWithin};
 
 use crate::placed::Placed;
 use card_digits::Prefix;
-use crowded_map::CrowdedMap;
+use prefix_map::PrefixMap;
 use std::alloc::{AllocError, Global};
 
 pub(crate) const MOST_NODES: usize = 64;
@@ -20,7 +20,7 @@ pub(crate) type Places = [Option<usize>; MOST_NODES];
 /// The place of the last row of each prefix, and for each row the place of the one before it that has its prefix.
 #[derive(Debug, Drop)]
 pub(crate) struct OwnRows {
-    pub last: CrowdedMap<Prefix, usize>,
+    pub last: PrefixMap<usize>,
     pub before: Vec<Option<usize>>,
 }
 
@@ -62,7 +62,7 @@ impl OwnRows {
     pub fn new<R: Placed>(alloc: Global, rows: &[R]) -> Result<OwnRows, AllocError>
         ensures { IfOk result (λ own. IsChained R.prefix_of rows.now own.last.entries own.before.items) }
     {
-        let mut last = CrowdedMap::new(alloc);
+        let mut last = PrefixMap::new(alloc);
         let mut before = Vec::with_capacity(alloc, rows.len())?;
         let mut place = 0;
         while place < rows.len() {

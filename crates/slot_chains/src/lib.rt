@@ -4,12 +4,12 @@
 mod family;
 mod slot;
 
-ghost use Rattle.std.specs.Prelude.{◌≡◌, ◌<◌, ◌+◌, ◌-◌, ◌≤◌, ◌^◌, ◌∷◌, ◌++◌, ℕ, [], All, IsOk, IsTrue, IsFalse, IfOk, IfErr, IfNone, OnErr, length, replicate, slice_index, slice_get, Some, None};
+ghost use Rattle.std.specs.Prelude.{◌≡◌, nat_le, nat_eq, if◌then◌else◌, ◌<◌, ◌+◌, ◌-◌, ◌≤◌, ◌∷◌, ◌++◌, ℕ, [], IsOk, IsTrue, IsFalse, IfOk, OnOk, OnErr, length, slice_get, Some, None};
 ghost use Rattle.std.specs.Borrow.{sem};
 ghost use Rattle.std.specs.Option.{option_copied, option_copied_mut};
-ghost use Rattle.slab.specs.Slab.{get, slab_len, Updates, ContainsKey};
-ghost use Rattle.chain_links.specs.Rings.{LinksView, IsMember, AreApart, list_at, pushed, unlinked, popped, cleared, no_lists};
-ghost use Rattle.slot_chains.specs.Chains.{lists_in, with_lists, IsHeld, IsLoose};
+ghost use Rattle.slab.specs.Slab.{get, slab_len, HasRoomFor, Updates, SameValues};
+ghost use Rattle.chain_links.specs.Lists.{LinksView, IsMember, AreApart, list_at, no_lists, with_heads, pushed, unlinked, popped, cleared};
+ghost use Rattle.slot_chains.specs.Chains.{lists_in, with_lists, with_slots, over, IsHeld, IsLoose};
 
 use crate::slot::{named, named_if};
 use chain_links::Links;
@@ -19,67 +19,166 @@ pub use slot::SlotId;
 use std::alloc::{AllocError, Global};
 use std::marker::Model;
 
-/// Why a value was not inserted.
-#[derive(Clone, Copy, PartialEq, Eq, Debug)]
-pub enum ChainFault {
-    Full,
-    Memory,
-}
+/// So many slots there may be.
+const MOST: usize = 0xFFFF_FFFF;
 
 /// Slots that hold values. Each is a member of at most one list of each family.
 #[derive(Drop)]
 pub struct Chains<T> {
     alloc: Global,
-    capacity: u32,
     slots: Slab<T>,
+    /// How many values fit.
+    capacity: u32,
+    /// So many slots stand in each family at least, and no value is held in another.
+    limit: u32,
     bucket: Links,
     card: Links,
     link: Links,
 }
 
 impl<T> Model for Chains<T> {
-    ghost use Rattle.slot_chains.specs.Chains.{ChainsView, AreSound};
+    ghost use Rattle.slot_chains.specs.Chains.{ChainsView, seen_as, bounded, AreKept};
 
     ghost Value = { ChainsView T };
 
-    ghost view = { λ c. record { slots = c.slots; bucket = c.bucket; card = c.card; link = c.link; capacity = c.capacity } };
+    ghost view = { λ c. seen_as (bounded c.slots c.capacity) c.bucket c.card c.link };
 
-    ghost invariant = { λ c. AreSound (record { slots = c.slots; bucket = c.bucket; card = c.card; link = c.link; capacity = c.capacity }) };
+    ghost invariant = { λ c. AreKept c.slots c.capacity c.limit c.bucket c.card c.link };
 }
 
-impl<T: Drop> Chains<T> {
-    /// Chains without slots, with room for so many, and so many heads in each family.
-    pub fn new(alloc: Global, capacity: u32, heads: [u32; 3]) -> Result<Chains<T>, AllocError>
-        ensures slots { IfOk result (λ c. (c.slots.slots ≡ []) × (c.capacity ≡ capacity)) }
-        ensures lists { IfOk result (λ c. (c.bucket.lists ≡ replicate (slice_index heads 0) []) × (c.card.lists ≡ replicate (slice_index heads 1) []) × (c.link.lists ≡ replicate (slice_index heads 2) [])) }
-    {
-        let slots = Slab::with_capacity(alloc, capacity as usize)?;
-        let all = slots.capacity();
-        // The numbers of slots and heads fit 32 bits; more have no memory.
-        if all > MOST || heads[0] > LIMIT || heads[1] > LIMIT || heads[2] > LIMIT {
-            return Err(AllocError);
-        }
-        let all = all as u32;
-        let bucket = Links::new(alloc, all, heads[0])?;
-        let card = Links::new(alloc, all, heads[1])?;
-        let link = Links::new(alloc, all, heads[2])?;
-        Ok(Chains {
-            alloc,
-            capacity,
-            slots,
-            bucket,
-            card,
-            link,
-        })
+/// Makes so many slots in each family, if there are fewer. The lists stay.
+fn widen(
+    bucket: &mut Links,
+    card: &mut Links,
+    link: &mut Links,
+    slots: u32,
+) -> Result<(), AllocError>
+    ensures buckets { bucket.new ≡ over bucket.old bucket.new.slots }
+    ensures cards { card.new ≡ over card.old card.new.slots }
+    ensures links { link.new ≡ over link.old link.new.slots }
+    ensures fewer { (bucket.old.slots ≤ bucket.new.slots) × (card.old.slots ≤ card.new.slots) × (link.old.slots ≤ link.new.slots) }
+    ensures enough { OnOk result ((slots ≤ bucket.new.slots) × (slots ≤ card.new.slots) × (slots ≤ link.new.slots)) }
+{
+    bucket.grow_slots(slots)?;
+    card.grow_slots(slots)?;
+    link.grow_slots(slots)
+}
+
+/// How many values fit once one of so many is taken out. Where there was no room, none is there before it is made.
+fn capacity_after(capacity: u32, held: u32) -> u32
+    ensures { result ≡ (if nat_eq capacity held then capacity - 1 else capacity) }
+{
+    if capacity == held {
+        capacity.saturating_sub(1)
+    } else {
+        capacity
     }
 }
 
-const LIMIT: u32 = 0x7FFF_FFFF;
+impl<T: Drop> Chains<T> {
+    /// Chains without slots and heads, which take no memory.
+    pub fn new(alloc: Global) -> Chains<T>
+        ensures slots { (result.slots.slots ≡ []) × (result.slots.capacity ≡ 0) }
+        ensures lists { (result.bucket ≡ no_lists) × (result.card ≡ no_lists) × (result.link ≡ no_lists) }
+    {
+        Chains {
+            alloc,
+            slots: Slab::new(alloc),
+            capacity: 0,
+            limit: 0,
+            bucket: Links::new(alloc),
+            card: Links::new(alloc),
+            link: Links::new(alloc),
+        }
+    }
 
-const MOST: usize = 0x7FFF_FFFF;
+    /// Makes so many heads in a family, if there are fewer. The lists of the new ones have no slots.
+    pub fn grow_heads(&mut self, family: Family, heads: u32) -> Result<(), AllocError>
+        ensures ok { OnOk result (self.new ≡ with_lists self.old family (with_heads (lists_in self.old family) heads)) }
+        ensures err { OnErr result (self.new ≡ self.old) }
+        ensures succeeds { heads ≤ length (lists_in self.old family).lists → IsOk result }
+    {
+        match family {
+            Family::Bucket => self.bucket.grow_heads(heads),
+            Family::Card => self.card.grow_heads(heads),
+            Family::Link => self.link.grow_heads(heads),
+        }
+    }
+
+    /// Whether so many values more fit.
+    fn has_room(&self, slots: u32) -> bool
+        ensures { result ≡ nat_le (slab_len self.now.slots + slots) self.now.slots.capacity }
+    {
+        slots <= self.capacity - self.held_count()
+    }
+
+    /// Makes room: the next so many calls of `insert` find a slot. Where memory is refused, none may find one.
+    pub fn room(&mut self, slots: u32) -> Result<(), AllocError>
+        ensures ok { OnOk result (HasRoomFor self.new.slots slots) }
+        ensures values { SameValues self.old.slots self.new.slots }
+        ensures len { slab_len self.new.slots ≡ slab_len self.old.slots }
+        ensures held { HasRoomFor self.new.slots 0 }
+        ensures lists { self.new ≡ with_slots self.old self.new.slots }
+        ensures succeeds { HasRoomFor self.old.slots slots → IsOk result }
+        ensures same { HasRoomFor self.old.slots slots → self.new ≡ self.old }
+    {
+        if self.has_room(slots) {
+            return Ok(());
+        }
+        self.capacity = self.held_count();
+        self.slots.reserve(slots as usize)?;
+        let all = self.slots.capacity();
+        if all > MOST {
+            return Err(AllocError);
+        }
+        let limit = all as u32;
+        widen(&mut self.bucket, &mut self.card, &mut self.link, limit)?;
+        self.limit = limit;
+        self.capacity = limit;
+        Ok(())
+    }
+
+    /// The number of slots that hold a value.
+    pub fn held_count(&self) -> u32
+        ensures { result ≡ slab_len self.now.slots }
+    {
+        self.slots.len() as u32
+    }
+
+    /// Holds a value in a slot, which is in no list.
+    pub fn insert(&mut self, value: T) -> SlotId
+        requires { HasRoomFor self.old.slots 1 }
+        ensures was_free { get self.old.slots result ≡ None }
+        ensures slots { Updates self.old.slots self.new.slots result (Some value) }
+        ensures len { slab_len self.new.slots ≡ slab_len self.old.slots + 1 }
+        ensures capacity { self.new.slots.capacity ≡ self.old.slots.capacity }
+        ensures lists { self.new ≡ record self.old { slots = self.new.slots } }
+    {
+        let slot = self.slots.insert_reserved(value);
+        // All slots that were ever held are among those that the slab has memory for.
+        let _ = self.slots.capacity();
+        named(slot as u32)
+    }
+
+    /// Gives up a slot that is in no list. The next value gets it.
+    pub fn take(&mut self, slot: SlotId) -> T
+        requires held { IsHeld self.old slot }
+        requires loose { IsLoose self.old slot }
+        ensures value { get self.old.slots slot ≡ Some result }
+        ensures slots { Updates self.old.slots self.new.slots slot None }
+        ensures len { slab_len self.new.slots + 1 ≡ slab_len self.old.slots }
+        ensures next { self.new.slots.vacant_key ≡ slot }
+        ensures room { (n : ℕ) → HasRoomFor self.old.slots n → HasRoomFor self.new.slots n }
+        ensures capacity { slab_len self.old.slots < self.old.slots.capacity → self.new.slots.capacity ≡ self.old.slots.capacity }
+        ensures lists { self.new ≡ with_slots self.old self.new.slots }
+    {
+        self.capacity = capacity_after(self.capacity, self.held_count());
+        self.slots.remove(slot.index() as usize)
+    }
+}
 
 impl<T> Chains<T> {
-    ghost use Rattle.slot_chains.specs.Lends.{lends_slot};
+    ghost use Rattle.slot_chains.specs.Lends.{lends_slot, lends_held};
 
     /// Adds a slot at the end of one list. All other lists and slots stay.
     pub fn push_back(&mut self, family: Family, head: u32, slot: SlotId)
@@ -88,7 +187,7 @@ impl<T> Chains<T> {
         requires free { ¬ IsMember (lists_in self.old family) slot }
         ensures { self.new ≡ with_lists self.old family (pushed (lists_in self.old family) head slot) }
     {
-        // Each family has links for as many slots as there are, fewer than 2^32.
+        // A slot that holds a value is one of those that stand in each family.
         let _ = self.slots.capacity();
         let slot = slot.index();
         match family {
@@ -132,6 +231,17 @@ impl<T> Chains<T> {
             Family::Bucket => self.bucket.clear(head),
             Family::Card => self.card.clear(head),
             Family::Link => self.link.clear(head),
+        }
+    }
+
+    /// The number of heads of a family.
+    pub fn head_count(&self, family: Family) -> u32
+        ensures { result ≡ length (lists_in self.now family).lists }
+    {
+        match family {
+            Family::Bucket => self.bucket.head_count(),
+            Family::Card => self.card.head_count(),
+            Family::Link => self.link.head_count(),
         }
     }
 
@@ -213,46 +323,24 @@ impl<T> Chains<T> {
         Ok(found)
     }
 
-    /// Makes room: the next so many calls of `insert` find memory. It was all taken by `new`.
-    pub fn room(&mut self, _slots: u32) -> Result<(), AllocError>
-        ensures same { self.new ≡ self.old }
-        ensures succeeds { IsOk result }
-    {
-        Ok(())
-    }
-
-    /// Holds a value in a new slot, which is in no list. It is refused only where all slots are held.
-    pub fn insert(&mut self, value: T) -> Result<SlotId, (ChainFault, T)>
-        ensures ok { IfOk result (λ slot. (get self.old.slots slot ≡ None) × Updates self.old.slots self.new.slots slot (Some value) × (slab_len self.new.slots ≡ slab_len self.old.slots + 1) × (slab_len self.old.slots < self.old.capacity)) }
-        ensures lists { (self.new.bucket ≡ self.old.bucket) × (self.new.card ≡ self.old.card) × (self.new.link ≡ self.old.link) × (self.new.capacity ≡ self.old.capacity) }
-        ensures full { IfErr result (λ e. (e.0 ≡ ChainFault.Full) × (e.1 ≡ value) × (self.new ≡ self.old) × (self.old.capacity ≤ slab_len self.old.slots)) }
-        ensures succeeds { slab_len self.old.slots < self.old.capacity → IsOk result }
-    {
-        if self.slots.len() >= self.capacity as usize {
-            return Err((ChainFault::Full, value));
-        }
-        let key = self.slots.insert_reserved(value);
-        Ok(named(key as u32))
-    }
-
-    /// Gives up a slot that is in no list.
-    pub fn take(&mut self, slot: SlotId) -> T
-        requires held { IsHeld self.old slot }
-        requires loose { IsLoose self.old slot }
-        ensures value { get self.old.slots slot ≡ Some result }
-        ensures slots { Updates self.old.slots self.new.slots slot None }
-        ensures len { slab_len self.new.slots + 1 ≡ slab_len self.old.slots }
-        ensures lists { (self.new.bucket ≡ self.old.bucket) × (self.new.card ≡ self.old.card) × (self.new.link ≡ self.old.link) × (self.new.capacity ≡ self.old.capacity) }
-    {
-        self.slots.remove(slot.index() as usize)
-    }
-
     /// The value in a slot for writing. All else stays.
     pub fn get_mut(&mut self, slot: SlotId) -> Option<&mut T>
         ensures* writes_back { sem 𝓛 (lends_slot T.row self.entry slot result) }
         ensures value { option_copied_mut result ≡ get self.old.slots slot }
     {
-        self.slots.get_mut(slot.index() as usize)
+        if self.get(slot).is_some() {
+            Some(self.value_mut(slot))
+        } else {
+            None
+        }
+    }
+
+    fn value_mut(&mut self, slot: SlotId) -> &mut T
+        requires { IsHeld self.old slot }
+        ensures* writes_back { sem 𝓛 (lends_held T.row self.entry slot result) }
+        ensures value { get self.old.slots slot ≡ Some result.now }
+    {
+        &mut self.slots[slot.index() as usize]
     }
 
     /// The value in a slot, if it holds one.

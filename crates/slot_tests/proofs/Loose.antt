@@ -1,6 +1,6 @@
 -- Slots that are in no list.
 use Rattle.std.proofs.Common.{◌≡◌, ℕ, sym, subst}
-use Rattle.chain_links.specs.Rings.{IsMember}
+use Rattle.chain_links.specs.Lists.{IsMember}
 use Rattle.slot_chains.specs.Chains.{ChainsView, IsLoose}
 use Rattle.slot_chains.specs.declared.family.Family.TheVariants.{Bucket, Card, Link}
 

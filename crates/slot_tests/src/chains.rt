@@ -1,4 +1,4 @@
-//! Slots in lists of three families. In the beginning each list is a, b, c, and all slots are held.
+//! Slots in lists of three families. In the beginning each list is a, b, c.
 use crate::letters::{Step, lists, neighbours};
 use slot_chains::Family;
 use std::alloc::{AllocError, Global};
@@ -23,15 +23,15 @@ fn pushed_behind(rt: HostRuntime) -> Result<(), Fail> {
     Ok(())
 }
 
-/// A fourth letter is handed back.
+/// A fourth letter gets a slot of its own, and all lists stay.
 #[test]
 fn a_fourth_slot(rt: HostRuntime) -> Result<(), Fail> {
-    const STEPS: &[Step] = &[Step::Refused(b'd')];
-    assert!(rt; lists(rt.alloc(), STEPS, ["abc", "abc", "abc"])?);
+    const STEPS: &[Step] = &[Step::Hold(b'd'), Step::Push(Family::Card, 3)];
+    assert!(rt; lists(rt.alloc(), STEPS, ["abc", "abcd", "abc"])?);
     Ok(())
 }
 
-/// A slot that was given up is there for another letter, which stands in no list before it is pushed.
+/// A slot that was given up is the next letter's, which stands in no list before it is pushed.
 #[test]
 fn a_slot_is_given_up(rt: HostRuntime) -> Result<(), Fail> {
     const STEPS: &[Step] = &[
@@ -40,6 +40,7 @@ fn a_slot_is_given_up(rt: HostRuntime) -> Result<(), Fail> {
         Step::Unlink(Family::Link, 1),
         Step::Take(1),
         Step::Hold(b'd'),
+        Step::Same(1, 3),
         Step::Push(Family::Link, 3),
     ];
     assert!(rt; lists(rt.alloc(), STEPS, ["ac", "ac", "acd"])?);

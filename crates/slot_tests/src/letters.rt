@@ -1,8 +1,8 @@
 //! Slots that hold letters, in one list of each family.
 ghost use Rattle.std.specs.Prelude.{◌^◌, IsTrue};
-ghost use Rattle.chain_links.specs.Rings.{IsMember};
+ghost use Rattle.chain_links.specs.Lists.{IsMember};
 
-use slot_chains::{ChainFault, Chains, Family, SlotId};
+use slot_chains::{Chains, Family, SlotId};
 use std::alloc::{AllocError, Global};
 use std::marker::Model;
 
@@ -17,13 +17,13 @@ pub(crate) enum Step {
     /// Gives a slot up.
     Take(usize),
     Write(usize, u8),
-    /// Holds one more letter, where there is room.
+    /// Holds one more letter.
     Hold(u8),
-    /// Holds one more letter, where there is none.
-    Refused(u8),
+    /// Two letters were held in one slot, one after the other.
+    Same(usize, usize),
 }
 
-/// Chains with three slots, and one list in each family.
+/// Chains with one list in each family.
 #[derive(Drop)]
 struct Letters {
     chains: Chains<u8>,
@@ -43,21 +43,16 @@ impl Model for Letters {
 
 impl Letters {
     fn new(alloc: Global) -> Result<Letters, AllocError> {
-        Ok(Letters {
-            chains: Chains::new(alloc, 3, [1, 1, 1])?,
-        })
+        let mut chains = Chains::new(alloc);
+        chains.grow_heads(Family::Bucket, 1)?;
+        chains.grow_heads(Family::Card, 1)?;
+        chains.grow_heads(Family::Link, 1)?;
+        Ok(Letters { chains })
     }
 
-    fn hold(&mut self, letter: u8) -> Option<SlotId> {
-        self.chains.insert(letter).ok()
-    }
-
-    /// Whether a letter is refused for want of a slot, and handed back.
-    fn is_refused(&mut self, letter: u8) -> bool {
-        match self.chains.insert(letter) {
-            Ok(_) => false,
-            Err((fault, back)) => fault == ChainFault::Full && back == letter,
-        }
+    fn hold(&mut self, letter: u8) -> Result<SlotId, AllocError> {
+        self.chains.room(1)?;
+        Ok(self.chains.insert(letter))
     }
 
     fn push(&mut self, family: Family, slot: SlotId) -> bool {
@@ -180,23 +175,23 @@ impl Desk {
     }
 
     fn begin(&mut self, letter: u8) -> Result<(), AllocError> {
-        if let Some(slot) = self.letters.hold(letter) {
-            self.slots.push(slot)?;
-            for family in [Family::Bucket, Family::Card, Family::Link] {
-                let _ = self.letters.push(family, slot);
-            }
+        let slot = self.letters.hold(letter)?;
+        self.slots.push(slot)?;
+        for family in [Family::Bucket, Family::Card, Family::Link] {
+            let _ = self.letters.push(family, slot);
         }
         Ok(())
     }
 
     fn hold(&mut self, letter: u8) -> Result<bool, AllocError> {
-        match self.letters.hold(letter) {
-            Some(slot) => {
-                self.slots.push(slot)?;
-                Ok(true)
-            }
-            None => Ok(false),
-        }
+        let slot = self.letters.hold(letter)?;
+        self.slots.push(slot)?;
+        Ok(true)
+    }
+
+    fn is_same(&self, one: usize, other: usize) -> bool {
+        let one = self.slots.get(one).copied();
+        one.is_some() && one == self.slots.get(other).copied()
     }
 
     fn change(&mut self, step: Step, slot: SlotId) -> bool {
@@ -226,7 +221,7 @@ impl Desk {
             Step::PopFront(family) => Ok(self.letters.pop_front(family)),
             Step::Clear(family, count) => Ok(self.letters.clear(family, count)),
             Step::Hold(letter) => self.hold(letter),
-            Step::Refused(letter) => Ok(self.letters.is_refused(letter)),
+            Step::Same(one, other) => Ok(self.is_same(one, other)),
         }
     }
 

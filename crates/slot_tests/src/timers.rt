@@ -21,16 +21,10 @@ struct Timers {
     slots: Vec<SlotId>,
 }
 
-/// So many slots have room.
-fn capacity() -> u32 {
-    3
-}
-
 impl Timers {
     /// Slots with the letters a, b and c, none of which is armed.
     fn new(alloc: Global) -> Result<Timers, AllocError> {
-        let mut wheel = Wheel::new(alloc, capacity(), 1, 1)?;
-        wheel.room(capacity())?;
+        let wheel = Wheel::new(alloc)?;
         let mut timers = Timers {
             alloc,
             wheel,
@@ -47,9 +41,9 @@ impl Timers {
     }
 
     fn hold(&mut self, letter: u8) -> Result<(), AllocError> {
-        if let Ok(slot) = self.wheel.insert(letter) {
-            self.slots.push(slot)?;
-        }
+        self.wheel.room(1)?;
+        let slot = self.wheel.insert(letter);
+        self.slots.push(slot)?;
         Ok(())
     }
 

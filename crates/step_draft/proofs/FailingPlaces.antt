@@ -1,23 +1,24 @@
 -- The places of the requests that fail.
-use Rattle.std.proofs.Common.{◌≡◌, ◌⊎◌, inl, inr, ◌+◌, ◌-◌, ◌<◌, ◌≤◌, ℕ, zero, suc, List, [], ◌∷◌, map, ◌++◌, filter, drop, take, length, get_or, slice_get, slice_set, replicate, arith, Bool, true, false, cond, refl, sym, ap, subst, ◌∙◌, Option, Some, None, nat_eq, nat_le, nat_lt}
+use Rattle.std.proofs.Common.{◌≡◌, ◌⊎◌, inl, inr, ◌+◌, ◌<◌, ◌≤◌, ℕ, zero, suc, List, [], ◌∷◌, map, ◌++◌, filter, drop, take, length, get_or, slice_get, arith, Bool, true, false, refl, sym, ap, subst, ◌∙◌, Option, Some, None, nat_le, nat_lt}
+use Rattle.std.specs.Prelude.{◌==◌, ◌&&◌, slice_index_or}
 use Rattle.std.specs.Option.{option_map_or}
-use Rattle.std.specs.List.{Contains}
 use Rattle.std.specs.List.Sorted.{IsNonDecreasing}
-use Rattle.std.proofs.lemmas.Bool.{cases_Bool, cases_eq, cases_lt, and_parts, eqb-true}
+use Rattle.std.proofs.lemmas.Bool.{cases_Bool, cases_eq, cases_lt, and_parts}
 use Rattle.std.proofs.lemmas.Bool.Decides.{nat_tests}
 use Rattle.net_rows.specs.Network.{Network}
 use Rattle.net_rows.specs.declared.row.Link.{Link}
-use Rattle.network_law.specs.Tables.{link_ticks}
 use Rattle.network_law.specs.Traces.{ReadInput, Tick, ticks_by}
 use Rattle.node_machine.specs.Lists.{Lists, Row, row_due, row_fails, row_key, row_pending, view}
 use Rattle.node_machine.specs.Steps as steps
 use Rattle.node_machine.specs.Steps.{Progress}
-use Rattle.request_book.specs.Values.{AreBetween, AreCovered, IsUnique}
+use Rattle.request_book.specs.Values.{AreCovered, IsUnique}
+use Rattle.request_book.specs.Waits.{is_over, waits_by}
+use Rattle.node_books.specs.Values.{waits_of}
 use Rattle.node_machine.specs.Machine as machine
 use Rattle.node_machine.proofs.Readings.{failing_is}
 use Rattle.node_books.proofs.Loads.{one_row}
 use Rattle.request_book.proofs.At.{within}
-use Rattle.step_draft.specs.Failures.{AreDue, AreAddedDue, delay, fail_next, head_key, is_left, key_from, next_from}
+use Rattle.step_draft.specs.Failures.{fail_next, head_key, is_left, key_from, next_from}
 use Rattle.step_draft.proofs.Parts.{head_of_rows}
 
 -- rows of which none passes are left out
@@ -147,101 +148,38 @@ failed_last t n x i places at from d0 d past left e =
       | inr ge ↦ dropped_all p x.rows from ge
     ]
 
--- each number of ticks is one of the delays
+-- requests whose time is over at the next tick
 
-link_delay : (t : Network) (l : ℕ) → (i : ℕ) × (i < length t.links + 2) × (delay t i ≡ link_ticks t l)
-link_delay t l = elim (cases_lt l (length t.links)) [
-  | inl lt ↦ (l, omega (arith, lt), inside t.links l (cond (nat_eq l (length t.links)) t.settings.host_ticks 0) lt)
-  | inr ge ↦ (length t.links + 1, omega arith, (let a = past t.links (length t.links + 1) (omega arith) in let b = past t.links l ge in let c : nat_eq (length t.links + 1) (length t.links) ≡ false = grind (arith, nat_tests) in rw (a, b, c) refl))
-] where
-  inside : (xs : List Link) (l d : ℕ) → l < length xs → option_map_or (λ k. k.ticks) (slice_get xs l) d ≡ option_map_or (λ k. k.ticks) (slice_get xs l) 0
-  inside [] l d lt = absurd (omega arith)
-  inside (y ∷ ys) zero d lt = refl
-  inside (y ∷ ys) (suc l) d lt = inside ys l d (omega arith)
+ticks_at : (links : List Link) (l : ℕ) → slice_index_or (map (λ k. k.ticks) links) l 0 ≡ option_map_or (λ k. k.ticks) (slice_get links l) 0
+ticks_at [] l = refl
+ticks_at (k ∷ ks) zero = refl
+ticks_at (k ∷ ks) (suc l) = ticks_at ks l
 
-  past : (xs : List Link) (l : ℕ) → length xs ≤ l → slice_get xs l ≡ None
-  past [] l le = refl
-  past (y ∷ ys) zero le = absurd (omega arith)
-  past (y ∷ ys) (suc l) le = past ys l (omega arith)
+waits_are : (t : Network) (link : Option ℕ) (asked : Bool) → waits_by (waits_of t.links t.settings.host_ticks) link asked ≡ ticks_by t link asked
+waits_are t (Some l) asked = ap Some (ticks_at t.links l)
+waits_are t None true = refl
+waits_are t None false = refl
 
-ticks_delay : (t : Network) (link : Option ℕ) (asked : Bool) (d : ℕ) → ticks_by t link asked ≡ Some d → (i : ℕ) × (i < length t.links + 2) × (delay t i ≡ d)
-ticks_delay t (Some l) asked d e = (let h = link_delay t l in let is : link_ticks t l ≡ d = cc in (h.0, h.1, h.2 ∙ is))
-ticks_delay t None true d e = (length t.links, omega arith, (let a = past_links t.links (length t.links) (omega arith) in let c : nat_eq (length t.links) (length t.links) ≡ true = grind (arith, nat_tests) in let is : t.settings.host_ticks ≡ d = cc in rw (a, c) is))
-  where
-    past_links : (xs : List Link) (l : ℕ) → length xs ≤ l → slice_get xs l ≡ None
-    past_links [] l le = refl
-    past_links (y ∷ ys) zero le = absurd (omega arith)
-    past_links (y ∷ ys) (suc l) le = past_links ys l (omega arith)
-ticks_delay t None false d e = absurd (cc)
+due_is : (now count : ℕ) (ticks : Option ℕ) → option_map_or (λ d. count + d == now) ticks false ≡ row_due now count ticks
+due_is now count None = refl
+due_is now count (Some d) = refl
 
-due_ticks : (now count : ℕ) (m : Option ℕ) → row_due now count m ≡ true → (d : ℕ) × (m ≡ Some d) × (count + d ≡ now)
-due_ticks now count None t = absurd (cc)
-due_ticks now count (Some d) t = (d, refl, eqb-true (count + d) now t)
+over_at : (t : Network) (now : ℕ) (r : Row) → is_over (waits_of t.links t.settings.host_ticks) now r ≡ (row_pending r && row_due now r.count (ticks_by t r.link r.asked))
+over_at t now r = ap (λ b. row_pending r && b) (ap (λ m. option_map_or (λ d. r.count + d == now) m false) (waits_are t r.link r.asked) ∙ due_is now r.count (ticks_by t r.link r.asked))
 
--- what is due after each of the delays is all that fails
-pub all_due : (t : Network) (count n : ℕ) (rows : List Row) (places : List ℕ) → length t.links + 2 ≤ n → ((j : ℕ) → j < n → AreDue t count (delay t j) rows places) → AreCovered (row_fails t count Tick) rows places
-all_due t count n rows places le due k r e f =
-    let b = and_parts (row_pending r) (row_due (suc count) r.count (ticks_by t r.link r.asked)) f in
-    let w = due_ticks (suc count) r.count (ticks_by t r.link r.asked) b.1 in
-    let i = ticks_delay t r.link r.asked w.0 w.1 in
-    let lt = i.1 in
-    due i.0 (omega (arith, lt, le)) k r e f (ap (λ d. r.count + d) i.2 ∙ w.2)
+pub over_fails : (t : Network) (count : ℕ) (r : Row) → is_over (waits_of t.links t.settings.host_ticks) (count + 1) r ≡ row_fails t count Tick r
+over_fails t count r =
+    let next : count + 1 ≡ suc count = omega arith in
+    over_at t (count + 1) r ∙ ap (λ now. row_pending r && row_due now r.count (ticks_by t r.link r.asked)) next
 
--- rows in a span
-
-pub here_more : (t : Network) (count start place : ℕ) (rows : List Row) (before after : List ℕ) → ((x : ℕ) → Contains before x → Contains after x) → ((r : Row) → slice_get rows place ≡ Some r → row_fails t count Tick r ≡ true → Contains after place)
-    → ((k : ℕ) (r : Row) → start ≤ k → k < place → slice_get rows k ≡ Some r → row_fails t count Tick r ≡ true → Contains before k)
-    → (k : ℕ) (r : Row) → start ≤ k → k < place + 1 → slice_get rows k ≡ Some r → row_fails t count Tick r ≡ true → Contains after k
-here_more t count start place rows before after others here old k r a b e f = elim (cases_eq k place) [
-  | inl same ↦ subst (Contains after) (sym same) (here r (subst (λ n. slice_get rows n ≡ Some r) same e) f)
-  | inr other ↦ others k (old k r a (omega (arith, b, other)) e f)
-]
-
-pub due_between : (t : Network) (count ticks since start end : ℕ) (rows : List Row) (places : List ℕ) → since ≡ count + 1 - ticks → AreBetween since rows start end → ((k : ℕ) (r : Row) → start ≤ k → k < end → slice_get rows k ≡ Some r → row_fails t count Tick r ≡ true → Contains places k) → AreDue t count ticks rows places
-due_between t count ticks since start end rows places at between here k r e f is = (let b = between k r e (omega (arith, is, at)) in here k r b.0 b.1 e f)
-
-pub due_more : (t : Network) (count i : ℕ) (rows : List Row) (before after : List ℕ) → ((x : ℕ) → Contains before x → Contains after x) → AreDue t count (delay t i) rows after → ((j : ℕ) → j < i → AreDue t count (delay t j) rows before) → (j : ℕ) → j < suc i → AreDue t count (delay t j) rows after
-due_more t count i rows before after others new old j lt k r e f is = elim (cases_eq j i) [
-  | inl same ↦ new k r e f (subst (λ n. r.count + delay t n ≡ suc count) same is)
-  | inr other ↦ others k (old j (omega (arith, lt, other)) k r e f is)
-]
-
-pub due_again : (t : Network) (count i : ℕ) (rows : List Row) (places : List ℕ) → ((j : ℕ) × (j < i) × (delay t j ≡ delay t i)) → ((j : ℕ) → j < i → AreDue t count (delay t j) rows places) → (j : ℕ) → j < suc i → AreDue t count (delay t j) rows places
-due_again t count i rows places same old j lt k r e f is = elim (cases_eq j i) [
-  | inl at ↦ old same.0 same.1 k r e f (ap (λ d. r.count + d) same.2 ∙ subst (λ n. r.count + delay t n ≡ suc count) at is)
-  | inr other ↦ old j (omega (arith, lt, other)) k r e f is
-]
-
-pub due_before : (t : Network) (count i : ℕ) (rows : List Row) (places : List ℕ) → AreDue t count (delay t i) rows places → ((j : ℕ) → j < i → AreDue t count (delay t j) rows places) → (j : ℕ) → j < suc i → AreDue t count (delay t j) rows places
-due_before t count i rows places new old = due_more t count i rows places places (λ x h. h) new old
-
-pub added_same : (t : Network) (count : ℕ) (added : List Bool) (rows : List Row) (before after : List ℕ) → ((x : ℕ) → Contains before x → Contains after x) → AreAddedDue t count added rows before → AreAddedDue t count added rows after
-added_same t count added rows before after others old ticks m k r e f is = others k (old ticks m k r e f is)
-
--- where a list that was set has true, it was set there or had it before
-set_added : (added : List Bool) (at n : ℕ) → get_or (slice_set added at true) n false ≡ true → (n ≡ at) ⊎ (get_or added n false ≡ true)
-set_added [] at n h = inr h
-set_added (a ∷ added) zero zero h = inl refl
-set_added (a ∷ added) zero (suc n) h = inr h
-set_added (a ∷ added) (suc at) zero h = inr h
-set_added (a ∷ added) (suc at) (suc n) h = elim (set_added added at n h) [
-  | inl here ↦ inl (ap suc here)
-  | inr there ↦ inr there
-]
-
-pub none_added : (t : Network) (count n : ℕ) (rows : List Row) (places : List ℕ) → AreAddedDue t count (replicate n false) rows places
-none_added t count n rows places ticks m = absurd (none n ticks m)
-  where
-    none : (n ticks : ℕ) → get_or (replicate n false) ticks false ≡ true → ⊥
-    none zero ticks m = absurd cc
-    none (suc n) zero m = absurd cc
-    none (suc n) (suc ticks) m = none n ticks m
-
-pub added_more : (t : Network) (count at : ℕ) (added : List Bool) (rows : List Row) (before after : List ℕ) → ((x : ℕ) → Contains before x → Contains after x) → AreDue t count at rows after → AreAddedDue t count added rows before → AreAddedDue t count (slice_set added at true) rows after
-added_more t count at added rows before after others new old ticks m k r e f is = elim (set_added added at ticks m) [
-  | inl same ↦ new k r e f (subst (λ n. r.count + n ≡ suc count) same is)
-  | inr there ↦ others k (old ticks there k r e f is)
-]
+-- where those stand, all that fail stand
+pub over_covered : (t : Network) (links : List Link) (host : ℕ) (x y : Lists) (places : List ℕ) → links ≡ t.links → host ≡ t.settings.host_ticks → y ≡ x
+    → AreCovered (is_over (waits_of links host) (y.count + 1)) y.rows places
+    → AreCovered (row_fails t x.count Tick) x.rows places
+over_covered t links host x y places same_links same_host same covered k r e f =
+    let waits : waits_of links host ≡ waits_of t.links t.settings.host_ticks = ap (λ ls. waits_of ls host) same_links ∙ ap (λ h. waits_of t.links h) same_host in
+    let over : is_over (waits_of links host) (y.count + 1) r ≡ true = ap (λ w. is_over w (y.count + 1) r) waits ∙ (ap (λ (z : Lists). is_over (waits_of t.links t.settings.host_ticks) (z.count + 1) r) same ∙ (over_fails t x.count r ∙ f)) in
+    covered k r (ap (λ (z : Lists). slice_get z.rows k) same ∙ e) over
 
 -- the places in order
 

@@ -8,3 +8,4 @@ pub mod Few
 pub mod Takings
 pub mod LateUses
 pub mod Sends
+mod Refused

@@ -1,5 +1,5 @@
 -- Parts of the decision, as the code takes them.
-use Rattle.std.proofs.Common.{◌≡◌, ◌<◌, ◌≤◌, ◌+◌, ℕ, zero, suc, List, [], ◌∷◌, map, filter, drop, length, arith, add-one, Bool, true, false, cond, refl, sym, ap, subst, ◌∙◌, Option, Some, None, Result, Ok, Err, OnOk}
+use Rattle.std.proofs.Common.{◌≡◌, ◌⊎◌, inl, inr, ◌<◌, ◌≤◌, ◌+◌, ℕ, zero, suc, List, [], ◌∷◌, map, filter, drop, length, get_or, arith, add-one, Bool, true, false, cond, refl, sym, ap, subst, ◌∙◌, Option, Some, None, Result, Ok, Err, OnOk}
 use Rattle.std.specs.Option.{option_map}
 use Rattle.card_digits.specs.Numbers.{decimal}
 use Rattle.card_digits.specs.declared.key.Key.{Key}
@@ -13,7 +13,7 @@ use Rattle.node_machine.specs.Lists.{Lists, Row, Take, of_key, row_key, row_fail
 use Rattle.message_elements.specs.Groups.{is_04xx}
 use Rattle.message_keys.specs.Keys.{key_of, identity_of}
 use Rattle.net_rows.specs.Network.{Network}
-use Rattle.network_law.specs.Traces.{Source, ReadInput, is_at_home}
+use Rattle.network_law.specs.Traces.{Source, ReadInput, IsIn, is_at_home}
 use Rattle.network_law.specs.Decision.{sent_kind}
 use Rattle.node_machine.specs.Machine.{own_way, put_before}
 use Rattle.node_machine.specs.Lists.{view}
@@ -97,8 +97,31 @@ swap f q c q' d' w e h = on_ok w (λ g. g c ∙ ap f e) h
 found_request : (x : Lists) (k : Key) (r : Row) (m : Fields) (src : Source) → Some r ≡ of_key k x.rows → m ≡ r.message → src ≡ r.source → Path (Option Request) (Some (record { message = m; source = src; count = r.count })) (option_map request_of (of_key k x.rows))
 found_request x k r m src found e f = ap Some (request_at r m src e f) ∙ ap (option_map request_of) found
 
-pub fail_with : {A E : Type 0} (t : Network) (n : ℕ) (x : Lists) (k : Key) (r : Row) (m : Fields) (src : Source) (d d' : Progress) (w : Result A E) → Some r ≡ of_key k x.rows → m ≡ r.message → src ≡ r.source → OnOk w ((count : ℕ) → d' ≡ steps.fail t n (view t n x) (Some (record { message = m; source = src; count = count })) d) → OnOk w (d' ≡ steps.fail t n (view t n x) (option_map request_of (of_key k x.rows)) d)
+fail_with : {A E : Type 0} (t : Network) (n : ℕ) (x : Lists) (k : Key) (r : Row) (m : Fields) (src : Source) (d d' : Progress) (w : Result A E) → Some r ≡ of_key k x.rows → m ≡ r.message → src ≡ r.source → OnOk w ((count : ℕ) → d' ≡ steps.fail t n (view t n x) (Some (record { message = m; source = src; count = count })) d) → OnOk w (d' ≡ steps.fail t n (view t n x) (option_map request_of (of_key k x.rows)) d)
 fail_with t n x k r m src d d' w found e f h = swap (λ z. steps.fail t n (view t n x) z d) (λ count. Some (record { message = m; source = src; count = count })) r.count (option_map request_of (of_key k x.rows)) d' w (found_request x k r m src found e f) h
+
+-- the request at a place
+
+head_at : (p : Row → Bool) (rows : List Row) (i : ℕ) (r : Row) → i < length rows → r ≡ get_or rows i r → head_key p (drop i rows) ≡ cond (p r) (Some (row_key r)) None
+head_at p [] i r lt e = absurd (omega arith)
+head_at p (y ∷ ys) zero r lt e = ap (λ z. cond (p z) (Some (row_key z)) None) (sym e)
+head_at p (y ∷ ys) (suc i) r lt e = head_at p ys i r (omega arith) e
+
+in_at : (rows : List Row) (i : ℕ) (r : Row) → i < length rows → r ≡ get_or rows i r → IsIn r rows
+in_at [] i r lt e = absurd (omega arith)
+in_at (y ∷ ys) zero r lt e = inl (sym e)
+in_at (y ∷ ys) (suc i) r lt e = inr (in_at ys i r (omega arith) e)
+
+retold : {A E X : Type 0} (f : X → Progress) (a b : X) (d' : Progress) (w : Result A E) → a ≡ b → OnOk w (d' ≡ f b) → OnOk w (d' ≡ f a)
+retold f a b d' w e h = on_ok w (λ g. g ∙ sym (ap f e)) h
+
+pub fails_at : {A E : Type 0} (t : Network) (n : ℕ) (x : Lists) (i : ReadInput) (place : ℕ) (r : Row) (m : Fields) (src : Source) (d d' : Progress) (w : Result A E) → IsUnique x.rows → place < length x.rows → r ≡ get_or x.rows place r → row_fails t x.count i r ≡ true → m ≡ r.message → src ≡ r.source
+    → OnOk w ((count : ℕ) → d' ≡ steps.fail t n (view t n x) (Some (record { message = m; source = src; count = count })) d)
+    → OnOk w (d' ≡ fail_next t n (view t n x) (head_key (row_fails t x.count i) (drop place x.rows)) d)
+fails_at t n x i place r m src d d' w unique lt is fails em es h =
+    let found : Some r ≡ of_key (row_key r) x.rows = sym (one_row x.rows unique r (in_at x.rows place r lt is)) in
+    let head : head_key (row_fails t x.count i) (drop place x.rows) ≡ Some (row_key r) = head_at (row_fails t x.count i) x.rows place r lt is ∙ rw fails refl in
+    retold (λ k. fail_next t n (view t n x) k d) (head_key (row_fails t x.count i) (drop place x.rows)) (Some (row_key r)) d' w head (fail_with t n x (row_key r) r m src d d' w found em es h)
 
 -- all that fail
 pub failed_all : (t : Network) (n : ℕ) (x : Lists) (i : ReadInput) (place : ℕ) (d d' : Progress) → IsUnique x.rows → length x.rows ≤ place → steps.fail_all t n (view t n x) (map row_key (filter (row_fails t x.count i) (drop place x.rows))) d' ≡ steps.fail_all t n (view t n x) (map row_key (filter (row_fails t x.count i) x.rows)) d → d' ≡ steps.fail_all t n (view t n x) (machine.failing t (view t n x) i) d

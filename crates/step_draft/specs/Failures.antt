@@ -1,12 +1,10 @@
 -- What makes requests fail, as an input; and one request after another.
-use Rattle.std.specs.Prelude.{◌≡◌, ◌+◌, ℕ, suc, nat_le, nat_lt, nat_eq, List, [], ◌∷◌, drop, length, slice_get, slice_index_or, Bool, true, false, ◌&&◌, Option, Some, None, if◌then◌else◌}
-use Rattle.std.specs.Option.{option_map_or}
-use Rattle.std.specs.List.{Contains}
+use Rattle.std.specs.Prelude.{ℕ, suc, nat_le, nat_lt, List, [], ◌∷◌, drop, length, Bool, ◌&&◌, Option, Some, None, if◌then◌else◌}
 use Rattle.card_digits.specs.declared.key.Key.{Key}
 use Rattle.net_rows.specs.Network.{Network}
 use Rattle.network_law.specs.Traces.{ReadInput, LinkDown, Tick}
 use Rattle.node_machine.specs.Books.{Books}
-use Rattle.node_machine.specs.Lists.{Row, row_fails, row_key}
+use Rattle.node_machine.specs.Lists.{Row, row_key}
 use Rattle.node_machine.specs.Steps as steps
 use Rattle.node_machine.specs.Steps.{Progress}
 use Rattle.step_draft.specs.declared.timers.Cause.{Cause}
@@ -36,15 +34,3 @@ next_from from place count = if is_left from place count then suc place else fro
 -- the key of the row at a place that is left, where that passes
 abbrev pub key_from : (Row → Bool) → ℕ → ℕ → List Row → Option Key
 key_from p from place rows = if is_left from place (length rows) then head_key p (drop place rows) else None
-
--- the numbers of ticks after which requests fail: each link's, the host's, and none
-abbrev pub delay : Network → ℕ → ℕ
-delay t i = option_map_or (λ k. k.ticks) (slice_get t.links i) (if nat_eq i (length t.links) then t.settings.host_ticks else 0)
-
--- each request that fails at a tick, so many ticks after its opening, stands at one of these places
-abbrev pub AreDue : Network → ℕ → ℕ → List Row → List ℕ → Type 0
-AreDue t count ticks rows places = (k : ℕ) (r : Row) → slice_get rows k ≡ Some r → row_fails t count Tick r ≡ true → r.count + ticks ≡ suc count → Contains places k
-
--- so it is for each number of ticks that was added
-abbrev pub AreAddedDue : Network → ℕ → List Bool → List Row → List ℕ → Type 0
-AreAddedDue t count added rows places = (ticks : ℕ) → slice_index_or added ticks false ≡ true → AreDue t count ticks rows places

@@ -77,22 +77,7 @@ impl Draft {
     }
 
     /// A request that the books have fails: its reversal is kept, and the node answers by its own limits.
-    pub(crate) fn fail(&mut self, tables: &Tables, node: NodeNo, key: Key) -> Result<(), AllocError>
-        requires quiet { IsQuiet self.old.base (progress self.old).lists }
-        requires left { LeftAsMarked self.old.base.marks self.old.base.takes }
-        ensures base { self.new.base ≡ self.old.base }
-        ensures ok { OnOk result (progress self.new ≡ fail tables.now node (view tables.now node self.old.base) ((view tables.now node self.old.base).opening key) (progress self.old)) }
-    {
-        let Some(row) = self.books.of_key(key) else {
-            return Ok(());
-        };
-        let own = row.key();
-        let source = row.source();
-        let request = row.message().decode()?;
-        self.fail_request(tables, node, own, &request, source)
-    }
-
-    fn fail_request(
+    pub(crate) fn fail_request(
         &mut self,
         tables: &Tables,
         node: NodeNo,

@@ -10,7 +10,7 @@ ghost use Rattle.step_draft.specs.Failures.{cause_of, fail_next, head_key, key_f
 ghost use Rattle.request_book.specs.Values.{IsUnique};
 
 use crate::draft::Draft;
-use card_digits::{Key, LinkNo, NodeNo};
+use card_digits::{LinkNo, NodeNo};
 use net_rows::Tables;
 use network_law::{Grant, GrantPacket};
 use node_books::{StoredCase, StoredItem};
@@ -36,7 +36,7 @@ fn is_over(now: u64, count: u64, ticks: u16) -> bool
 }
 
 /// Whether a request fails.
-pub(crate) fn row_fails(tables: &Tables, count: u64, cause: &Cause, row: &Row) -> bool
+fn row_fails(tables: &Tables, count: u64, cause: &Cause, row: &Row) -> bool
     requires { count ≤ 2 ^ 62 }
     ensures { result ≡ row_fails tables.now count (cause_of cause.now) row.now }
 {
@@ -56,19 +56,6 @@ pub(crate) fn row_fails(tables: &Tables, count: u64, cause: &Cause, row: &Row) -
 }
 
 impl Draft {
-    /// The key of the request at this place, if it fails.
-    fn failing_at(&self, tables: &Tables, cause: &Cause, place: usize) -> Option<Key>
-        requires { place < length self.now.base.rows }
-        ensures { result ≡ head_key (row_fails tables.now self.now.base.count (cause_of cause.now)) (drop place self.now.base.rows) }
-    {
-        let row = &self.books.rows()[place];
-        if row_fails(tables, self.books.count(), cause, row) {
-            Some(row.key())
-        } else {
-            None
-        }
-    }
-
     /// The request at this place fails, if it does.
     #[tactic(auto, using(crate::proofs::Parts::next_quiet))]
     fn fail_at(
@@ -84,10 +71,14 @@ impl Draft {
         ensures base { self.new.base ≡ self.old.base }
         ensures ok { OnOk result (progress self.new ≡ fail_next tables.now node (view tables.now node self.old.base) (head_key (row_fails tables.now self.old.base.count (cause_of cause.now)) (drop place self.old.base.rows)) (progress self.old)) }
     {
-        match self.failing_at(tables, cause, place) {
-            Some(key) => self.fail(tables, node, key),
-            None => Ok(()),
+        let row = &self.books.rows()[place];
+        if !row_fails(tables, self.books.count(), cause, row) {
+            return Ok(());
         }
+        let key = row.key();
+        let source = row.source();
+        let request = row.message().decode()?;
+        self.fail_request(tables, node, key, &request, source)
     }
 
     /// The request at this place fails, if it does and stands among those that are left; and from where on they are left then.

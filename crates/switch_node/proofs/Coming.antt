@@ -1,22 +1,21 @@
 -- Messages as they come.
-use Rattle.std.proofs.Common.{◌≡◌, ℕ, List, [], ◌∷◌, ◌++◌, filter, not, Bool, true, false, refl, sym, ap, subst, ◌∙◌}
+use Rattle.std.proofs.Common.{◌≡◌, ℕ, Some, List, [], ◌∷◌, ◌++◌, filter, not, Bool, true, false, refl, sym, ap, subst, ◌∙◌}
 use Rattle.std.specs.Prelude.{◌&&◌, bytes_eq}
 use Rattle.message_elements.specs.declared.kind.Kind.{Kind}
 use Rattle.message_elements.specs.declared.kind.Kind.TheVariants.{K0100, K0101, K0110, K0120, K0121, K0130, K0400, K0401, K0410, K0420, K0421, K0430}
 use Rattle.message_elements.specs.declared.kind.Group.TheVariants as groups
 use Rattle.message_keys.specs.declared.keys.AdviceId.{AdviceId}
 use Rattle.advice_store.specs.Advices.{has_id}
-use Rattle.std.specs.Option.{option_and_then}
 use Rattle.card_digits.specs.declared.key.Key.{Key}
 use Rattle.iso_message.specs.Fields.{Fields}
 use Rattle.message_elements.specs.Groups.{group, is_request}
 use Rattle.message_keys.specs.Keys.{key_of, identity_of, code_of}
-use Rattle.message_elements.specs.Codes.{code_00, code_96}
+use Rattle.message_elements.specs.Codes.{code_00}
 use Rattle.net_rows.specs.Network.{Network}
 use Rattle.network_law.specs.Cards.{Bytes}
 use Rattle.network_law.specs.Traces as messages
 use Rattle.network_law.specs.Traces.{Source, ByLink, Handled, is_link}
-use Rattle.node_machine.specs.Lists.{Lists, Row, of_key, row_link, view, new_row}
+use Rattle.node_machine.specs.Lists.{Lists, Row, view, new_row}
 use Rattle.iso_message.specs.Made.{without_forwarder}
 use Rattle.node_machine.specs.Books.{Stored, Advised, Granted}
 use Rattle.node_machine.specs.Machine as machine
@@ -26,7 +25,7 @@ use Rattle.node_machine.specs.Steps as steps
 use Rattle.node_machine.specs.Steps.{Progress}
 use Rattle.node_books.specs.declared.effect.Effect.TheVariants as effects
 use Rattle.node_books.specs.Effects.{Drafted, progress, with_effect}
-use Rattle.switch_node.specs.Coming.{opened_start}
+use Rattle.switch_node.specs.Coming.{on_code_by, opened_start}
 
 empty_at : (d : Drafted) → d.effects ≡ [] → progress d ≡ record { lists = d.base; outs = [] }
 empty_at d e = ap (λ es. progress (record { base = d.base; effects = es })) e
@@ -44,14 +43,8 @@ opens d d' m src r e f is g =
     ∙ (ap (λ es. progress (record { base = d.base; effects = es ++ effects.Opened (new_row d.base.count (record { message = m; source = src })) ∷ [] })) e
     ∙ opened_one d.base m src f))
 
-pub answer_counts : (t : Network) (n : ℕ) (x : Lists) (m : Fields) (l : ℕ) (k : Key) (c : Bytes) (d : Progress) → k ≡ key_of m → c ≡ code_of m → is_link l (option_and_then row_link (of_key k x.rows)) ≡ true → steps.on_code t n (view t n x) k c code_96 ((view t n x).opening k) d ≡ steps.on_answer t n (view t n x) m (ByLink l) d
-answer_counts t n x m l k c d ek ec counts =
-    ap (λ z. steps.on_code t n (view t n x) z c code_96 ((view t n x).opening z) d) ek
-    ∙ (ap (λ z. steps.on_code t n (view t n x) (key_of m) z code_96 ((view t n x).opening (key_of m)) d) ec
-    ∙ sym (rw (ap (λ z. is_link l (option_and_then row_link (of_key z x.rows))) (sym ek) ∙ counts) refl))
-
-pub answer_strange : (t : Network) (n : ℕ) (x : Lists) (m : Fields) (l : ℕ) (k : Key) (d : Progress) → k ≡ key_of m → is_link l (option_and_then row_link (of_key k x.rows)) ≡ false → d ≡ steps.on_answer t n (view t n x) m (ByLink l) d
-answer_strange t n x m l k d ek strange = sym (rw (ap (λ z. is_link l (option_and_then row_link (of_key z x.rows))) (sym ek) ∙ strange) refl)
+pub answer_coded : (t : Network) (n : ℕ) (x : Lists) (m : Fields) (l : ℕ) (k : Key) (c : Bytes) (d : Progress) → k ≡ key_of m → c ≡ code_of m → on_code_by t n (view t n x) k c (Some l) d ≡ steps.on_answer t n (view t n x) m (ByLink l) d
+answer_coded t n x m l k c d ek ec = ap (λ z. on_code_by t n (view t n x) z c (Some l) d) ek ∙ ap (λ z. on_code_by t n (view t n x) (key_of m) z (Some l) d) ec
 
 -- entered
 

@@ -3,9 +3,10 @@ ghost use Rattle.std.specs.Prelude.{◌≡◌, true, false, OnOk};
 ghost use Rattle.iso_message.specs.Made.{made_reversal};
 ghost use Rattle.network_law.specs.Tables.{node_id};
 ghost use Rattle.node_machine.specs.Lists.{view};
-ghost use Rattle.node_machine.specs.Steps.{keep, on_code, on_host, store};
+ghost use Rattle.node_machine.specs.Steps.{keep, on_host, store};
 ghost use Rattle.node_books.specs.Effects.{progress};
 ghost use Rattle.request_book.specs.Values.{IsKeyOf};
+ghost use Rattle.switch_node.specs.Coming.{counts_by, for_duplicate, on_code_by};
 
 use crate::responses::respond;
 use card_digits::{Key, LinkNo, NodeNo};
@@ -13,6 +14,7 @@ use iso_message::Message;
 use message_elements::{Code, response_codes};
 use message_keys::code_of;
 use net_rows::Tables;
+use request_book::Row;
 use std::alloc::AllocError;
 use step_draft::{Advice, Draft};
 use step_refusals::comes_late;
@@ -37,28 +39,55 @@ fn take_back(
     draft.keep(tables, node, &reversal)
 }
 
-/// An answer with this code for a key closes its request, or takes back what is approved too late. A code that tells of a duplicate
-/// becomes another. The request is read into the room, where its response is made of it.
-#[tactic(auto, using(step_draft::proofs::Messages::response_key, step_draft::proofs::Messages::response_plain, crate::proofs::Parts::code_pending, crate::proofs::Parts::code_late, crate::proofs::Parts::code_other))]
+/// Whether a code counts for a request: the host's does, and one that came by the link on which the request was put.
+fn counts(row: &Row, by: &Option<LinkNo>) -> bool
+    ensures { result ≡ counts_by by.now row.now.link }
+{
+    match by {
+        Some(link) => match row.link() {
+            Some(own) => own == *link,
+            None => false,
+        },
+        None => true,
+    }
+}
+
+/// What a code becomes that tells of a duplicate.
+fn for_duplicate(by: &Option<LinkNo>) -> Code
+    ensures { result ≡ for_duplicate by.now }
+{
+    match by {
+        Some(_) => Code::new(response_codes::SYSTEM_MALFUNCTION),
+        None => Code::new(response_codes::DO_NOT_HONOR),
+    }
+}
+
+/// A code for a key, that came by a link or, where there is none, of the host, closes the key's request, or takes back what is approved too
+/// late. The request is read into the room, where its response is made of it.
+#[tactic(auto, using(step_draft::proofs::Messages::response_key, step_draft::proofs::Messages::response_plain, crate::proofs::Parts::none_coded, crate::proofs::Parts::strange_coded, crate::proofs::Parts::pending_coded, crate::proofs::Parts::late_coded, crate::proofs::Parts::other_coded))]
 pub(crate) fn on_code(
     draft: &mut Draft,
     tables: &Tables,
     node: NodeNo,
     key: Key,
+    by: Option<LinkNo>,
     code: Code,
-    other: Code,
     room: &mut Message,
 ) -> Result<(), AllocError>
     ensures base { draft.new.base ≡ draft.old.base }
-    ensures ok { OnOk result (progress draft.new ≡ on_code tables.now node (view tables.now node draft.old.base) key code other ((view tables.now node draft.old.base).opening key) (progress draft.old)) }
+    ensures ok { OnOk result (progress draft.new ≡ on_code_by tables.now node (view tables.now node draft.old.base) key code by (progress draft.old)) }
 {
     let Some(row) = draft.books().of_key(key) else {
         return Ok(());
     };
+    if !counts(row, &by) {
+        return Ok(());
+    }
     let own = row.key();
     if row.is_open() {
         let source = row.source();
         row.message().decode_into(room)?;
+        let other = for_duplicate(&by);
         return respond(draft, source, own, room, as_code(other, code));
     }
     let late = code.as_slice() == response_codes::APPROVED.as_slice()
@@ -83,15 +112,7 @@ pub(crate) fn on_host(
     ensures ok { OnOk result (progress draft.new ≡ on_host tables.now node (view tables.now node draft.old.base) code ((view tables.now node draft.old.base).ask_key ask) (progress draft.old)) }
 {
     match draft.books().ask(ask) {
-        Some(key) => on_code(
-            draft,
-            tables,
-            node,
-            key,
-            code,
-            Code::new(response_codes::DO_NOT_HONOR),
-            room,
-        ),
+        Some(key) => on_code(draft, tables, node, key, None, code, room),
         None => Ok(()),
     }
 }

@@ -21,14 +21,14 @@ use crate::notices::{on_advice, on_reversal};
 use crate::requests::on_request;
 use card_digits::{DateLabel, Key, LinkNo, NodeNo};
 use iso_message::Message;
-use message_elements::{Code, DecodeFault, Group, elements, response_codes};
+use message_elements::{DecodeFault, Group, elements};
 use message_keys::{AdviceId, advice_id, code_of, key_of};
 use net_rows::Tables;
 use node_books::Effect;
 use request_book::{KeptMessage, Row};
 use std::alloc::AllocError;
 use step_draft::Draft;
-use step_rules::is_approval;
+use step_rules::{card_of, is_approval};
 
 /// The key of a request.
 #[tactic(auto, using(crate::proofs::Messages::request_key))]
@@ -126,13 +126,12 @@ fn open(
     let key = request_key(m);
     let request = draft.kept(m)?;
     let kept = request.share()?;
-    let row = Row::new(key, request, source, draft.books().count());
+    let row = Row::new(key, card_of(m), request, source, draft.books().count());
     draft.change(Effect::Opened(row))?;
     Ok(Some(Opened { key, kept }))
 }
 
 /// An answer counts on the link on which its request was put.
-#[tactic(auto, using(crate::proofs::Coming::answer_counts, crate::proofs::Coming::answer_strange))]
 fn on_answer(
     draft: &mut Draft,
     tables: &Tables,
@@ -151,18 +150,7 @@ fn on_answer(
     let Some(code) = code_of(m) else {
         unreachable!();
     };
-    if !draft.books().was_put_on(key, link) {
-        return Ok(());
-    }
-    on_code(
-        draft,
-        tables,
-        node,
-        key,
-        code,
-        Code::new(response_codes::SYSTEM_MALFUNCTION),
-        m,
-    )
+    on_code(draft, tables, node, key, Some(link), code, m)
 }
 
 fn on_keyed_request(

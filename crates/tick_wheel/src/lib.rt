@@ -1,16 +1,16 @@
 //! Slots that wait for a tick, at most 4,000 ticks ahead.
 #![tactic(auto)]
 
-ghost use Rattle.std.specs.Prelude.{◌≡◌, ◌≢◌, ◌<◌, ◌+◌, ◌-◌, ◌≤◌, ◌^◌, ◌∷◌, ◌++◌, ℕ, [], IsOk, IsTrue, IsFalse, IfOk, IfErr, length, replicate, slice_get, Some, None};
+ghost use Rattle.std.specs.Prelude.{◌≡◌, ◌≢◌, ◌<◌, ◌+◌, ◌-◌, ◌≤◌, ◌^◌, ◌∷◌, ◌++◌, ℕ, [], IsOk, IsTrue, IsFalse, IfOk, OnOk, OnErr, length, replicate, slice_get, Some, None};
 ghost use Rattle.std.specs.Borrow.{sem};
 ghost use Rattle.std.specs.Option.{option_copied, option_copied_mut};
-ghost use Rattle.slab.specs.Slab.{get, slab_len, Updates, ContainsKey};
-ghost use Rattle.chain_links.specs.Rings.{LinksView, IsMember, AreApart, list_at, pushed, unlinked};
+ghost use Rattle.slab.specs.Slab.{get, slab_len, HasRoomFor, Updates, SameValues, ContainsKey};
+ghost use Rattle.chain_links.specs.Lists.{LinksView, IsMember, Distinct, AreApart, list_at, no_lists, with_heads, pushed, unlinked};
 ghost use Rattle.tick_wheel.specs.Turned.{place};
-ghost use Rattle.tick_wheel.specs.Wheel.{WheelView, IsArmed, due_after, lists_in, with_lists, armed, disarmed, advanced};
+ghost use Rattle.tick_wheel.specs.Wheel.{WheelView, IsArmed, due_after, lists_in, with_lists, with_slots, armed, disarmed, advanced};
 
 use slot_chains::Chains;
-pub use slot_chains::{ChainFault, Family, SlotId};
+pub use slot_chains::{Family, SlotId};
 use std::alloc::{AllocError, Global};
 use std::marker::Model;
 
@@ -49,18 +49,86 @@ fn bucket_of(next: u32, ahead: u32) -> u32
 }
 
 impl<T: Drop> Wheel<T> {
-    /// A wheel with room for so many slots, and so many heads of the families `Card` and `Link`.
-    pub fn new(alloc: Global, capacity: u32, cards: u32, links: u32) -> Result<Wheel<T>, AllocError>
-        ensures slots { IfOk result (λ w. (w.slots.slots ≡ []) × (w.capacity ≡ capacity)) }
+    /// A wheel without slots, and without heads of the families `Card` and `Link`. The buckets take memory.
+    pub fn new(alloc: Global) -> Result<Wheel<T>, AllocError>
+        ensures slots { IfOk result (λ w. (w.slots.slots ≡ []) × (w.slots.capacity ≡ 0)) }
         ensures waiting { IfOk result (λ w. w.waiting ≡ replicate 4096 []) }
-        ensures lists { IfOk result (λ w. (w.card.lists ≡ replicate cards []) × (w.link.lists ≡ replicate links [])) }
+        ensures lists { IfOk result (λ w. (w.card ≡ no_lists) × (w.link ≡ no_lists)) }
         ensures visits { IfOk result (λ w. w.visits ≡ 0) }
     {
+        let mut chains = Chains::new(alloc);
+        chains.grow_heads(Family::Bucket, BUCKETS)?;
         Ok(Wheel {
-            chains: Chains::new(alloc, capacity, [BUCKETS, cards, links])?,
+            chains,
             next: 0,
             visits: 0,
         })
+    }
+
+    /// Makes so many heads of `Card` or `Link`, if there are fewer. The lists of the new ones have no slots.
+    pub fn grow_heads(&mut self, family: Family, heads: u32) -> Result<(), AllocError>
+        requires { family ≢ Family.Bucket }
+        ensures ok { OnOk result (self.new ≡ with_lists self.old family (with_heads (lists_in self.old family) heads)) }
+        ensures err { OnErr result (self.new ≡ self.old) }
+        ensures succeeds { heads ≤ length (lists_in self.old family).lists → IsOk result }
+    {
+        match family {
+            Family::Bucket => Ok(()),
+            Family::Card => self.chains.grow_heads(Family::Card, heads),
+            Family::Link => self.chains.grow_heads(Family::Link, heads),
+        }
+    }
+
+    /// Makes room: the next so many calls of `insert` find a slot. Where memory is refused, none may find one.
+    pub fn room(&mut self, slots: u32) -> Result<(), AllocError>
+        ensures ok { OnOk result (HasRoomFor self.new.slots slots) }
+        ensures values { SameValues self.old.slots self.new.slots }
+        ensures len { slab_len self.new.slots ≡ slab_len self.old.slots }
+        ensures held { HasRoomFor self.new.slots 0 }
+        ensures lists { self.new ≡ with_slots self.old self.new.slots }
+        ensures succeeds { HasRoomFor self.old.slots slots → IsOk result }
+        ensures same { HasRoomFor self.old.slots slots → self.new ≡ self.old }
+    {
+        // The bucket of the next tick is one of the 4,096.
+        let _ = self.next;
+        self.chains.room(slots)
+    }
+
+    /// The number of slots that hold a value.
+    pub fn held_count(&self) -> u32
+        ensures { result ≡ slab_len self.now.slots }
+    {
+        self.chains.held_count()
+    }
+
+    /// Holds a value in a slot, which isn't armed and is in no list.
+    pub fn insert(&mut self, value: T) -> SlotId
+        requires { HasRoomFor self.old.slots 1 }
+        ensures was_free { get self.old.slots result ≡ None }
+        ensures slots { Updates self.old.slots self.new.slots result (Some value) }
+        ensures len { slab_len self.new.slots ≡ slab_len self.old.slots + 1 }
+        ensures capacity { self.new.slots.capacity ≡ self.old.slots.capacity }
+        ensures lists { self.new ≡ record self.old { slots = self.new.slots } }
+    {
+        self.chains.insert(value)
+    }
+
+    /// Gives up a slot that isn't armed and is in no list. The next value gets it.
+    pub fn take(&mut self, slot: SlotId) -> T
+        requires held { ContainsKey self.old.slots slot }
+        requires unarmed { ¬ IsArmed self.old slot }
+        requires loose { (family : Family) → ¬ IsMember (lists_in self.old family) slot }
+        ensures value { get self.old.slots slot ≡ Some result }
+        ensures slots { Updates self.old.slots self.new.slots slot None }
+        ensures len { slab_len self.new.slots + 1 ≡ slab_len self.old.slots }
+        ensures next { self.new.slots.vacant_key ≡ slot }
+        ensures room { (n : ℕ) → HasRoomFor self.old.slots n → HasRoomFor self.new.slots n }
+        ensures capacity { slab_len self.old.slots < self.old.slots.capacity → self.new.slots.capacity ≡ self.old.slots.capacity }
+        ensures lists { self.new ≡ with_slots self.old self.new.slots }
+    {
+        // The bucket of the next tick is one of the 4,096.
+        let _ = self.next;
+        self.chains.take(slot)
     }
 }
 
@@ -107,8 +175,11 @@ impl<T> Wheel<T> {
 
     /// Makes the next tick: the slots due at it are armed no more.
     pub fn advance(&mut self)
-        ensures { self.new ≡ advanced self.old }
+        ensures wheel { self.new ≡ advanced self.old }
+        ensures once { Distinct (due_after self.old 0) }
     {
+        // No slot is in a bucket twice.
+        let _ = self.chains.first(Family::Bucket, self.next);
         let due = self.chains.clear(Family::Bucket, self.next);
         self.visits = due as u64 + 1;
         self.next = bucket_of(self.next, 1);
@@ -119,39 +190,6 @@ impl<T> Wheel<T> {
         ensures { result ≡ self.now.visits }
     {
         self.visits
-    }
-
-    /// Makes room: the next so many calls of `insert` find memory.
-    pub fn room(&mut self, slots: u32) -> Result<(), AllocError>
-        ensures same { self.new ≡ self.old }
-        ensures succeeds { IsOk result }
-    {
-        self.chains.room(slots)
-    }
-
-    /// Holds a value in a new slot, which isn't armed and is in no list. It is refused only where all slots are held.
-    pub fn insert(&mut self, value: T) -> Result<SlotId, (ChainFault, T)>
-        ensures ok { IfOk result (λ slot. (get self.old.slots slot ≡ None) × Updates self.old.slots self.new.slots slot (Some value) × (slab_len self.new.slots ≡ slab_len self.old.slots + 1) × (slab_len self.old.slots < self.old.capacity)) }
-        ensures lists { self.new ≡ record self.old { slots = self.new.slots } }
-        ensures full { IfErr result (λ e. (e.0 ≡ ChainFault.Full) × (e.1 ≡ value) × (self.new ≡ self.old) × (self.old.capacity ≤ slab_len self.old.slots)) }
-        ensures succeeds { slab_len self.old.slots < self.old.capacity → IsOk result }
-    {
-        self.chains.insert(value)
-    }
-
-    /// Gives up a slot that isn't armed and is in no list.
-    pub fn take(&mut self, slot: SlotId) -> T
-        requires held { ContainsKey self.old.slots slot }
-        requires unarmed { ¬ IsArmed self.old slot }
-        requires loose { (family : Family) → ¬ IsMember (lists_in self.old family) slot }
-        ensures value { get self.old.slots slot ≡ Some result }
-        ensures slots { Updates self.old.slots self.new.slots slot None }
-        ensures len { slab_len self.new.slots + 1 ≡ slab_len self.old.slots }
-        ensures lists { self.new ≡ record self.old { slots = self.new.slots } }
-    {
-        // The bucket of the next tick is one of the 4,096.
-        let _ = self.next;
-        self.chains.take(slot)
     }
 
     /// The value in a slot, if it holds one.
@@ -194,6 +232,18 @@ impl<T> Wheel<T> {
             Family::Bucket => {}
             Family::Card => self.chains.unlink(Family::Card, slot),
             Family::Link => self.chains.unlink(Family::Link, slot),
+        }
+    }
+
+    /// The number of heads of `Card` or `Link`.
+    pub fn head_count(&self, family: Family) -> u32
+        requires { family ≢ Family.Bucket }
+        ensures { result ≡ length (lists_in self.now family).lists }
+    {
+        match family {
+            Family::Bucket => 0,
+            Family::Card => self.chains.head_count(Family::Card),
+            Family::Link => self.chains.head_count(Family::Link),
         }
     }
 

@@ -2,6 +2,8 @@
 #![tactic(auto)]
 
 #[cfg(test)]
+mod maps;
+#[cfg(test)]
 mod numbers;
 #[cfg(test)]
 mod tries;

@@ -96,7 +96,7 @@ impl Desk {
 
     fn is_due(&mut self, now: u64, count: usize) -> Result<bool, AllocError> {
         let due = self.store.due(ticks(), now)?;
-        self.store.tick(now);
+        self.store.tick();
         Ok(due.len() == count)
     }
 

@@ -14,7 +14,7 @@ enum Step {
     Due(u64, usize),
     /// How many are due after two ticks at a count.
     DueOfTwo(u64, usize),
-    Tick(u64),
+    Tick,
     /// The grant's acknowledgement comes.
     Ack(u64),
     /// How many are stored.
@@ -68,8 +68,8 @@ fn does(store: &mut AdviceStore, step: Step) -> Result<bool, AllocError> {
         Step::Lend(number, count) => lend(store, number, count),
         Step::Due(now, count) => is_due(store, ticks(), now, count),
         Step::DueOfTwo(now, count) => is_due(store, 2, now, count),
-        Step::Tick(now) => {
-            store.tick(now);
+        Step::Tick => {
+            store.tick();
             Ok(true)
         }
         Step::Ack(number) => {
@@ -102,7 +102,7 @@ fn due_at_each_third_count(rt: HostRuntime) -> Result<(), Fail> {
         Step::Due(1, 0),
         Step::Due(3, 0),
         Step::Due(4, 1),
-        Step::Tick(4),
+        Step::Tick,
         Step::Due(5, 0),
         Step::Due(7, 1),
     ];
@@ -132,7 +132,7 @@ fn acknowledged_is_not_due(rt: HostRuntime) -> Result<(), Fail> {
         Step::Ack(1),
         Step::Stored(1),
         Step::Due(3, 1),
-        Step::Tick(3),
+        Step::Tick,
         Step::Ack(1),
         Step::Due(6, 1),
     ];

@@ -1,6 +1,6 @@
 use Rattle.std.proofs.Common.{rules, arith, ◌≡◌, ◌-◌, ℕ, ap, sym, ◌∙◌, subst, Option}
 use Rattle.slab.specs.Slab.{Slab, ContainsKey}
-use Rattle.chain_links.specs.Rings.{LinksView, list_at}
+use Rattle.chain_links.specs.Lists.{LinksView, list_at}
 use Rattle.advice_book.specs.declared.item.ItemName.{ItemName}
 use Rattle.advice_book.proofs.Arming.{IsArming, arming_first, arming_among, arming_free, arming_step, arming_done}
 use Rattle.advice_book.proofs.wheel.arm_class.Goals as goal

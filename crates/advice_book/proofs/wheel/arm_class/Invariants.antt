@@ -1,5 +1,5 @@
 use Rattle.std.proofs.Common.{◌-◌, length}
-use Rattle.chain_links.specs.Rings.{list_at}
+use Rattle.chain_links.specs.Lists.{list_at}
 use Rattle.tick_wheel.specs.Wheel.{due_after}
 use Rattle.advice_book.proofs.Arming.{IsArming}
 use Rattle.advice_book.proofs.wheel.arm_class.Given as goal

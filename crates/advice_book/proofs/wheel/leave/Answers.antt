@@ -1,5 +1,5 @@
 use Rattle.std.proofs.Common.{◌≡◌, ap, ◌∙◌, map}
-use Rattle.chain_links.specs.Rings.{without, unlinked}
+use Rattle.chain_links.specs.Lists.{without, unlinked}
 use Rattle.advice_book.proofs.Loose.{left_unarmed, left_loose}
 use Rattle.advice_book.proofs.wheel.leave.Goals as goal
 

@@ -4,6 +4,7 @@ use Rattle.advice_book.specs.declared.item.Item.TheVariants as items
 use Rattle.advice_book.specs.Items.{Stored}
 use Rattle.advice_book.specs.Books.{BookView}
 use Rattle.advice_book.specs.Kept.{HeldView}
+use Rattle.advice_book.proofs.Reserving.{on_ok}
 use Rattle.advice_book.proofs.Holding.{lent_book}
 use Rattle.advice_book.proofs.book.AdviceBook.store_grant.Goals as goal
 
@@ -13,7 +14,7 @@ invariant_of-self-2 c =
     let x : Stored = record { item = items.Grant c.args.grant; count = c.reserve.new.self.count } in
     let same : c.reserve.new.self.items ≡ i.held.items = ap (λ (v : HeldView). v.items) c.reserve.ensures.same in
     let grown : c.push.new.self.items ≡ i.held.items ++ x ∷ [] = ap (λ (v : HeldView). v.items) c.push.ensures.items ∙ ap (λ (xs : List Stored). xs ++ x ∷ []) same in
-    let more = c.reserve.ensures.more in
+    let more = on_ok c.reserve.result (sym c.is_err.ensures.value ∙ c.if-is_err.false) c.reserve.ensures.more in
     let room = c.push.ensures.room in
     let B : BookView → Type 0 = λ v. c.load.result ≡ length v.items + v.reserved in
     let l = subst B (sym c.self.view_is) c.load.ensures.load in

@@ -1,6 +1,9 @@
-use Rattle.std.proofs.Common.{◌∙◌}
-use Rattle.advice_store.proofs.Derived.{found_is}
+use Rattle.std.proofs.Common.{rules, ◌≡◌, ◌∙◌}
+use Rattle.std.specs.Map.{lookup}
+use Rattle.advice_store.proofs.Derived.{derived_eq, lookup_is}
 use Rattle.advice_store.proofs.places.StoredPlaces.find.Goals as goal
 
 pub returns : goal.returns
-returns c = c.find.ensures ∙ found_is c.args.key c.args.self.now.index.places.entries
+returns c =
+    let e : c.copied.result ≡ lookup (derived_eq c.args.key) c.args.self.now.slots.entries = search rules in
+    e ∙ lookup_is c.args.key c.args.self.now.slots.entries

@@ -1,5 +1,6 @@
-use Rattle.advice_store.specs.declared.key.StoredKey.TheVariants as keys
+use Rattle.advice_store.proofs.Stores.{stored_is}
+use Rattle.std.proofs.Common.{◌∙◌}
 use Rattle.advice_store.proofs.store.AdviceStore.is_stored.Goals as goal
 
-pub has_at-requires : goal.has_at-requires
-has_at-requires c = rw (c.find.ensures, c.as_slice.ensures.value) (c.self.invariant.0.indexed (keys.Advice c.args.id))
+pub returns : goal.returns
+returns c = c.is_some.ensures ∙ stored_is c.args.id c.find.result c.args.self.now.store c.find.ensures.found c.find.ensures.none

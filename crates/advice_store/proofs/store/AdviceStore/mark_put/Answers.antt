@@ -1,38 +1,47 @@
-use Rattle.advice_store.specs.declared.key.StoredKey.TheVariants as keys
-use Rattle.std.proofs.Common.{◌≡◌, ap, ◌∙◌, sym, refl, length, map, arith, drop}
-use Rattle.std.proofs.lemmas.List.{length-map}
-use Rattle.advice_store.specs.Kept.{marked_slot, live}
-use Rattle.advice_store.proofs.Sorted.{sorted_marked}
-use Rattle.advice_store.proofs.Stores.{kept_whole, indexed_marked, live_marked}
-use Rattle.advice_store.specs.Advices.{marked_by}
+use Rattle.std.proofs.Common.{rules, ◌≡◌, List, Some, None, arith, ap, sym, ◌∙◌}
+use Rattle.node_machine.specs.Books.{Stored}
+use Rattle.advice_store.specs.Advices.{Store}
+use Rattle.advice_store.specs.Kept.{HeldView, items_of}
+use Rattle.advice_store.proofs.Items.{placed_marked}
+use Rattle.advice_store.proofs.Stores.{marked_items, unmarked_items}
 use Rattle.advice_store.proofs.store.AdviceStore.mark_put.Goals as goal
 
-pub mark_at-requires : goal.mark_at-requires
-mark_at-requires c = rw (c.find-place.ensures, c.as_mut_slice.ensures.value) (c.self.invariant.0.indexed (keys.Advice c.args.id))
-
-pub invariant_of-self : goal.invariant_of-self
-invariant_of-self c =
+pub invariant_of-self-in-Some : goal.invariant_of-self-in-Some
+invariant_of-self-in-Some c =
     let i = c.self.inside in
     let h = c.self.invariant.0 in
-    let e : c.mark_at.new.slots ≡ map (marked_slot c.args.id) i.slots.items = c.mark_at.ensures ∙ ap (map (marked_slot c.args.id)) c.as_mut_slice.ensures.value in
-    let n : length c.mark_at.new.slots ≡ length i.slots.items = ap length e ∙ length-map i.slots.items (marked_slot c.args.id) in
-    let l : i.slots.len ≡ length i.slots.items = (let o = i.slots.ok.0 in omega (arith, o)) in
-    let w = kept_whole c.mark_at.new.slots i.slots.items i.slots.len l n ∙ e in
-    rw w (
+    let r = c.self.invariant.1 in
+    let m = c.mark.ensures in
+    let order : c.mark.new.self.order ≡ i.held.order = ap (λ (v : HeldView). v.order) m.rest in
+    let len = m.len in
+    let cap = m.capacity in
+    let r1 = r.in_slots in (
       record {
-        counted = h.counted ∙ sym (ap length (live_marked c.args.id i.slots.items) ∙ length-map (live i.slots.items) (marked_by c.args.id));
-        indexed = indexed_marked c.args.id i.slots.items i.places.index.places.entries h.indexed;
-        sorted = sorted_marked c.args.id i.slots.items i.ticks i.classes.items (drop i.moved i.staged.items) h.sorted;
+        single = λ e. placed_marked i.held c.mark.new.self i.places.slots.entries c.args.id c.in-Some.slot m.slots order (h.single e);
         knows = h.knows;
       },
-      c.self.invariant.1,
+      record {
+        in_slots = omega (arith, len, cap, r1);
+        in_places = r.in_places;
+        in_known = r.in_known;
+        in_ids = r.in_ids;
+      },
     )
 
-pub returns : goal.returns
-returns c =
+pub returns-in-Some : goal.returns-in-Some
+returns-in-Some c =
     let i = c.self.inside in
-    let e : c.mark_at.new.slots ≡ map (marked_slot c.args.id) i.slots.items = c.mark_at.ensures ∙ ap (map (marked_slot c.args.id)) c.as_mut_slice.ensures.value in
-    let n : length c.mark_at.new.slots ≡ length i.slots.items = ap length e ∙ length-map i.slots.items (marked_slot c.args.id) in
-    let l : i.slots.len ≡ length i.slots.items = (let o = i.slots.ok.0 in omega (arith, o)) in
-    let w = kept_whole c.mark_at.new.slots i.slots.items i.slots.len l n ∙ e in
-    rw (w, ← c.self.view_is, live_marked c.args.id i.slots.items) refl
+    let m = c.mark.ensures in
+    let order : c.mark.new.self.order ≡ i.held.order = ap (λ (v : HeldView). v.order) m.rest in
+    let some : c.find.result ≡ Some c.in-Some.slot = search rules in
+    let items = marked_items i.held c.mark.new.self i.places.slots.entries c.args.id c.in-Some.slot (c.self.invariant.0.single c.if-self.false) (sym c.find.ensures ∙ some) m.slots order in
+    let F : HeldView → List Stored → Store = λ v xs. record { store = xs; known = i.known.items; room = i.room; ticks = v.ticks; turn = v.turn; visits = v.visits } in
+    rw (← c.self.view_is) (ap (λ (v : HeldView). F v (items_of c.mark.new.self)) m.rest ∙ ap (F i.held) items)
+
+pub returns-in_default : goal.returns-in_default
+returns-in_default c =
+    let i = c.self.inside in
+    let none : c.find.result ≡ None = search rules in
+    let items = unmarked_items i.held i.places.slots.entries c.args.id (c.self.invariant.0.single c.if-self.false) (sym c.find.ensures ∙ none) in
+    let F : HeldView → List Stored → Store = λ v xs. record { store = xs; known = i.known.items; room = i.room; ticks = v.ticks; turn = v.turn; visits = v.visits } in
+    rw (← c.self.view_is) (ap (F i.held) items)

@@ -16,23 +16,17 @@ invariant_of-self c =
     let s = c.insert.ensures.room in
     let r1 = r.in_slots in
     let r2 = r.in_known in
-    let r3 = r.in_staged in
     let r4 = r.in_places in
     let r5 = r.in_ids in
-    let r6 = r.in_moved in
     rw p.items (
       record {
-        counted = h.counted;
-        indexed = h.indexed;
-        sorted = h.sorted;
+        single = h.single;
         knows = known_more i.ids.ids.keys c.insert.new.self.ids.keys i.known.items c.args.id c.insert.ensures.keys h.knows;
       },
       record {
         in_slots = omega (arith, r1);
-        in_known = omega (arith, len, cap, r2, q, v);
-        in_staged = omega (arith, r3);
         in_places = omega (arith, r4);
+        in_known = omega (arith, len, cap, r2, q, v);
         in_ids = omega (arith, s, r5);
-        in_moved = omega (arith, r6);
       },
     )

@@ -1,71 +1,96 @@
-use Rattle.std.proofs.Common.{◌≡◌, ap, ◌∙◌, sym, refl, length, map, arith, drop, subst}
-use Rattle.std.proofs.lemmas.List.{length-map}
-use Rattle.book_index.specs.Found.{Tells, holds_at}
-use Rattle.book_index.specs.declared.index.Place.{Place}
-use Rattle.advice_store.specs.Kept.{freed, live, slot_has}
-use Rattle.advice_store.proofs.Sorted.{sorted_freed}
-use Rattle.advice_store.proofs.Stores.{kept_whole, indexed_freed, live_freed, counted_one, counted_none}
+use Rattle.std.proofs.Common.{rules, ◌≡◌, List, Some, None, arith, ap, sym, ◌∙◌}
+use Rattle.chain_links.specs.Lists.{without}
+use Rattle.node_machine.specs.Books.{Stored}
+use Rattle.advice_store.specs.Advices.{Store}
+use Rattle.advice_store.specs.Kept.{HeldView, items_of}
+use Rattle.advice_store.proofs.Items.{placed_less, placed_none}
+use Rattle.advice_store.proofs.Stores.{left_items, stay_items}
 use Rattle.advice_store.proofs.store.AdviceStore.remove.Goals as goal
 
-pub free_at-requires : goal.free_at-requires
-free_at-requires c = rw (c.find-place.ensures, c.as_mut_slice.ensures.value) (c.self.invariant.0.indexed c.args.key)
-
-pub count_after-self-inside-requires-clause-none : goal.count_after-self-inside-requires-clause-none
-count_after-self-inside-requires-clause-none c =
+pub invariant_of-self-in-Some : goal.invariant_of-self-in-Some
+invariant_of-self-in-Some c =
     let i = c.self.inside in
     let h = c.self.invariant.0 in
-    let e : c.free_at.new.slots ≡ map (freed c.args.key) i.slots.items = c.free_at.ensures ∙ ap (map (freed c.args.key)) c.as_mut_slice.ensures.value in
-    let n : length c.free_at.new.slots ≡ length i.slots.items = ap length e ∙ length-map i.slots.items (freed c.args.key) in
-    let l : i.slots.len ≡ length i.slots.items = (let o = i.slots.ok.0 in omega (arith, o)) in
-    let w = kept_whole c.free_at.new.slots i.slots.items i.slots.len l n ∙ e in
-    let P : Place → Type 0 = λ p. Tells p (holds_at (slot_has c.args.key) i.slots.items) in
-    counted_none c.args.key i.slots.items c.as_slice.result.now c.find-place.result i.len (c.as_slice.ensures.value ∙ w) h.counted (subst P (sym c.find-place.ensures) (h.indexed c.args.key))
+    let r = c.self.invariant.1 in
+    let l = c.leave.ensures in
+    let order : c.leave.new.self.order ≡ without c.in-Some.slot i.held.order = ap (λ (v : HeldView). v.order) l.rest in
+    let some : c.remove-slot.result ≡ Some c.in-Some.slot = search rules in
+    let len = l.len in
+    let more = c.remove-slot.ensures.room in
+    let r1 = r.in_slots in
+    let r2 = r.in_places in (
+      record {
+        single = λ e. placed_less i.held c.leave.new.self i.places.slots.entries c.remove-slot.new.self.slots.entries c.args.key c.in-Some.slot l.slots order c.remove-slot.ensures.slots (sym c.remove-slot.ensures.slot ∙ some) (h.single e);
+        knows = h.knows;
+      },
+      record {
+        in_slots = l.room i.room r1;
+        in_places = omega (arith, more, r2);
+        in_known = r.in_known;
+        in_ids = r.in_ids;
+      },
+    )
 
-pub count_after-self-inside-requires-clause-one : goal.count_after-self-inside-requires-clause-one
-count_after-self-inside-requires-clause-one c =
+pub returns-in-Some : goal.returns-in-Some
+returns-in-Some c =
+    let i = c.self.inside in
+    let l = c.leave.ensures in
+    let order : c.leave.new.self.order ≡ without c.in-Some.slot i.held.order = ap (λ (v : HeldView). v.order) l.rest in
+    let some : c.remove-slot.result ≡ Some c.in-Some.slot = search rules in
+    let items = left_items i.held c.leave.new.self i.places.slots.entries c.remove-slot.new.self.slots.entries c.args.key (c.self.invariant.0.single c.if-self.false) c.remove-slot.ensures.slots c.in-Some.slot (sym c.remove-slot.ensures.slot ∙ some) l.slots order in
+    let F : HeldView → List Stored → Store = λ v xs. record { store = xs; known = i.known.items; room = i.room; ticks = v.ticks; turn = v.turn; visits = v.visits } in
+    rw (← c.self.view_is) (ap (λ (v : HeldView). F v (items_of c.leave.new.self)) l.rest ∙ ap (F i.held) items)
+
+pub leave-requires : goal.leave-requires
+leave-requires c =
+    let some : c.remove-slot.result ≡ Some c.in-Some.slot = search rules in
+    let o = (c.self.invariant.0.single c.if-self.false).own c.args.key c.in-Some.slot (sym c.remove-slot.ensures.slot ∙ some) in
+    o.among
+
+pub invariant_of-self-in_default : goal.invariant_of-self-in_default
+invariant_of-self-in_default c =
     let i = c.self.inside in
     let h = c.self.invariant.0 in
-    let e : c.free_at.new.slots ≡ map (freed c.args.key) i.slots.items = c.free_at.ensures ∙ ap (map (freed c.args.key)) c.as_mut_slice.ensures.value in
-    let n : length c.free_at.new.slots ≡ length i.slots.items = ap length e ∙ length-map i.slots.items (freed c.args.key) in
-    let l : i.slots.len ≡ length i.slots.items = (let o = i.slots.ok.0 in omega (arith, o)) in
-    let w = kept_whole c.free_at.new.slots i.slots.items i.slots.len l n ∙ e in
-    let P : Place → Type 0 = λ p. Tells p (holds_at (slot_has c.args.key) i.slots.items) in
-    counted_one c.args.key i.slots.items c.as_slice.result.now c.find-place.result i.len (c.as_slice.ensures.value ∙ w) h.counted (subst P (sym c.find-place.ensures) (h.indexed c.args.key))
+    let r = c.self.invariant.1 in
+    let none : c.remove-slot.result ≡ None = search rules in
+    let more = c.remove-slot.ensures.room in
+    let r2 = r.in_places in (
+      record {
+        single = λ e. placed_none i.held i.places.slots.entries c.remove-slot.new.self.slots.entries c.args.key c.remove-slot.ensures.slots (sym c.remove-slot.ensures.slot ∙ none) (h.single e);
+        knows = h.knows;
+      },
+      record {
+        in_slots = r.in_slots;
+        in_places = omega (arith, more, r2);
+        in_known = r.in_known;
+        in_ids = r.in_ids;
+      },
+    )
+
+pub returns-in_default : goal.returns-in_default
+returns-in_default c =
+    let i = c.self.inside in
+    let none : c.remove-slot.result ≡ None = search rules in
+    let items = stay_items i.held i.held i.places.slots.entries c.remove-slot.new.self.slots.entries c.args.key (c.self.invariant.0.single c.if-self.false) c.remove-slot.ensures.slots (sym c.remove-slot.ensures.slot ∙ none) in
+    let F : HeldView → List Stored → Store = λ v xs. record { store = xs; known = i.known.items; room = i.room; ticks = v.ticks; turn = v.turn; visits = v.visits } in
+    rw (← c.self.view_is) (ap (F i.held) items)
 
 pub invariant_of-self : goal.invariant_of-self
 invariant_of-self c =
     let i = c.self.inside in
     let h = c.self.invariant.0 in
     let r = c.self.invariant.1 in
-    let e : c.free_at.new.slots ≡ map (freed c.args.key) i.slots.items = c.free_at.ensures ∙ ap (map (freed c.args.key)) c.as_mut_slice.ensures.value in
-    let n : length c.free_at.new.slots ≡ length i.slots.items = ap length e ∙ length-map i.slots.items (freed c.args.key) in
-    let l : i.slots.len ≡ length i.slots.items = (let o = i.slots.ok.0 in omega (arith, o)) in
-    let w = kept_whole c.free_at.new.slots i.slots.items i.slots.len l n ∙ e in
-    let room = c.remove.ensures.room in
-    let r1 = r.in_slots in
-    let r4 = r.in_places in
-    rw w (
+    let more = c.remove-slot.ensures.room in
+    let r2 = r.in_places in
+    let several = c.if-self.true in (
       record {
-        counted = c.count_after-self-inside.ensures ∙ ap (λ zs. length (live zs)) (c.as_slice.ensures.value ∙ w);
-        indexed = indexed_freed c.args.key i.slots.items i.places.index.places.entries c.remove.new.self.index.places.entries c.remove.ensures.found h.indexed;
-        sorted = sorted_freed c.args.key i.slots.items i.ticks i.classes.items (drop i.moved i.staged.items) h.sorted;
+        single = λ e. absurd (cc);
         knows = h.knows;
       },
       record {
-        in_slots = r.in_slots;
+        in_slots = c.leave_all.ensures.room i.room r.in_slots;
+        in_places = omega (arith, more, r2);
         in_known = r.in_known;
-        in_staged = r.in_staged;
-        in_places = omega (arith, room, r4);
         in_ids = r.in_ids;
-        in_moved = r.in_moved;
       },
     )
-
-pub returns : goal.returns
-returns c =
-    let i = c.self.inside in
-    let e : c.free_at.new.slots ≡ map (freed c.args.key) i.slots.items = c.free_at.ensures ∙ ap (map (freed c.args.key)) c.as_mut_slice.ensures.value in
-    let n : length c.free_at.new.slots ≡ length i.slots.items = ap length e ∙ length-map i.slots.items (freed c.args.key) in
-    let l : i.slots.len ≡ length i.slots.items = (let o = i.slots.ok.0 in omega (arith, o)) in
-    let w = kept_whole c.free_at.new.slots i.slots.items i.slots.len l n ∙ e in
-    rw (w, ← c.self.view_is, live_freed c.args.key i.slots.items) refl

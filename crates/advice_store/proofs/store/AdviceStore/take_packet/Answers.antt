@@ -8,6 +8,6 @@ use Rattle.advice_store.proofs.store.AdviceStore.take_packet.Goals as goal
 pub returns-in-Grant : goal.returns-in-Grant
 returns-in-Grant c =
     let v = c.args.self.now in
-    let P : GrantPacket → Type 0 = λ p. v ≡ record { store = filter (λ a. not (packet_acked p a)) v.store; known = v.known; room = v.room } in
-    let F : List Stored → Store = λ st. record { store = st; known = v.known; room = v.room } in
+    let P : GrantPacket → Type 0 = λ p. v ≡ record v { store = filter (λ a. not (packet_acked p a)) v.store } in
+    let F : List Stored → Store = λ st. record v { store = st } in
     subst P (sym c.in-Grant.is) (ap F (grant_acks_none c.in-Grant.field-0 v.store))

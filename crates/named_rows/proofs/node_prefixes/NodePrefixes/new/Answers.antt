@@ -1,14 +1,8 @@
-use Rattle.std.proofs.Common.{◌≡◌, [], ◌∷◌, length, rules, arith}
-use Rattle.std.proofs.lemmas.List.{length-append}
-use Rattle.std.specs.FinSet as set
-use Rattle.named_rows.proofs.Pushed.{none_taken, empty_added}
+use Rattle.named_rows.proofs.Masks.{counted_zeros, none_prefixed}
 use Rattle.named_rows.proofs.node_prefixes.NodePrefixes.new.Goals as goal
 
-pub loop-preserved : goal.loop-preserved
-loop-preserved c =
-    rw (c.in_ok-push.ensures.items, c.new.ensures) (record { empty = empty_added c.loop.sets.items c.loop.invariant.empty; len = omega (arith, length-append c.loop.sets.items (set.empty ∷ []), c.loop.invariant.len) })
+pub invariant_of-result : goal.invariant_of-result
+invariant_of-result c = counted_zeros c.new.result.entries c.in_ok-zeros.field-0.items c.args.nodes c.new.ensures c.in_ok-zeros.ensures
 
 pub returns : goal.returns
-returns c =
-    let all : length c.loop.sets.items ≡ c.args.nodes = search rules in
-    none_taken c.args.nodes c.loop.sets.items c.loop.invariant.empty all
+returns c = none_prefixed c.new.result.entries c.in_ok-zeros.field-0.items c.args.nodes c.new.ensures c.in_ok-zeros.ensures

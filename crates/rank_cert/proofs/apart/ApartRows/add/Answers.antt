@@ -1,10 +1,12 @@
 use Rattle.std.proofs.Common.{refl, sym, ◌∙◌}
-use Rattle.rank_cert.proofs.Pairs.{found_push, found_same, none_known}
+use Rattle.rank_cert.specs.Found.{found_of}
+use Rattle.rank_cert.proofs.Pairs.{found_or_push, nothing_found}
 use Rattle.rank_cert.proofs.apart.ApartRows.add.Goals as goal
 
 pub invariant_of-self-2 : goal.invariant_of-self-2
 invariant_of-self-2 c =
     let rows = c.self.inside.rows.items in
-    let old = c.self.inside.found.entries in
-    let are = found_same rows old c.reserve-2.new.self.entries c.self.invariant c.reserve-2.ensures.entries in
-    rw (c.push_reserved.ensures.items, c.reserve.ensures.items) (found_push rows c.reserve-2.new.self.entries c.insert.new.self.entries c.args.row _ _ refl refl refl (none_known rows old (record { node = c.args.row.node; prefix = c.args.row.prefix }) c.self.invariant (sym c.contains_key.ensures ∙ c.if-contains_key.false)) are c.insert.ensures.updates)
+    let had = c.in_ok-get_or_insert.field-0 in
+    let none = nothing_found had (sym c.is_some.ensures ∙ c.if-is_some.false) in
+    rw (c.push_reserved.ensures.items, c.reserve.ensures.items)
+    (found_or_push rows (found_of c.self.inside.found) (found_of c.get_or_insert.new.self) c.args.row _ _ had refl refl refl c.in_ok-get_or_insert.ensures.old c.self.invariant c.in_ok-get_or_insert.ensures.updates none)

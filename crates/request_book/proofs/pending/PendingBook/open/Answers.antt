@@ -1,4 +1,4 @@
-use Rattle.std.proofs.Common.{rules, ◌≡◌, Some, None, true, sym, ap, ◌∙◌, cond, length, arith, Vec, Global, Option, ℕ}
+use Rattle.std.proofs.Common.{rules, ◌≡◌, Some, None, true, ◌&&◌, ◌≢◌, ◌++◌, ◌∷◌, [], sym, ap, ◌∙◌, cond, length, arith, Vec, Global, ℕ}
 use Rattle.std.specs.Vec.{vec_len}
 use Rattle.request_book.specs.declared.row.Row.{Row}
 use Rattle.std.specs.Prelude.{is_some}
@@ -6,9 +6,12 @@ use Rattle.std.specs.Map.{lookup}
 use Rattle.card_digits.specs.declared.key.Key.{Key}
 use Rattle.node_machine.specs.Lists.{row_key}
 use Rattle.message_keys.specs.Keys.{key_eq}
-use Rattle.request_book.specs.Kept.{place_of, noted, head_of, head_after}
-use Rattle.request_book.proofs.Places.{kept_opened, opened_new, opened_there, not_there}
+use Rattle.request_slots.specs.Waits.{SlotsView, wait_at}
+use Rattle.request_book.specs.Kept.{place_of, HasWait}
+use Rattle.request_book.proofs.Places.{opened_new, opened_there, not_there}
+use Rattle.request_book.proofs.Waiting.{kept_opened, waiting_opened}
 use Rattle.request_book.proofs.pending.PendingBook.open.Goals as goal
+use Rattle.request_book.proofs.pending.PendingBook.open.Goals.{then-self, else-self}
 
 len_is : (v : Vec Row Global) → vec_len v ≡ length v.items
 len_is v = let e = v.ok.0 in omega (arith, e)
@@ -29,12 +32,22 @@ invariant_of-self-2 c =
     let i = c.self.inside in
     let at : c.len-place.result ≡ length i.rows.items = c.len-place.ensures ∙ len_is i.rows in
     let v : (k : Key) → lookup (key_eq k) c.put_new.new.places.entries ≡ cond (key_eq (row_key c.args.row) k) (Some (length i.rows.items)) (lookup (key_eq k) i.places.entries) = rw (c.key.ensures.key, at) at (c.put_new.ensures.new c.if-put_new.false) in
-    let list : c.note.new.self.list.items ≡ noted (length i.rows.items) c.args.row.link i.forwards.heads.entries i.forwards.list.items = c.note.ensures.list ∙ (ap (λ n. noted n c.link.result i.forwards.heads.entries i.forwards.list.items) at ∙ ap (λ (m : Option ℕ). noted (length i.rows.items) m i.forwards.heads.entries i.forwards.list.items) c.link.ensures) in
-    let spans = rw (c.count.ensures, at) at c.widen.ensures.spans in
-    let kept = kept_opened i.rows.items c.args.row i.places.entries c.put_new.new.places.entries i.pending i.spans.entries c.widen.new.spans.entries i.forwards.list.items i.forwards.heads.entries c.note.new.self.heads.entries c.self.invariant.0 (absent c) v spans
-    (λ l. c.note.ensures.heads l ∙ ap (λ (m : Option ℕ). head_after m (length i.forwards.list.items) l (head_of l i.forwards.heads.entries)) c.link.ensures)
-    in
-    (rw (c.push_reserved.ensures.items, c.more-self-inside.ensures, list) kept, search rules)
+    let known = c.settle-is_known.result in
+    let e = c.settle-is_known.ensures in
+    let w = c.add_place.new.self in
+    let new = c.settle-is_known.new.waiting in
+    let count : new.count ≡ i.waiting.count = e.count ∙ ap (λ (s : SlotsView). s.count) c.add_place.ensures in
+    let before : w.waits ≡ i.waiting.waits ++ None ∷ [] = ap (λ (s : SlotsView). s.waits) c.add_place.ensures in
+    let here : HasWait i.waits i.waiting.count known c.args.row (wait_at new.waits (length i.rows.items)) = rw (ap (λ (s : SlotsView). s.count) c.add_place.ensures, at) at e.here in
+    let others : (k : ℕ) → k ≢ length i.rows.items → wait_at new.waits k ≡ wait_at (i.waiting.waits ++ None ∷ []) k = λ k ne. rw (at, before) at e.others k ne in
+    let places : length new.waits ≡ length (i.waiting.waits ++ None ∷ []) = e.places ∙ ap (λ ws. length ws) before in
+    let waiting = waiting_opened i.waits i.waiting.count i.is_timely known i.rows.items c.args.row i.waiting.waits new.waits c.self.invariant.0.waiting here others places in
+    let both : c.if-self.self ≡ (i.is_timely && known) = elim c.if-self.branch [
+      | then-self w ↦ w.self-is ∙ sym (ap (λ b. b && known) w.if-self.true)
+      | else-self w ↦ w.self-is ∙ (w.if-self.false ∙ sym (ap (λ b. b && known) w.if-self.false))
+    ] in
+    let kept = kept_opened i.rows.items c.args.row i.places.entries c.put_new.new.places.entries i.pending i.waits i.waiting new i.is_timely known c.self.invariant.0 (absent c) v (rw count waiting) in
+    (rw (c.push_reserved.ensures.items, c.more-self-inside.ensures, both) kept, search rules)
 
 pub returns : goal.returns
 returns c =

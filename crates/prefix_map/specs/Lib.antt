@@ -1,0 +1,4 @@
+pub mod Values
+pub mod Walk
+pub mod Tree
+pub mod End

@@ -1,0 +1,6 @@
+mod Counting
+mod Due
+mod Heads
+mod Leaving
+mod Listing
+mod Waiting

@@ -1,0 +1,48 @@
+-- What requests wait for.
+use Rattle.std.specs.Prelude.{◌≡◌, ℕ, ◌==◌, count_by, Bool, true, List, map, Option, Some, None, false, slice_index_or, slice_set}
+use Rattle.std.specs.List.{Contains}
+use Rattle.std.specs.Option.{option_map_or, option_and_then}
+use Rattle.std.specs.Cmp.Lexicographic.{pointwise}
+use Rattle.slab.specs.Slab.{Slab, get}
+use Rattle.request_slots.specs.declared.wait.Wait.{Wait}
+
+-- for each place the wait of its request, if it waits; how many ticks went by; how many slots and ends of lists the last of them looked
+-- at; and how many more requests may begin to wait
+pub record SlotsView : Type 0 where
+  pub waits : List (Option Wait)
+  pub count : ℕ
+  pub visits : ℕ
+  pub room : ℕ
+
+-- the wait of the request at a place
+abbrev pub wait_at : List (Option Wait) → ℕ → Option Wait
+wait_at waits place = slice_index_or waits place None
+
+-- with another wait at a place, or none
+abbrev pub with_wait : List (Option Wait) → ℕ → Option Wait → List (Option Wait)
+with_wait waits place wait = slice_set waits place wait
+
+-- the waits of some slots
+abbrev pub waits_in : Slab Wait → List (Option ℕ) → List (Option Wait)
+waits_in slab slots = map (λ slot. option_and_then (get slab) slot) slots
+
+-- these are the places whose waits pass, each of them
+pub record AreWhere (passes : Wait → Bool) (waits : List (Option Wait)) (places : List ℕ) : Type 0 where
+  pub all : (place : ℕ) (w : Wait) → wait_at waits place ≡ Some w → passes w ≡ true → Contains places place
+  pub none_else : (place : ℕ) → Contains places place → (w : Wait) × (wait_at waits place ≡ Some w) × (passes w ≡ true)
+
+-- due at this count of ticks
+abbrev pub is_due : ℕ → Wait → Bool
+is_due count w = option_map_or (λ due. due == count) w.due false
+
+-- put on this link
+abbrev pub is_on : ℕ → Wait → Bool
+is_on link w = option_map_or (λ own. own == link) w.link false
+
+-- of this card
+abbrev pub is_of : List ℕ → Wait → Bool
+is_of card w = option_map_or (λ own. pointwise ◌==◌ own card) w.card false
+
+-- so many requests wait that are due at this count of ticks
+abbrev pub count_due : ℕ → List (Option Wait) → ℕ
+count_due count waits = count_by (λ w. option_map_or (is_due count) w false) waits

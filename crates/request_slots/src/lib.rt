@@ -1,0 +1,9 @@
+//! Which requests wait, and for what: each is a slot, in the bucket of its tick, in the list of its link and in the list of its card.
+#![tactic(auto)]
+
+mod cards;
+mod slots;
+mod wait;
+
+pub use slots::RequestSlots;
+pub use wait::Wait;

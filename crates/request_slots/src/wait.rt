@@ -1,0 +1,12 @@
+//! What a request waits for.
+use card_digits::{Card, LinkNo};
+
+/// The place of a request among all, and what it waits for: the link that it was put on, and the count of ticks at which it is due. Its card
+/// is there where its message has one.
+#[derive(Clone, Copy, Debug)]
+pub struct Wait {
+    pub place: usize,
+    pub card: Option<Card>,
+    pub link: Option<LinkNo>,
+    pub due: Option<u64>,
+}
