@@ -1,3 +1,1 @@
-pub mod Cursors
-pub mod Hearing
 pub mod Sessions

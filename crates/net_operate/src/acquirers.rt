@@ -1,16 +1,12 @@
 //! Sessions: who enters the lines of an acquirer, and waits for their answers.
 
-use crate::desk::{Awaiting, Desk};
-use crate::fitting::is_answer_to;
-use crate::news::Awaited;
 use crate::running::Host;
-use crate::search::Search;
-use crate::waiting::{Wanted, next_answer};
 use crate::worker::Worker;
 use iso_message::decode;
 use message_elements::elements;
 use message_keys::key_of;
 use net_threads::{LineEnd, StationFault};
+use plan_state::{Awaited, Awaiting, Search, SessionState, Wanted, is_answer_to, next_answer};
 use plan_threads::{Calls, ClockTurns};
 use run_plan::Session;
 use shared_bytes::SharedBytes;
@@ -235,25 +231,25 @@ impl<'s, 't, 'p> Acquirer<'s, 't, 'p> {
         &self,
         rt: &R,
         hosts: &[H],
-        desk: &mut Desk,
+        state: &mut SessionState,
         calls: &mut Calls,
     ) -> Progress {
         for _ in 0..LINES_OF_A_TURN {
-            let Some(line) = desk.next_line(self.session.lines.as_slice()) else {
+            let Some(line) = state.next_line(self.session.lines.as_slice()) else {
                 return Progress::Ended;
             };
-            let line = match desk.awaiting.take() {
+            let line = match state.awaiting.take() {
                 None => self.enter(rt, hosts, line, calls),
                 Some(awaiting) => Ok(self.hear_more(rt, hosts, line, awaiting, calls)),
             };
             match line {
-                Ok(Line::Ended(end)) => desk.end_line(Ok(end)),
+                Ok(Line::Ended(end)) => state.end_line(Ok(end)),
                 Ok(Line::Awaits(awaiting)) => {
                     let due = awaiting.turns.due(self.has_news(&awaiting));
-                    desk.awaiting = Some(awaiting);
+                    state.awaiting = Some(awaiting);
                     return Progress::Waits(due);
                 }
-                Err(fault) => desk.end_line(Err(fault)),
+                Err(fault) => state.end_line(Err(fault)),
             }
         }
         Progress::More

@@ -2,16 +2,11 @@
 #![tactic(auto)]
 
 mod acquirers;
-mod desk;
-mod fitting;
-mod hearing;
-mod news;
 mod pumping;
 mod running;
-mod search;
 mod serving;
+mod session_ends;
 mod sessions;
-mod waiting;
 mod worker;
 
 pub use running::{Host, OperateFault, operate};

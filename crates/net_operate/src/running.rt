@@ -3,15 +3,15 @@ ghost use Rattle.std.specs.Prelude.{IfOk};
 ghost use Rattle.std.specs.List.{AllZip};
 ghost use Rattle.net_operate.specs.Sessions.{SessionFits};
 
-use crate::fitting::fitted;
-use crate::news::Shared;
 use crate::pumping::run_pump;
 use crate::serving::run_host;
+use crate::session_ends::fitted;
 use crate::sessions::run_session;
 use crate::worker::Worker;
 use iso_message::Message;
 use message_elements::Code;
 use net_threads::{Ended, Network, Station};
+use plan_state::PlanState;
 use run_plan::{Loan, Plan, Session};
 use std::alloc::{AllocError, Global};
 use std::sync::{Mutex, Wait};
@@ -94,7 +94,7 @@ fn pump_at<'s, 't, 'p>(
     stations: &'s Vec<Mutex<Station<'t>>>,
     station: &'s Mutex<Station<'t>>,
     plan: &'s Plan<'p>,
-    shared: &'s Shared,
+    shared: &'s PlanState,
 ) -> Worker<'s, 't, 'p> {
     Worker {
         alloc,
@@ -112,7 +112,7 @@ fn session_at<'s, 't, 'p>(
     alloc: Global,
     stations: &'s Vec<Mutex<Station<'t>>>,
     plan: &'s Plan<'p>,
-    shared: &'s Shared,
+    shared: &'s PlanState,
     place: usize,
     session: &Session<'_>,
 ) -> Option<Worker<'s, 't, 'p>> {
@@ -124,7 +124,7 @@ fn session_at<'s, 't, 'p>(
 }
 
 /// Notes how many entries each station has before the threads start.
-fn begin_all<R: Wait>(rt: &R, stations: &Vec<Mutex<Station<'_>>>, shared: &Shared) {
+fn begin_all<R: Wait>(rt: &R, stations: &Vec<Mutex<Station<'_>>>, shared: &PlanState) {
     for n in 0..stations.len() {
         let station = stations[n].lock(rt);
         shared.begin_at(n, station.trace().len());
@@ -138,7 +138,7 @@ fn lend_and_run<H: Host + Sync, R: Threads + Wait + Sync>(
     network: &Network<'_, '_>,
     plan: &Plan<'_>,
     hosts: &[H],
-    shared: &Shared,
+    shared: &PlanState,
 ) -> Result<(), OperateFault> {
     if lend_all(rt, alloc, network, plan.loans.as_slice()).is_err() {
         return Err(OperateFault::Memory);
@@ -155,7 +155,7 @@ fn run_all<H: Host + Sync, R: Threads + Wait + Sync>(
     stations: &Vec<Mutex<Station<'_>>>,
     plan: &Plan<'_>,
     hosts: &[H],
-    shared: &Shared,
+    shared: &PlanState,
 ) -> Result<(), OperateFault> {
     thread::scope(
         thread::scope_env(),
@@ -224,7 +224,7 @@ pub fn operate<H: Host + Sync, R: Threads + Wait + Sync>(
     let Ok(places) = places_of(rt, alloc, stations) else {
         return Err(OperateFault::Memory);
     };
-    let Ok(shared) = Shared::new(alloc, places, hosts.len(), plan) else {
+    let Ok(shared) = PlanState::new(alloc, places, hosts.len(), plan) else {
         return Err(OperateFault::Memory);
     };
     let Ok(number) = network.add_plan(rt, shared.clock()) else {

@@ -1,24 +1,12 @@
 //! Hosts: who puts the requests of a node to its host.
 
 use crate::running::Host;
-use crate::waiting::{Ask, Cursor, next_ask};
 use crate::worker::{Locking, Turn, Worker};
 use iso_message::decode;
+use plan_state::{Ask, Cursor, Service, next_ask};
 use plan_threads::{Calls, ClockTurns};
 use std::sync::Wait;
 use switch_node::{Case, Input};
-
-/// What is kept of a host between its turns.
-#[derive(Drop)]
-pub(crate) struct Service {
-    turns: ClockTurns,
-    /// How far the trace was gone along.
-    cursor: Cursor,
-    /// A request that was found there, and was not put to the host yet.
-    next: Option<Ask>,
-    /// What the host answered, as long as the station doesn't have it. Then no request was found.
-    answer: Option<Case>,
-}
 
 impl<'s, 't, 'p> Worker<'s, 't, 'p> {
     /// Takes out what is kept of the node's host, unless somebody has it, and counts the turns that have passed.

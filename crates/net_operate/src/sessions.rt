@@ -1,9 +1,9 @@
 //! Threads of sessions: which sessions they go on with.
 
 use crate::acquirers::{Acquirer, Progress};
-use crate::news::Shared;
 use crate::running::Host;
 use crate::worker::Worker;
+use plan_state::PlanState;
 use plan_threads::Calls;
 use std::sync::Wait;
 
@@ -18,17 +18,17 @@ impl<'s, 't, 'p> Worker<'s, 't, 'p> {
         calls: &mut Calls,
     ) -> Option<usize> {
         let shared = self.shared;
-        let mut desk = shared.take_desk(rt, place)?;
+        let mut state = shared.take_session(rt, place)?;
         let progress = match Acquirer::of(self, place) {
-            Some(acquirer) => acquirer.go_on(rt, hosts, &mut desk, calls),
+            Some(acquirer) => acquirer.go_on(rt, hosts, &mut state, calls),
             None => Progress::Ended,
         };
         let due = progress.due(shared.clock().turns());
-        let ends = progress.is_end() && desk.end();
-        if desk.has_failed {
+        let ends = progress.is_end() && state.end();
+        if state.has_failed {
             shared.stop();
         }
-        let wanted = shared.put_desk(rt, place, due, desk);
+        let wanted = shared.put_session(rt, place, due, state);
         if ends {
             shared.session_ends();
         }
@@ -92,7 +92,7 @@ pub(crate) fn run_session<H: Host, R: Wait>(
     rt: &R,
     worker: Option<Worker<'_, '_, '_>>,
     hosts: &[H],
-    shared: &Shared,
+    shared: &PlanState,
 ) {
     match worker {
         Some(worker) => worker.take_part(rt, hosts),

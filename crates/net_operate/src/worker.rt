@@ -1,7 +1,7 @@
 //! What the threads of a plan have in common.
-use crate::news::Shared;
 use crate::running::Host;
 use net_threads::Station;
+use plan_state::PlanState;
 use plan_threads::Calls;
 use run_plan::Plan;
 use std::alloc::Global;
@@ -55,7 +55,7 @@ pub(crate) struct Worker<'s, 't, 'p> {
     pub stations: &'s Vec<Mutex<Station<'t>>>,
     pub station: &'s Mutex<Station<'t>>,
     pub plan: &'s Plan<'p>,
-    pub shared: &'s Shared,
+    pub shared: &'s PlanState,
 }
 
 impl<'s, 't, 'p> Worker<'s, 't, 'p> {

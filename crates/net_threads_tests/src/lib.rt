@@ -2,6 +2,8 @@
 #![tactic(auto)]
 
 #[cfg(test)]
+mod answers_told;
+#[cfg(test)]
 mod lent;
 #[cfg(test)]
 mod many_runs;

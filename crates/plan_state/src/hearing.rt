@@ -1,6 +1,6 @@
 //! Which threads of a plan have to hear of what.
 ghost use Rattle.std.specs.Prelude.{◌≡◌};
-ghost use Rattle.net_operate.specs.Hearing.{who_hears};
+ghost use Rattle.plan_state.specs.Hearing.{who_hears};
 
 use card_digits::NodeNo;
 use net_rows::Tables;
@@ -8,7 +8,7 @@ use request_book::Way;
 
 /// Who has to hear of an output.
 #[derive(Clone, Copy, Debug, PartialEq, Eq)]
-pub(crate) enum Hearer {
+pub enum Hearer {
     /// That of the node at the other end of the link.
     PumpOf(NodeNo),
     /// That of the node itself.
@@ -19,7 +19,7 @@ pub(crate) enum Hearer {
 }
 
 /// Who has to hear of an output of a node.
-pub(crate) fn who_hears(tables: &Tables, node: NodeNo, way: Way) -> Hearer
+pub fn who_hears(tables: &Tables, node: NodeNo, way: Way) -> Hearer
     ensures { result ≡ who_hears tables.now node way }
 {
     match way {

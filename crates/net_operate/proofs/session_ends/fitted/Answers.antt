@@ -1,7 +1,7 @@
 use Rattle.std.proofs.Common.{arith}
 use Rattle.net_operate.specs.Sessions.{SessionFits}
 use Rattle.net_operate.proofs.Pairs.{zip_more}
-use Rattle.net_operate.proofs.fitting.fitted.Goals as goal
+use Rattle.net_operate.proofs.session_ends.fitted.Goals as goal
 
 pub loop-session-preserved : goal.loop-session-preserved
 loop-session-preserved c =

@@ -1,6 +1,6 @@
 //! What hosts and sessions wait for in a trace.
 ghost use Rattle.std.specs.Prelude.{◌≡◌, ◌+◌, nat_lt, if◌then◌else◌};
-ghost use Rattle.net_operate.specs.Cursors.{skipped};
+ghost use Rattle.plan_state.specs.Cursors.{skipped};
 
 use request_book::Way;
 use shared_bytes::SharedBytes;
@@ -9,7 +9,7 @@ use switch_node::Entry;
 
 /// How the answer to a line begins, and what stands in it: its type, and the time and trace number of the line's own message.
 #[derive(Clone, Copy)]
-pub(crate) struct Wanted {
+pub struct Wanted {
     kind: [u8; 4],
     stamp: [u8; 16],
 }
@@ -20,7 +20,7 @@ fn contains(bytes: &[u8], stamp: &[u8; 16]) -> bool {
 
 impl Wanted {
     /// What the answer to a message of this type with these elements 7 and 11 has.
-    pub(crate) fn new(line: &[u8], time: &[u8], trace: &[u8]) -> Option<Wanted> {
+    pub fn new(line: &[u8], time: &[u8], trace: &[u8]) -> Option<Wanted> {
         if line.len() < 4 || time.len() != 10 || trace.len() != 6 {
             return None;
         }
@@ -38,21 +38,21 @@ impl Wanted {
 
 /// Where somebody who reads a trace has come: to an output of an entry, or to an entry that has not been made.
 #[derive(Clone, Copy)]
-pub(crate) struct Cursor {
+pub struct Cursor {
     pub entry: usize,
     output: usize,
 }
 
 impl Cursor {
     /// Before the first output of an entry.
-    pub(crate) fn at(entry: usize) -> Cursor
+    pub fn at(entry: usize) -> Cursor
         ensures { result ≡ record { entry = entry; output = 0 } }
     {
         Cursor { entry, output: 0 }
     }
 
     /// Moves before the first output of a later entry.
-    pub(crate) fn skip_to(&mut self, entry: usize)
+    pub fn skip_to(&mut self, entry: usize)
         ensures { self.new ≡ skipped entry self.old }
     {
         if entry > self.entry {
@@ -73,7 +73,7 @@ impl Cursor {
 
 /// A request to the host.
 #[derive(Drop)]
-pub(crate) struct Ask {
+pub struct Ask {
     pub number: u64,
     pub bytes: SharedBytes,
 }
@@ -101,7 +101,7 @@ fn answered<'e>(entry: &'e Entry, from: usize, wanted: &Wanted) -> Option<(usize
 }
 
 /// The next request to the host in a trace. The cursor moves behind it; where its bytes have too many owners, it stays before it.
-pub(crate) fn next_ask(trace: &[Entry], cursor: &mut Cursor) -> Option<Ask> {
+pub fn next_ask(trace: &[Entry], cursor: &mut Cursor) -> Option<Ask> {
     for k in cursor.entry..trace.len() {
         if let Some((place, number, bytes)) = asked(&trace[k], cursor.output) {
             let bytes = bytes.share().ok()?;
@@ -115,7 +115,7 @@ pub(crate) fn next_ask(trace: &[Entry], cursor: &mut Cursor) -> Option<Ask> {
 
 /// The next answer in a trace that may be the wanted one. The cursor moves behind it; where there is no memory for a copy, it stays before
 /// it. One entry may answer several requests.
-pub(crate) fn next_answer(
+pub fn next_answer(
     alloc: Global,
     trace: &[Entry],
     cursor: &mut Cursor,

@@ -1,37 +1,12 @@
 //! What sessions ended with, held against the plan.
-ghost use Rattle.std.specs.Prelude.{IsTrue, IfOk, IfSome, ◌≡◌, ◌<◌, length, slice_index_or, Some};
+ghost use Rattle.std.specs.Prelude.{IfOk, ◌≡◌, ◌<◌, length, slice_index_or};
 ghost use Rattle.std.specs.List.{AllZip};
-ghost use Rattle.net_operate.specs.Sessions.{key_in, IsAnswerTo, LineFits, SessionFits};
+ghost use Rattle.net_operate.specs.Sessions.{LineFits, SessionFits};
 
-use card_digits::Key;
-use iso_message::decode;
-use message_keys::key_of;
 use net_threads::{LineEnd, SessionEnd};
+use plan_state::is_answer_to;
 use run_plan::Session;
 use std::alloc::{AllocError, Global};
-
-/// The key of the message that the bytes spell. None also where memory is wanting.
-pub(crate) fn key_in(alloc: Global, bytes: &[u8]) -> Option<Key>
-    ensures { IfSome result (λ k. key_in bytes.now ≡ Some k) }
-{
-    match decode(alloc, bytes) {
-        Ok(message) => key_of(&message),
-        Err(_) => None,
-    }
-}
-
-/// Whether an answer has the key of a line: for a reversal, that of its original.
-pub(crate) fn is_answer_to(alloc: Global, line: &[u8], answer: &[u8]) -> bool
-    ensures { IsTrue result → IsAnswerTo line.now answer.now }
-{
-    let Some(key) = key_in(alloc, line) else {
-        return false;
-    };
-    match key_in(alloc, answer) {
-        Some(other) => key == other,
-        None => false,
-    }
-}
 
 fn fitted_line(alloc: Global, line: &[u8], end: LineEnd) -> LineEnd
     ensures { LineFits line.now result }

@@ -1,12 +1,12 @@
 //! Where a session has come that looks for an answer.
 ghost use Rattle.std.specs.Prelude.{◌≡◌, ◌==◌, ◌+◌, not, nat_le, if◌then◌else◌};
-ghost use Rattle.net_operate.specs.Cursors.{skipped};
+ghost use Rattle.plan_state.specs.Cursors.{skipped};
 
-use crate::waiting::Cursor;
+use crate::trace_search::Cursor;
 
 /// Where a session has come that looks for an answer.
 #[derive(Clone, Copy)]
-pub(crate) struct Search {
+pub struct Search {
     pub cursor: Cursor,
     /// How many of those that may be it were told of before.
     seen: u64,
@@ -14,7 +14,7 @@ pub(crate) struct Search {
 
 impl Search {
     /// From an entry on, where so many that may be it were told of before.
-    pub(crate) fn from(entry: usize, told: u64) -> Search
+    pub fn from(entry: usize, told: u64) -> Search
         ensures { result ≡ record { cursor = record { entry = entry; output = 0 }; seen = told } }
     {
         Search {
@@ -24,14 +24,14 @@ impl Search {
     }
 
     /// Whether others were told of than before, where there are so many by now.
-    pub(crate) fn is_told(&self, told: u64) -> bool
+    pub fn is_told(&self, told: u64) -> bool
         ensures { result ≡ not (told == self.now.seen) }
     {
         told != self.seen
     }
 
     /// Goes on to the entry of the newest, where it is the only one that was told of since: the entries before it have none.
-    pub(crate) fn skip(&mut self, told: u64, newest: usize)
+    pub fn skip(&mut self, told: u64, newest: usize)
         ensures cursor { self.new.cursor ≡ (if told == self.old.seen + 1 then skipped newest self.old.cursor else self.old.cursor) }
         ensures seen { self.new.seen ≡ self.old.seen }
     {
@@ -41,7 +41,7 @@ impl Search {
     }
 
     /// After a look at a trace with so many entries: all that were told of by now are seen once the search has come to its end.
-    pub(crate) fn end_look(&mut self, told: u64, entries: usize)
+    pub fn end_look(&mut self, told: u64, entries: usize)
         ensures cursor { self.new.cursor ≡ self.old.cursor }
         ensures seen { self.new.seen ≡ (if nat_le entries self.old.cursor.entry then told else self.old.seen) }
     {

@@ -1,8 +1,8 @@
 //! Who hears of an answer.
-use crate::news::Shared;
 use card_digits::{Key, NodeNo};
 use iso_message::decode;
 use message_keys::key_of;
+use plan_state::PlanState;
 use plan_threads::Calls;
 use run_plan::{Faults, Plan, Session};
 use std::alloc::{AllocError, Global};
@@ -45,7 +45,7 @@ fn key_of_answer(alloc: Global, bytes: &[u8]) -> Option<Key> {
 }
 
 /// How many answers each of the three sessions was told of.
-fn counts(shared: &Shared) -> [u64; 3] {
+fn counts(shared: &PlanState) -> [u64; 3] {
     let mut counts = [0; 3];
     for place in 0..3 {
         if let Some(awaited) = shared.awaited(place) {
@@ -63,7 +63,7 @@ fn who_hears_of_an_answer(rt: HostRuntime) -> Result<(), Fail> {
     let mut places: Vec<usize> = Vec::new(alloc);
     places.push(0)?;
     places.push(1)?;
-    let shared = Shared::new(alloc, places, 2, &plan)?;
+    let shared = PlanState::new(alloc, places, 2, &plan)?;
     let mut calls = Calls::none(alloc);
     let key = key_of_answer(alloc, ANSWER);
     if let (Some(first), Some(key)) = (shared.awaited(0), key) {

@@ -1,14 +1,15 @@
 //! How far a session has come.
+ghost use Rattle.std.specs.Prelude.{◌≡◌, ◌++◌, ◌∷◌, [], true, false, None, not, IfOk, OnErr, IsTrue};
 
 use crate::search::Search;
-use crate::waiting::Wanted;
+use crate::trace_search::Wanted;
 use net_threads::LineEnd;
 use plan_threads::ClockTurns;
 use std::alloc::{AllocError, Global};
 
 /// The answer to a line that was entered.
 #[derive(Drop)]
-pub(crate) struct Awaiting {
+pub struct Awaiting {
     pub wanted: Wanted,
     /// The session is told of answers that have the line's key, where that has one.
     pub is_told: bool,
@@ -19,7 +20,7 @@ pub(crate) struct Awaiting {
 
 /// How far a session has come, for whoever goes on with it.
 #[derive(Drop)]
-pub(crate) struct Desk {
+pub struct SessionState {
     /// What its lines ended with, each behind the one before.
     ends: Vec<LineEnd>,
     /// The answer to the line behind these, once that was entered.
@@ -30,10 +31,15 @@ pub(crate) struct Desk {
     is_over: bool,
 }
 
-impl Desk {
+impl SessionState {
     /// Before the first line.
-    pub(crate) fn new(alloc: Global) -> Desk {
-        Desk {
+    pub fn new(alloc: Global) -> SessionState
+        ensures ends { result.ends.items ≡ [] }
+        ensures awaiting { result.awaiting ≡ None }
+        ensures failed { result.has_failed ≡ false }
+        ensures over { result.is_over ≡ false }
+    {
+        SessionState {
             ends: Vec::new(alloc),
             awaiting: None,
             has_failed: false,
@@ -42,7 +48,9 @@ impl Desk {
     }
 
     /// The line that comes next, or whose answer is awaited: none where all have ended, or there was no memory.
-    pub(crate) fn next_line<'l>(&self, lines: &[&'l [u8]]) -> Option<&'l [u8]> {
+    pub fn next_line<'l>(&self, lines: &[&'l [u8]]) -> Option<&'l [u8]>
+        ensures { IsTrue self.now.has_failed → result ≡ None }
+    {
         if self.has_failed {
             return None;
         }
@@ -50,8 +58,13 @@ impl Desk {
         Some(*line)
     }
 
-    /// The line has ended so.
-    pub(crate) fn end_line(&mut self, end: Result<LineEnd, AllocError>) {
+    /// The line has ended so. Where memory was or is wanting for it, the session fails, and ends with this line.
+    pub fn end_line(&mut self, end: Result<LineEnd, AllocError>)
+        ensures ended { IfOk end (λ e. self.new.has_failed ≡ self.old.has_failed → self.old.has_failed ≡ false → self.new.ends.items ≡ self.old.ends.items ++ e ∷ []) }
+        ensures failed { OnErr end (self.new.has_failed ≡ true) }
+        ensures awaiting { self.new.awaiting ≡ self.old.awaiting }
+        ensures over { self.new.is_over ≡ self.old.is_over }
+    {
         match end {
             Ok(end) => {
                 if self.ends.push(end).is_err() {
@@ -63,15 +76,21 @@ impl Desk {
     }
 
     /// The session has ended; says whether nobody has said so before.
-    pub(crate) fn end(&mut self) -> bool {
+    pub fn end(&mut self) -> bool
+        ensures first { result ≡ not self.old.is_over }
+        ensures over { self.new.is_over ≡ true }
+    {
         let is_first = !self.is_over;
         self.is_over = true;
         is_first
     }
 
-    /// What the lines ended with.
-    pub(crate) fn into_ends(self) -> Result<Vec<LineEnd>, AllocError> {
-        let Desk {
+    /// What the lines ended with, unless there was no memory to go on.
+    pub fn into_ends(self) -> Result<Vec<LineEnd>, AllocError>
+        ensures ends { IfOk result (λ v. v.items ≡ self.ends.items) }
+        ensures failed { OnErr result (self.has_failed ≡ true) }
+    {
+        let SessionState {
             ends,
             awaiting: _,
             has_failed,

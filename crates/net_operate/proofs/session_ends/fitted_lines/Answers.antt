@@ -1,7 +1,7 @@
 use Rattle.std.proofs.Common.{arith, subst}
 use Rattle.net_operate.specs.Sessions.{LineFits}
 use Rattle.net_operate.proofs.Pairs.{zip_at}
-use Rattle.net_operate.proofs.fitting.fitted_lines.Goals as goal
+use Rattle.net_operate.proofs.session_ends.fitted_lines.Goals as goal
 
 pub loop-k-preserved : goal.loop-k-preserved
 loop-k-preserved c =

@@ -3,8 +3,8 @@ use Rattle.std.specs.Prelude.{ℕ}
 use Rattle.net_rows.specs.Network.{Network, other_end}
 use Rattle.request_book.specs.declared.output.Way.{Way}
 use Rattle.request_book.specs.declared.output.Way.TheVariants.{Put, Answer, Ask, Post}
-use Rattle.net_operate.specs.declared.hearing.Hearer.{Hearer}
-use Rattle.net_operate.specs.declared.hearing.Hearer.TheVariants.{PumpOf, Host, Sessions, Nobody}
+use Rattle.plan_state.specs.declared.hearing.Hearer.{Hearer}
+use Rattle.plan_state.specs.declared.hearing.Hearer.TheVariants.{PumpOf, Host, Sessions, Nobody}
 
 -- the pump at the other end of a link, the host that is asked, or the sessions of which one is answered
 abbrev pub who_hears : Network → ℕ → Way → Hearer
