@@ -1,5 +1,5 @@
 //! Whole inputs, and the JSON object of a card that is printed for them.
-use crate::tests::{RANKS, TABLES, WIDE_RANKS, WIDE_TABLES};
+use crate::networks::{RANKS, TABLES, WIDE_RANKS, WIDE_TABLES};
 use card_digits::{Card, Counted};
 use card_json::run_card_json;
 use std::alloc::{AllocError, Global};

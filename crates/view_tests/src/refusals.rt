@@ -1,5 +1,6 @@
 //! All refusals of whole inputs, each with its row.
-use crate::tests::{RANKS, TABLES, WIDE_RANKS, WIDE_TABLES, prints};
+use crate::cards::prints;
+use crate::networks::{RANKS, TABLES, WIDE_RANKS, WIDE_TABLES};
 use card_view::{Asked, Format};
 use std::test::Fail;
 

@@ -1,39 +1,8 @@
-//! Whole inputs and what is printed for them.
+//! Whole inputs, and the tables of traces that are printed for them.
+use crate::networks::{RANKS, TABLES};
 use card_digits::Counted;
 use std::alloc::{AllocError, Global};
 use trace_view::run_trace;
-
-pub(crate) const TABLES: &str = r#"[network]
-currency = "840"
-date = "0314"
-host_ticks = 100
-advice_ticks = 50
-[[node]]
-name = "A"
-id = "1001"
-[[node]]
-name = "H"
-id = "1002"
-[[link]]
-name = "AH"
-ends = ["A", "H"]
-ticks = 3
-[[acquirer]]
-id = "400001"
-node = "A"
-[[issuer]]
-name = "I"
-prefix = "4"
-home = "H"
-named = []
-ceiling = 0
-[[route]]
-node = "A"
-prefix = "4"
-links = ["AH"]
-"#;
-
-pub(crate) const RANKS: &str = "RANKS 1\nA 4 1\nH 4 0\nEND\n";
 
 /// The table's first row.
 pub(crate) const HEADING: &str =

@@ -1,5 +1,6 @@
 //! Traces that `replay` printed, and their tables.
-use crate::inputs::{RANKS, TABLES, shows, shows_with};
+use crate::networks::{RANKS, TABLES};
+use crate::traces::{shows, shows_with};
 use std::test::Fail;
 
 /// A request goes to the host, and its answer comes back twice.

@@ -1,5 +1,6 @@
 //! Inputs that have a fault, and tables that are refused.
-use crate::inputs::{RANKS, TABLES, faults, prints};
+use crate::networks::{RANKS, TABLES};
+use crate::traces::{faults, prints};
 use std::test::Fail;
 
 #[test]

@@ -1,5 +1,0 @@
-//! Tests of pictures of whole inputs.
-#![tactic(auto)]
-
-#[cfg(test)]
-mod tests;
