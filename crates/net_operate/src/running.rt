@@ -48,10 +48,11 @@ fn lend<R: Wait>(
     network: &Network<'_, '_>,
     loan: &Loan,
 ) -> Result<(), AllocError> {
-    let case = Case::lend(alloc, loan.order)?;
-    if loan.lender.place() < network.stations().len() {
-        let _ = network.step_at(rt, loan.lender, Input::new(case));
+    if loan.lender.place() >= network.stations().len() {
+        return Ok(());
     }
+    let input = Input::new(Case::lend(alloc, loan.order)?);
+    let _ = network.step_at(rt, loan.lender, input);
     Ok(())
 }
 
