@@ -10,11 +10,11 @@ use std::test::*;
 fn head_of_a_message(rt: HostRuntime) -> Result<(), Fail> {
     let (kind, rest) = read_kind(b"0110722")?;
     assert!(rt; kind == Kind::K0110);
-    assert!(rt; rest == b"722");
+    assert!(rt; rest == b"722".as_slice());
     assert!(rt; read_kind(b"0111722").err() == Some(DecodeFault::BadType));
     let (map, rest) = bit_map(b"7220000102008000840")?;
     assert!(rt; map == 0x7220_0001_0200_8000);
-    assert!(rt; rest == b"840");
+    assert!(rt; rest == b"840".as_slice());
     assert!(rt; bit_map(b"722000010200800").err() == Some(DecodeFault::Short));
     assert!(rt; map_digits(map) == *b"7220000102008000");
     Ok(())
@@ -35,7 +35,7 @@ fn response_of_a_request(rt: HostRuntime) -> Result<(), Fail> {
     assert!(rt; push_response(M, Code::new(response_codes::APPROVED), &mut out)?);
     let response =
         b">0110722000010200800016411111111111111100000000000000100003140915300000010640000100840";
-    assert!(rt; out.as_slice() == response);
+    assert!(rt; out.as_slice() == response.as_slice());
     Ok(())
 }
 
@@ -66,6 +66,6 @@ fn element_above_64(rt: HostRuntime) -> Result<(), Fail> {
     let bytes = encode(rt.alloc(), &message)?;
     let mut out = Vec::from_slice(rt.alloc(), b">")?;
     assert!(rt; !push_response(&bytes, Code::new(response_codes::APPROVED), &mut out)?);
-    assert!(rt; out.as_slice() == b">");
+    assert!(rt; out.as_slice() == b">".as_slice());
     Ok(())
 }
