@@ -60,7 +60,11 @@ fn are(names: &[ItemName], wanted: &[Name]) -> bool {
     true
 }
 
-fn reserve_and_store(store: &mut AdviceStore, count: u32, advice: Advice) -> Result<(), StoreFault> {
+fn reserve_and_store(
+    store: &mut AdviceStore,
+    count: u32,
+    advice: Advice,
+) -> Result<(), StoreFault> {
     store.reserve(count)?;
     if count == 0 {
         return Ok(());
