@@ -13,14 +13,19 @@ fn job_of_line(alloc: Global, line: &str) -> Result<Option<Job>, AllocError> {
     job_of(alloc, words.as_slice())
 }
 
+/// Whether the words of a line name this job, or none.
+fn names(alloc: Global, line: &str, job: &Option<Job>) -> Result<bool, AllocError> {
+    Ok(job_of_line(alloc, line)? == *job)
+}
+
 /// The first of some lines that names another job, or one where it should name none.
 fn first_wrong(
     alloc: Global,
-    job: Option<Job>,
+    job: &Option<Job>,
     lines: &'static str,
 ) -> Result<Option<&'static str>, AllocError> {
     for line in lines.lines() {
-        if job_of_line(alloc, line)? != job {
+        if !names(alloc, line, job)? {
             return Ok(Some(line));
         }
     }
@@ -32,7 +37,7 @@ fn a_card(rt: HostRuntime) -> Result<(), Fail> {
     let card = Card::read(b"4111111111111111")?;
     let text = Some(Job::Card(card, Format::Text));
     assert_eq!(rt;
-        first_wrong(rt.alloc(), text, "card 4111111111111111")?,
+        first_wrong(rt.alloc(), &text, "card 4111111111111111")?,
         None
     );
     Ok(())
@@ -46,7 +51,7 @@ card --json 4111111111111111";
 fn a_card_as_json(rt: HostRuntime) -> Result<(), Fail> {
     let card = Card::read(b"4111111111111111")?;
     let json = Some(Job::Card(card, Format::Json));
-    assert_eq!(rt; first_wrong(rt.alloc(), json, JSON)?, None);
+    assert_eq!(rt; first_wrong(rt.alloc(), &json, JSON)?, None);
     Ok(())
 }
 
@@ -54,9 +59,9 @@ fn a_card_as_json(rt: HostRuntime) -> Result<(), Fail> {
 fn refusals(rt: HostRuntime) -> Result<(), Fail> {
     let alloc = rt.alloc();
     let text = Some(Job::Refusals(Format::Text));
-    assert_eq!(rt; first_wrong(alloc, text, "refusals")?, None);
+    assert_eq!(rt; first_wrong(alloc, &text, "refusals")?, None);
     let json = Some(Job::Refusals(Format::Json));
-    assert_eq!(rt; first_wrong(alloc, json, "refusals --json")?, None);
+    assert_eq!(rt; first_wrong(alloc, &json, "refusals --json")?, None);
     Ok(())
 }
 
@@ -72,9 +77,9 @@ picture --dot --prefix 411";
 fn a_picture(rt: HostRuntime) -> Result<(), Fail> {
     let alloc = rt.alloc();
     let svg = Some(Job::Picture(None, Drawing::Svg));
-    assert_eq!(rt; first_wrong(alloc, svg, "picture")?, None);
+    assert_eq!(rt; first_wrong(alloc, &svg, "picture")?, None);
     let dot = Some(Job::Picture(None, Drawing::Dot));
-    assert_eq!(rt; first_wrong(alloc, dot, "picture --dot")?, None);
+    assert_eq!(rt; first_wrong(alloc, &dot, "picture --dot")?, None);
     Ok(())
 }
 
@@ -83,15 +88,15 @@ fn a_picture_of_a_class(rt: HostRuntime) -> Result<(), Fail> {
     let alloc = rt.alloc();
     let class = Some(Prefix::read(b"411")?);
     let svg = Some(Job::Picture(class, Drawing::Svg));
-    assert_eq!(rt; first_wrong(alloc, svg, PICTURE_OF_A_CLASS)?, None);
+    assert_eq!(rt; first_wrong(alloc, &svg, PICTURE_OF_A_CLASS)?, None);
     let dot = Some(Job::Picture(class, Drawing::Dot));
-    assert_eq!(rt; first_wrong(alloc, dot, GRAPH_OF_A_CLASS)?, None);
+    assert_eq!(rt; first_wrong(alloc, &dot, GRAPH_OF_A_CLASS)?, None);
     Ok(())
 }
 
 #[test]
 fn a_trace(rt: HostRuntime) -> Result<(), Fail> {
-    assert_eq!(rt; first_wrong(rt.alloc(), Some(Job::Trace), "trace")?, None);
+    assert_eq!(rt; first_wrong(rt.alloc(), &Some(Job::Trace), "trace")?, None);
     Ok(())
 }
 
@@ -119,7 +124,7 @@ help
 
 #[test]
 fn other_words(rt: HostRuntime) -> Result<(), Fail> {
-    assert_eq!(rt; first_wrong(rt.alloc(), None, OTHER_WORDS)?, None);
+    assert_eq!(rt; first_wrong(rt.alloc(), &None, OTHER_WORDS)?, None);
     Ok(())
 }
 
