@@ -1,11 +1,3 @@
-mod Derived
-mod Loose
+mod Nodes
 mod Stores
-mod Looking
-mod Standing
-mod Items
-mod Due
-mod Arming
-mod Lists
-mod Turning
-mod Ids
+mod Identities
