@@ -91,6 +91,10 @@ pub fn begins_class(prefix: &Prefix, class: &Prefix) -> bool
     class.digits().starts_with(prefix.digits())
 }
 
+ghost use Rattle.std.specs.Prelude.{◌%◌, ◌==◌, true, if◌then◌else◌};
+ghost use Rattle.std.specs.Char.{is_ascii_digit};
+ghost use Rattle.std.specs.List.{list_all};
+ghost use Rattle.card_digits.specs.Digits.{digits_of};
 ghost use Rattle.card_digits.specs.Numbers.{doubled, passes_luhn};
 
 /// Whether the check digit is right by the Luhn formula (ISO/IEC 7812-1, annex B).
@@ -100,20 +104,41 @@ pub fn luhn(card: &Card) -> bool
     luhn_sum(card.digits()) % 10 == 0
 }
 
+/// The same of a card number that stands in ASCII digits.
+pub fn luhn_text(text: &[u8]) -> bool
+    requires digits { list_all is_ascii_digit text.now ≡ true }
+    requires few { length text.now ≤ 19 }
+    ensures { result ≡ passes_luhn (digits_of text.now) }
+{
+    let mut sum = 0u32;
+    for (i, byte) in text.iter().enumerate() {
+        sum += worth(*byte - b'0', text.len() - 1 - i);
+    }
+    sum % 10 == 0
+}
+
 fn luhn_sum(digits: &[u8]) -> u32
     requires { length digits.now ≤ 19 }
     ensures { result ≡ luhn_sum digits.now }
 {
     let mut sum = 0u32;
     for (i, digit) in digits.iter().enumerate() {
-        let from_right = digits.len() - 1 - i;
-        if from_right % 2 == 1 {
-            sum += doubled(*digit);
-        } else {
-            sum += *digit as u32;
-        }
+        sum += worth(*digit, digits.len() - 1 - i);
     }
     sum
+}
+
+/// What a digit counts for, with so many digits to the right of it.
+#[inline(always)]
+fn worth(digit: u8, to_right: usize) -> u32
+    ensures value { result ≡ (if to_right % 2 == 1 then doubled digit else digit) }
+    ensures small { result ≤ 255 }
+{
+    if to_right % 2 == 1 {
+        doubled(digit)
+    } else {
+        digit as u32
+    }
 }
 
 ghost use Rattle.card_digits.specs.Numbers.{luhn_sum};

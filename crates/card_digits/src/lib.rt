@@ -16,7 +16,7 @@ mod stream;
 mod words;
 
 pub use amount::{Amount, LinkNo, MOST_AMOUNT, MOST_LINKS, MOST_NODES, NodeNo, decimal};
-pub use card::{Card, DigitFault, begins, begins_class, luhn};
+pub use card::{Card, DigitFault, begins, begins_class, luhn, luhn_text};
 pub use cutting::cut;
 pub use date_label::DateLabel;
 pub use key::{Key, pad11};

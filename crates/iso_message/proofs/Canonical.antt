@@ -70,7 +70,7 @@ be_bytes n (suc (suc (suc (suc (suc (suc zero)))))) = omega arith
 be_bytes n (suc (suc (suc (suc (suc (suc (suc zero))))))) = omega arith
 be_bytes n (suc (suc (suc (suc (suc (suc (suc (suc i)))))))) = omega arith
 
-map_again : (n : ℕ) → n < 2 ^ 64 → IsMap n (map_text n)
+pub map_again : (n : ℕ) → n < 2 ^ 64 → IsMap n (map_text n)
 map_again n h = (to_be_bytes w64 n, hex_again (to_be_bytes w64 n) refl (be_bytes n), from_be_bytes-to_be_bytes_8 n h)
 
 maps_again : (low high : List ℕ) → Ascends 1 64 low → Ascends 64 128 high → (first : ℕ) × (second : ℕ) × AreMaps first second (maps_text low high) × (announced first second ≡ low ++ high)
@@ -129,7 +129,7 @@ pieces_again : (es : List (ℕ × List ℕ)) → AreGood es → ArePieces es (pi
 pieces_again [] g = refl
 pieces_again (e ∷ es) g = (piece (form_of e.0) e.1, pieces es, flat_map-cons (λ x. piece (form_of x.0) x.1) e es, piece_again (form_of e.0) e.1 g.0, pieces_again es g.1)
 
-kind_again : (k : Kind) → IsKind (kind_text k) k
+pub kind_again : (k : Kind) → IsKind (kind_text k) k
 kind_again kinds.K0100 = (refl, refl)
 kind_again kinds.K0101 = (refl, refl)
 kind_again kinds.K0110 = (refl, refl)

@@ -15,7 +15,7 @@ use Rattle.iso_message.specs.Spelling.{Ascends, IsGood, AreGood, IsMessage}
 use Rattle.iso_message.proofs.Canonical.{weaker}
 use Rattle.iso_message.proofs.Steps.{marks_down}
 
-marks_ascend : (last k map : ℕ) → k ≤ last → Ascends (last - k) last (marks last k map)
+pub marks_ascend : (last k map : ℕ) → k ≤ last → Ascends (last - k) last (marks last k map)
 unfolding marks
 marks_ascend last zero map h = tt
 marks_ascend last (suc k) map h =

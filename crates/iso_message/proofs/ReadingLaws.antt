@@ -88,7 +88,7 @@ typed_ok : (o : Option Kind) (rest : List ℕ) (y : Kind × List ℕ) → typed 
 typed_ok None rest y e = absurd cc
 typed_ok (Some k) rest y e = let s = done (k, rest) y e in (ap (λ (p : Kind × List ℕ). Some p.0) s, ap (λ (p : Kind × List ℕ). p.1) s)
 
-kind_takes : (bytes : List ℕ) (y : Kind × List ℕ) → kind_at bytes ≡ Ok y → (text : List ℕ) × (bytes ≡ text ++ y.1) × (length text ≡ 4) × (kind_of text ≡ Some y.0)
+pub kind_takes : (bytes : List ℕ) (y : Kind × List ℕ) → kind_at bytes ≡ Ok y → (text : List ℕ) × (bytes ≡ text ++ y.1) × (length text ≡ 4) × (kind_of text ≡ Some y.0)
 unfolding kind_at
 kind_takes bytes y e =
     let g = guard_ok (ltb (length bytes) 4) faults.Short (typed (kind_of (take 4 bytes)) (drop 4 bytes)) y e in
@@ -106,7 +106,7 @@ mapped_ok : (r : Result (List ℕ) FromHexError) (rest : List ℕ) (y : ℕ × L
 mapped_ok (Ok b) rest y e = let s = done (from_be_bytes w64 b, rest) y e in (b, refl, ap (λ (p : ℕ × List ℕ). p.0) s, ap (λ (p : ℕ × List ℕ). p.1) s)
 mapped_ok (Err d) rest y e = absurd cc
 
-map_takes : (bytes : List ℕ) (y : ℕ × List ℕ) → map_at bytes ≡ Ok y → (text : List ℕ) × (bytes ≡ text ++ y.1) × IsMap y.0 text
+pub map_takes : (bytes : List ℕ) (y : ℕ × List ℕ) → map_at bytes ≡ Ok y → (text : List ℕ) × (bytes ≡ text ++ y.1) × IsMap y.0 text
 unfolding map_at
 map_takes bytes y e =
     let g = guard_ok (ltb (length bytes) 16) faults.Short (mapped (decode_sized (take 16 bytes) 8) (drop 16 bytes)) y e in

@@ -23,7 +23,7 @@ marks_down last (suc k) j map h lt =
           rw low (marks_down last k j map le lt)
     ]
 
-marks_top : (last j map : ℕ) → 2 ^ j ≤ map → marks last (suc j) map ≡ (last - j) ∷ marks last j (map - 2 ^ j)
+pub marks_top : (last j map : ℕ) → 2 ^ j ≤ map → marks last (suc j) map ≡ (last - j) ∷ marks last j (map - 2 ^ j)
 unfolding marks
 marks_top last j map le = let high : ltb map (2 ^ j) ≡ false = le-ltb map (2 ^ j) le in rw high refl
 

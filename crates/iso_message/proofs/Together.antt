@@ -18,7 +18,7 @@ take_parts : (n m : ℕ) (xs : List ℕ) → take n xs ++ take m (drop n xs) ≡
 take_parts n m xs =
     ap (λ ys. ys ++ take m (drop n xs)) (sym (take-take n (n + m) xs (omega arith))) ∙ ap (λ ys. take n (take (n + m) xs) ++ ys) (sym (drop-take n m xs)) ∙ take-append-drop n (take (n + m) xs)
 
-ranges_join : (values : List ℕ) (a b c : ℕ) → a ≤ b → b ≤ c → slice_range values a b ++ slice_range values b c ≡ slice_range values a c
+pub ranges_join : (values : List ℕ) (a b c : ℕ) → a ≤ b → b ≤ c → slice_range values a b ++ slice_range values b c ≡ slice_range values a c
 ranges_join values a b c h k =
     let at : drop b values ≡ drop (b - a) (drop a values) = let n : b ≡ a + (b - a) = omega arith in ap (λ j. drop j values) n ∙ sym (drop-drop (b - a) a values) in
     let n : (b - a) + (c - b) ≡ c - a = omega arith in

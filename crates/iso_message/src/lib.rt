@@ -15,6 +15,6 @@ mod writing;
 pub use carried::is_in_response;
 pub use elements::ElementIter;
 pub use message::{Message, bytes_of, encode, encode_into};
-pub use reading::decode;
+pub use reading::{bit_map, decode, read_kind, take_mark};
 pub use unread::Unread;
-pub use writing::is_binary;
+pub use writing::{is_binary, map_digits};

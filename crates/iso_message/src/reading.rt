@@ -163,9 +163,10 @@ fn add_next<'a>(
     }
 }
 
-/// Takes the highest bit off a map, and returns the number that it stands for. The lowest bit stands for the last number.
+/// Takes the highest bit off a map, and returns the number of the element that it stands for. The lowest bit stands for the last
+/// number, which is 64 for the first map and 128 for the second.
 #[inline(always)]
-pub(crate) fn take_mark(map: &mut u64, last: u8) -> u8
+pub fn take_mark(map: &mut u64, last: u8) -> u8
     requires some { 0 < map.old }
     requires least { 64 ≤ last }
     requires most { last ≤ 128 }
@@ -219,8 +220,9 @@ fn add_second<'a>(
     add_all(parts, 128, map, bytes, known)
 }
 
+/// The type that the first four bytes write, and the bytes after it. `Short`: there are fewer; `BadType`: they write no type.
 #[tactic(auto, unfolding(crate::specs::Messages::kind_at))]
-pub(crate) fn read_kind(bytes: &[u8]) -> Result<(Kind, &[u8]), DecodeFault>
+pub fn read_kind(bytes: &[u8]) -> Result<(Kind, &[u8]), DecodeFault>
     ensures { Reads (λ x. (x.0, x.1.now)) result (kind_at bytes.now) }
 {
     if bytes.len() < 4 {
@@ -233,8 +235,10 @@ pub(crate) fn read_kind(bytes: &[u8]) -> Result<(Kind, &[u8]), DecodeFault>
     }
 }
 
+/// The bit map that the first sixteen bytes spell as hexadecimal digits in either case, and the bytes after it. `Short`: there are
+/// fewer; `BitMap`: one is no such digit.
 #[tactic(auto, unfolding(crate::specs::Messages::map_at))]
-pub(crate) fn bit_map(bytes: &[u8]) -> Result<(u64, &[u8]), DecodeFault>
+pub fn bit_map(bytes: &[u8]) -> Result<(u64, &[u8]), DecodeFault>
     ensures { Reads (λ x. (x.0, x.1.now)) result (map_at bytes.now) }
 {
     if bytes.len() < 16 {

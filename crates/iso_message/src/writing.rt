@@ -20,10 +20,18 @@ fn push_hex(out: &mut Vec<u8>, bytes: &[u8]) -> Result<(), AllocError>
     out.extend_from_slice(&digits_of_bytes(bytes))
 }
 
+/// The sixteen upper-case hexadecimal digits that spell a bit map, which has the bit of its first element highest.
+#[inline(always)]
+pub fn map_digits(map: u64) -> [u8; 16]
+    ensures { result ≡ map_text map }
+{
+    digits_of_bytes(&map.to_be_bytes())
+}
+
 pub(crate) fn push_map(out: &mut Vec<u8>, bits: u64) -> Result<(), AllocError>
     ensures { OnOk result (out.new.items ≡ out.old.items ++ map_text bits) }
 {
-    push_hex(out, &bits.to_be_bytes())
+    out.extend_from_slice(&map_digits(bits))
 }
 
 /// Writes the digits of an element's length, where its form has some.

@@ -14,6 +14,8 @@ mod made;
 #[cfg(test)]
 mod messages;
 #[cfg(test)]
+mod responses;
+#[cfg(test)]
 mod table;
 #[cfg(test)]
 mod words;

@@ -1,11 +1,13 @@
 //! Messages as the books keep them.
-ghost use Rattle.std.specs.Prelude.{◌≡◌, bytes_eq, [], IfOk, OnOk, OnErr};
+ghost use Rattle.std.specs.Prelude.{◌≡◌, ◌++◌, bytes_eq, [], IfOk, OnOk, OnErr};
 ghost use Rattle.message_keys.specs.Keys.{code_of};
+ghost use Rattle.iso_message.specs.Made.{response};
 ghost use Rattle.iso_message.specs.Spelling.{spelling};
 
-use iso_message::{Message, decode};
+use iso_message::{Message, decode, encode};
 use message_elements::{Code, Kind};
 use message_keys::code_of;
+use response_bytes::push_response;
 use shared_bytes::SharedBytes;
 use std::alloc::AllocError;
 use std::marker::Model;
@@ -84,6 +86,35 @@ impl KeptMessage {
             Ok(()) => Ok(()),
             // The bytes spell a message, so nothing but memory can be wanting.
             Err(_) => Err(AllocError),
+        }
+    }
+
+    /// Appends the bytes that spell the response with a code. Nothing is appended where memory is refused.
+    pub fn push_response(&self, code: Code, out: &mut Vec<u8>) -> Result<(), AllocError>
+        ensures made { OnOk result (out.new.items ≡ out.old.items ++ spelling (response self.now code)) }
+        ensures refused { OnErr result (out.new.items ≡ out.old.items) }
+    {
+        let made = push_response(self.bytes.as_slice(), code, out)?;
+        if made {
+            return Ok(());
+        }
+        // The response to a message with an element above 64 is made of the message.
+        let response = self.decode()?.response(code)?;
+        let spelled = encode(self.bytes.alloc(), &response)?;
+        out.extend_from_slice(&spelled)
+    }
+
+    /// The response with a code, and the bytes that spell it.
+    pub fn response(&self, code: Code, bytes: SharedBytes) -> KeptMessage
+        requires { bytes ≡ spelling (response self.now code) }
+        ensures { result ≡ response self.now code }
+    {
+        // A code is two characters, so the response to a message is a message.
+        let _ = code.as_slice();
+        KeptMessage {
+            bytes,
+            kind: self.kind.response(),
+            code: Some(code),
         }
     }
 

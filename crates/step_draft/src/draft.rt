@@ -3,6 +3,7 @@ ghost use Rattle.std.specs.Prelude.{◌≡◌, ◌≤◌, ◌<◌, List, [], ◌
 ghost use Rattle.node_machine.specs.Lists.{Mark};
 ghost use Rattle.node_books.specs.declared.effect.Effect.{Effect};
 ghost use Rattle.step_draft.specs.Used.{AreLateUses};
+ghost use Rattle.iso_message.specs.Made.{response};
 ghost use Rattle.iso_message.specs.Spelling.{spelling};
 ghost use Rattle.network_law.specs.Entries.{spelled};
 ghost use Rattle.network_law.specs.Traces.{PutPacket};
@@ -20,6 +21,7 @@ use book_index::Sums;
 use card_digits::LinkNo;
 use entry_changes::Changes;
 use iso_message::{Message, encode_into};
+use message_elements::Code;
 use network_law::{GrantPacket, packet_bytes};
 use node_books::{Books, Effect, OwnApproval};
 use request_book::{KeptMessage, PreparedOutput, Way};
@@ -68,6 +70,21 @@ fn spelled(
 {
     room.clear();
     encode_into(room, message)?;
+    SharedBytes::at_hand_or_copy(alloc, at_hand, room)
+}
+
+/// The same of the bytes that spell the response to a kept message with a code.
+fn spelled_response(
+    alloc: Global,
+    room: &mut Vec<u8>,
+    at_hand: &mut Option<SharedBytes>,
+    message: &KeptMessage,
+    code: Code,
+) -> Result<SharedBytes, AllocError>
+    ensures { IfOk result (λ bytes. bytes ≡ spelling (response message.now code)) }
+{
+    room.clear();
+    message.push_response(code, room)?;
     SharedBytes::at_hand_or_copy(alloc, at_hand, room)
 }
 
@@ -150,6 +167,20 @@ impl Draft {
     {
         let bytes = spelled(self.alloc, &mut self.spelling, &mut self.at_hand, message)?;
         Ok(KeptMessage::new(message, bytes))
+    }
+
+    /// The response to a kept message with a code, as the books and outputs keep it.
+    pub(crate) fn kept_response(
+        &mut self,
+        message: &KeptMessage,
+        code: Code,
+    ) -> Result<KeptMessage, AllocError>
+        ensures same { self.new ≡ self.old }
+        ensures kept { IfOk result (λ k. k ≡ response message.now code) }
+    {
+        let room = &mut self.spelling;
+        let bytes = spelled_response(self.alloc, room, &mut self.at_hand, message, code)?;
+        Ok(message.response(code, bytes))
     }
 
     /// An output goes out.

@@ -108,6 +108,23 @@ impl Draft {
         self.reply(source, key, &response)
     }
 
+    /// The response to a kept message with a code goes out to where that came from. It is made of the bytes that are kept.
+    #[tactic(auto, using(crate::proofs::Messages::response_key, crate::proofs::Messages::response_plain))]
+    pub fn respond_kept(
+        &mut self,
+        source: Option<LinkNo>,
+        key: Key,
+        m: &KeptMessage,
+        code: Code,
+    ) -> Result<(), AllocError>
+        requires { key ≡ key_of m.now }
+        ensures base { self.new.base ≡ self.old.base }
+        ensures ok { OnOk result ((t : Network) (n : ℕ) → progress self.new ≡ reply t n (source_of source) (response m.now code) (progress self.old)) }
+    {
+        let response = self.kept_response(m, code)?;
+        self.reply_kept(source, key, response)
+    }
+
     /// An advice goes out, where a link is up. It is copied only there.
     #[tactic(auto, using(crate::proofs::Messages::advice_key))]
     fn send(&mut self, tables: &Tables, node: NodeNo, advice: &Advice) -> Result<(), AllocError>

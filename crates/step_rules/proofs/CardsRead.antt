@@ -1,9 +1,9 @@
 -- The card and the settlement date of a message, as they are read.
-use Rattle.std.proofs.Common.{◌≡◌, ℕ, ◌||◌, nat_lt, Bool, true, false, List, length, Some, None, IfSome, Result, Ok, Err, is_ok, is_some, refl, inl, inr}
+use Rattle.std.proofs.Common.{◌≡◌, ℕ, ◌||◌, ◌<◌, ◌≤◌, nat_lt, Bool, true, false, List, length, Some, None, IfSome, refl, inl, inr}
 use Rattle.std.specs.Char.{is_ascii_digit}
 use Rattle.std.specs.List.{list_all}
 use Rattle.std.specs.Result.{result_ok}
-use Rattle.std.proofs.lemmas.Bool.{cases_Bool}
+use Rattle.std.proofs.lemmas.Bool.{cases_Bool, lt-ltb, le-ltb}
 use Rattle.card_digits.specs.Digits.{digits_of}
 use Rattle.card_digits.specs.Numbers.{passes_luhn}
 use Rattle.card_digits.specs.Reading.{read_digits}
@@ -28,21 +28,28 @@ pub card_read : (m : Fields) → IfSome (result_ok (read_digits 8 19 (el m 2))) 
 unfolding card_of
 card_read m = read_is 8 19 (el m 2)
 
-failed : {A E : Type 0} (r : Result A E) → result_ok r ≡ None → is_ok r ≡ false
-failed (Ok x) e = absurd cc
-failed (Err x) e = refl
+-- the digits of a card number that is there
+number_good : (m : Fields) (v : List ℕ) → IsMessage m → get m 2 ≡ Some v → (length v ≤ 19) × (list_all is_ascii_digit v ≡ true)
+unfolding form_of table
+number_good m v g e = let good = good_found m 2 v g e in (good.0, good.2)
 
-done : {A E : Type 0} (r : Result A E) (x : A) → result_ok r ≡ Some x → is_ok r ≡ true
-done (Ok y) x e = refl
-done (Err y) x e = absurd cc
+pub number_digits : (m : Fields) (v : List ℕ) → IsMessage m → get m 2 ≡ Some v → list_all is_ascii_digit v ≡ true
+number_digits m v g e = (number_good m v g e).1
 
-pub no_card : (m : Fields) → result_ok (read_digits 8 19 (el m 2)) ≡ None → None ≡ when (is_good_card (el m 2)) (card_of m)
+pub number_few : (m : Fields) (v : List ℕ) → IsMessage m → get m 2 ≡ Some v → length v ≤ 19
+number_few m v g e = (number_good m v g e).0
+
+pub no_number : (m : Fields) → get m 2 ≡ None → false ≡ is_good_card (el m 2)
+unfolding is_good_card el
+no_number m e = rw e refl
+
+pub short_number : (m : Fields) (v : List ℕ) → IsMessage m → get m 2 ≡ Some v → length v < 8 → false ≡ is_good_card (el m 2)
 unfolding is_good_card
-no_card m e = rw (failed (read_digits 8 19 (el m 2)) e) refl
+short_number m v g e short = rw (el_some m 2 v e, number_digits m v g e, lt-ltb (length v) 8 short) refl
 
-pub some_card : (m : Fields) (card : List ℕ) → result_ok (read_digits 8 19 (el m 2)) ≡ Some card → card ≡ card_of m → when (is_good_card (el m 2)) (card_of m) ≡ when (passes_luhn card) card
-unfolding is_good_card card_of
-some_card m card e same = rw (done (read_digits 8 19 (el m 2)) card e, same) refl
+pub long_number : (m : Fields) (v : List ℕ) → IsMessage m → get m 2 ≡ Some v → 8 ≤ length v → passes_luhn (digits_of v) ≡ is_good_card (el m 2)
+unfolding is_good_card
+long_number m v g e long = rw (el_some m 2 v e, number_digits m v g e, le-ltb (length v) 8 long, le-ltb 19 (length v) (number_few m v g e)) refl
 
 pub no_label : (m : Fields) → get m 15 ≡ None → None ≡ when (has m 15) (label_of m)
 no_label m e = rw (has_none m 15 e) refl
@@ -50,7 +57,3 @@ no_label m e = rw (has_none m 15 e) refl
 pub some_label : (m : Fields) (v : List ℕ) → IsMessage m → get m 15 ≡ Some v → result_ok (read_digits 4 4 v) ≡ when (has m 15) (label_of m)
 unfolding label_of form_of table
 some_label m v g e = let good = good_found m 15 v g e in rw (has_some m 15 v e, el_some m 15 v e, good.1, good.0) refl
-
-pub good_is : (b : Bool) (card : List ℕ) → is_some (when b card) ≡ b
-good_is true card = refl
-good_is false card = refl

@@ -6,7 +6,7 @@ ghost use Rattle.iso_message.specs.Fields.{el, has};
 ghost use Rattle.message_keys.specs.Keys.{when};
 ghost use Rattle.network_law.specs.Cards.{card_of, label_of, is_good_card};
 
-use card_digits::{Card, DateLabel, luhn};
+use card_digits::{Card, DateLabel, luhn_text};
 use iso_message::{Message, bytes_of};
 use message_elements::elements;
 
@@ -18,20 +18,22 @@ pub fn card_of(message: &Message) -> Option<Card>
     Card::read(bytes_of(message, elements::CARD_NUMBER)).ok()
 }
 
-/// The card of the message, where its check digit is right.
-pub fn good_card(message: &Message) -> Option<Card>
-    ensures { result ≡ when (is_good_card (el message.now 2)) (card_of message.now) }
-{
-    let card = card_of(message)?;
-    if luhn(&card) { Some(card) } else { None }
-}
+/// The least number of digits of a card.
+const LEAST_DIGITS: usize = 8;
 
-/// Whether the message has a card number whose check digit is right.
-#[tactic(auto, using(crate::proofs::CardsRead::good_is))]
+/// Whether the message has a card number whose check digit is right, which is summed where the number stands.
 pub fn has_good_card(message: &Message) -> bool
     ensures { result ≡ is_good_card (el message.now 2) }
 {
-    good_card(message).is_some()
+    // Every message can be written, so element 2 has at most 19 bytes, which are digits.
+    let _ = message.kind();
+    let Some(number) = message.get(elements::CARD_NUMBER) else {
+        return false;
+    };
+    if number.len() < LEAST_DIGITS {
+        return false;
+    }
+    luhn_text(number)
 }
 
 /// The settlement date of the message, none where element 15 is absent.

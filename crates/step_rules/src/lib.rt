@@ -12,7 +12,7 @@ mod links;
 mod places;
 mod required;
 
-pub use cards::{card_of, good_card, has_good_card, label_of};
+pub use cards::{card_of, has_good_card, label_of};
 pub use elements::{acquirer_of, amount_of, is_approval, strange_actual, strange_original};
 pub use kinds::{as_code, entered_kind, sent_kind, taken_kind};
 pub use lending::Lending;

@@ -8,7 +8,6 @@ ghost use Rattle.node_books.specs.Effects.{progress};
 ghost use Rattle.request_book.specs.Values.{IsKeyOf};
 ghost use Rattle.switch_node.specs.Coming.{counts_by, for_duplicate, on_code_by};
 
-use crate::responses::respond;
 use card_digits::{Key, LinkNo, NodeNo};
 use iso_message::Message;
 use message_elements::{Code, response_codes};
@@ -63,7 +62,7 @@ fn for_duplicate(by: &Option<LinkNo>) -> Code
 }
 
 /// A code for a key, that came by a link or, where there is none, of the host, closes the key's request, or takes back what is approved too
-/// late. The request is read into the room, where its response is made of it.
+/// late. A request that is taken back is read into the room.
 #[tactic(auto, using(step_draft::proofs::Messages::response_key, step_draft::proofs::Messages::response_plain, crate::proofs::Parts::none_coded, crate::proofs::Parts::strange_coded, crate::proofs::Parts::pending_coded, crate::proofs::Parts::late_coded, crate::proofs::Parts::other_coded))]
 pub(crate) fn on_code(
     draft: &mut Draft,
@@ -86,9 +85,9 @@ pub(crate) fn on_code(
     let own = row.key();
     if row.is_open() {
         let source = row.source();
-        row.message().decode_into(room)?;
+        let request = row.message().share()?;
         let other = for_duplicate(&by);
-        return respond(draft, source, own, room, as_code(other, code));
+        return draft.respond_kept(source, own, &request, as_code(other, code));
     }
     let late = code.as_slice() == response_codes::APPROVED.as_slice()
         && comes_late(draft.books(), tables, node, key);
@@ -99,7 +98,7 @@ pub(crate) fn on_code(
     take_back(draft, tables, node, own, room)
 }
 
-/// The host's code for an ask, whose request is read into the room.
+/// The host's code for an ask. A request that is taken back is read into the room.
 pub(crate) fn on_host(
     draft: &mut Draft,
     tables: &Tables,

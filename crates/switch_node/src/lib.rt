@@ -10,7 +10,6 @@ mod node;
 mod notices;
 mod owned;
 mod requests;
-mod responses;
 
 pub use entry::Entry;
 pub use input::{BoxedLending, Case, Input};

@@ -10,7 +10,6 @@ ghost use Rattle.node_books.specs.Effects.{progress};
 ghost use Rattle.request_book.specs.Values.{source_of};
 ghost use Rattle.switch_node.specs.Coming.{refusal_code};
 
-use crate::responses::respond;
 use card_digits::{Amount, Key, LinkNo, NodeNo};
 use iso_message::Message;
 use message_elements::{Code, response_codes};
@@ -73,12 +72,11 @@ fn answer_pending(
     }
     let own = row.key();
     let source = row.source();
-    let mut request = row.message().decode()?;
-    respond(
-        draft,
+    let request = row.message().share()?;
+    draft.respond_kept(
         source,
         own,
-        &mut request,
+        &request,
         Code::new(response_codes::RESPONSE_RECEIVED_TOO_LATE),
     )
 }

@@ -1,0 +1,4 @@
+pub mod PieceLengths
+pub mod Steps
+pub mod Bits
+pub mod Whole
