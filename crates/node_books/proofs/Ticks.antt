@@ -3,7 +3,7 @@ use Rattle.std.proofs.Common.{◌≡◌, ℕ, suc, ◌<◌, List, [], ◌∷◌,
 use Rattle.std.specs.Prelude.{slice_get}
 use Rattle.net_rows.specs.declared.row.Link.{Link}
 use Rattle.request_book.specs.Waits.{WaitsView}
-use Rattle.node_books.specs.Values.{waits_of}
+use Rattle.node_books.specs.Values.{waits_in}
 
 -- numbers that agree with each link are those of all
 pub all_ticks : (ticks : List ℕ) (links : List Link) → length ticks ≡ length links → ((k : ℕ) (link : Link) → k < length links → slice_get links k ≡ Some link → slice_get ticks k ≡ Some link.ticks) → ticks ≡ map (λ (l : Link). l.ticks) links
@@ -16,7 +16,7 @@ all_ticks (t ∷ ticks) (l ∷ links) n same =
     cc
 
 -- and so are the waits
-pub all_waits : (w : WaitsView) (ticks : List ℕ) (links : List Link) (host : ℕ) → ticks ≡ w.links → w.host ≡ host → length ticks ≡ length links → ((k : ℕ) (link : Link) → k < length links → slice_get links k ≡ Some link → slice_get ticks k ≡ Some link.ticks) → w ≡ waits_of links host
+pub all_waits : (w : WaitsView) (ticks : List ℕ) (links : List Link) (host : ℕ) → ticks ≡ w.links → w.host ≡ host → length ticks ≡ length links → ((k : ℕ) (link : Link) → k < length links → slice_get links k ≡ Some link → slice_get ticks k ≡ Some link.ticks) → w ≡ waits_in links host
 all_waits w ticks links host is same_host n same =
     let e : w.links ≡ map (λ (l : Link). l.ticks) links = sym is ∙ all_ticks ticks links n same in
     build w.links w.host _ host e same_host

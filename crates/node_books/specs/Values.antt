@@ -40,5 +40,5 @@ pub record AreFew (x : Lists) : Type 0 where
   pub ticks : x.count ≤ 2 ^ 62
 
 -- how long requests wait in a network with these links and this wait for the host
-abbrev pub waits_of : List Link → ℕ → WaitsView
-waits_of links host = record { links = map (λ l. l.ticks) links; host = host }
+abbrev pub waits_in : List Link → ℕ → WaitsView
+waits_in links host = record { links = map (λ l. l.ticks) links; host = host }

@@ -1,12 +1,11 @@
 //! All books of a node.
-ghost use Rattle.std.specs.Prelude.{◌≡◌, ◌+◌, ◌-◌, ◌<◌, ◌≤◌, ◌^◌, ◌↔◌, [], ◌∷◌, ◌++◌, filter, IsTrue, OnOk, IfOk, length, replicate, ℕ, is_some, vec_len, vec_capacity};
+ghost use Rattle.std.specs.Prelude.{◌≡◌, ◌+◌, ◌-◌, ◌<◌, ◌≤◌, ◌^◌, [], ◌∷◌, ◌++◌, filter, OnOk, IfOk, length, replicate, ℕ, is_some, vec_len, vec_capacity};
 ghost use Rattle.node_machine.specs.Lists.{row_link, after_output, ask_at, of_key, is_marked, left_marks, is_among, fresh, view};
 ghost use Rattle.std.specs.Option.{option_and_then, option_copied};
 ghost use Rattle.node_books.specs.Effects.{applied_one, keep_in};
-ghost use Rattle.node_books.specs.Values.{AreFew, waits_of};
+ghost use Rattle.node_books.specs.Values.{AreFew, waits_in};
 ghost use Rattle.node_machine.specs.Counts.{PutsAreWithin};
-ghost use Rattle.request_book.specs.Values.{AreCovered, IsUnique, waits_on, message_of};
-ghost use Rattle.request_book.specs.Values as requests;
+ghost use Rattle.request_book.specs.Values.{IsUnique, message_of, places_where, waits_of, waits_on};
 ghost use Rattle.request_book.specs.Waits.{is_over};
 ghost use Rattle.net_rows.specs.Network.{Network};
 ghost use Rattle.node_machine.specs.Machine.{borrowed_for, is_due, lent_for, load, was_put};
@@ -21,6 +20,7 @@ ghost use Rattle.node_books.specs.Ways.{asks_by, store_by};
 
 use crate::effect::{Effect, NewAdvice};
 use crate::links::{LinkState, Links};
+use crate::waits::{are_waits_in, waits_in};
 use advice_store::{AdviceStore, KeptAdvice, KeptGrant, StoredItem};
 use card_digits::{Amount, Card, DateLabel, Key, LinkNo};
 use message_keys::AdviceId;
@@ -46,6 +46,7 @@ pub struct Books {
     pub(crate) asks: Vec<Key>,
     pub(crate) date: DateLabel,
     pub(crate) room: usize,
+    pub(crate) alloc: Global,
 }
 
 impl Model for Books {
@@ -81,22 +82,6 @@ fn mark_in(advices: &mut AdviceStore, way: Way, output: &PreparedOutput)
     }
 }
 
-/// Whether requests wait so long in a network with these links and this wait for the host.
-fn are_waits_of(waits: &Waits, links: &[Link], host: u16) -> bool
-    ensures { IsTrue result ↔ waits.now ≡ waits_of links.now host }
-{
-    let ticks = waits.links();
-    if ticks.len() != links.len() || waits.host() != host {
-        return false;
-    }
-    for (i, link) in links.iter().enumerate() {
-        if ticks[i] != link.ticks {
-            return false;
-        }
-    }
-    true
-}
-
 impl Books {
     /// The books of a new node with so many links, in a network in which advices are sent again after so many ticks and requests wait so
     /// long.
@@ -119,6 +104,7 @@ impl Books {
             asks: Vec::new(alloc),
             date,
             room: 0,
+            alloc,
         })
     }
 
@@ -213,30 +199,30 @@ impl Books {
         self.pending.rows()
     }
 
-    /// The places of the pending requests that were put on a link, in no order.
+    /// The places of the pending requests that were put on a link, in opening order.
     pub fn put_on(&self, link: LinkNo) -> Result<Vec<usize>, AllocError>
-        ensures { IfOk result (λ places. AreCovered (waits_on link) self.now.lists.rows places.items) }
+        ensures exact { IfOk result (λ places. places.items ≡ places_where (waits_on link) self.now.lists.rows) }
     {
         self.pending.put_on(link)
     }
 
-    /// The places of the pending requests of a card that were put on a link or asked of the host, in no order.
+    /// The places of the pending requests of a card that were put on a link or asked of the host, in opening order.
     pub fn of_card(&self, card: &Card) -> Result<Vec<usize>, AllocError>
-        ensures { IfOk result (λ places. AreCovered (requests.waits_of card.now) self.now.lists.rows places.items) }
+        ensures exact { IfOk result (λ places. places.items ≡ places_where (waits_of card.now) self.now.lists.rows) }
     {
         self.pending.of_card(card)
     }
 
-    /// The places of the requests whose time is over at the next tick, in no order, in a network with these links, in which requests wait so
-    /// long for the host. Others may stand there too.
+    /// The places of the requests whose time is over at the next tick, in opening order, in a network with these links, in which requests wait
+    /// so long for the host. Where that is not the network that the books were made for, it looks at all requests.
     pub fn over(&self, links: &[Link], host: u16) -> Result<Vec<usize>, AllocError>
-        ensures { IfOk result (λ places. AreCovered (is_over (waits_of links.now host) (self.now.lists.count + 1)) self.now.lists.rows places.items) }
+        ensures exact { IfOk result (λ places. places.items ≡ places_where (is_over (waits_in links.now host) (self.now.lists.count + 1)) self.now.lists.rows) }
     {
-        if are_waits_of(self.pending.waits(), links, host) {
-            self.pending.due()
-        } else {
-            self.pending.all_places()
+        if are_waits_in(self.pending.waits(), links, host) {
+            return self.pending.due();
         }
+        let waits = waits_in(self.alloc, links, host)?;
+        self.pending.over(&waits)
     }
 
     /// How many slots and ends of lists the last tick looked at among the requests.

@@ -5,9 +5,11 @@
 mod books;
 mod effect;
 mod links;
+mod waits;
 
 pub use advice_store::{KeptAdvice, KeptGrant, StoredCase, StoredItem};
 pub use books::Books;
 pub use effect::{Effect, NewAdvice};
 pub use links::{LinkState, Links};
 pub use standin_book::{Borrowed, CardDay, Loan, OwnApproval};
+pub use waits::waits_in;

@@ -2,7 +2,6 @@
 #![tactic(auto)]
 
 mod book;
-mod cards;
 mod request;
 
 pub use book::PendingBook;

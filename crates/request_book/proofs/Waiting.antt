@@ -14,24 +14,24 @@ use Rattle.message_keys.proofs.Equality.{key_eq_flip, key_eq_is}
 use Rattle.network_law.specs.Traces.{ReadOutput, is_link}
 use Rattle.node_machine.specs.Lists.{Row, row_after, row_has, row_key, row_pending}
 use Rattle.request_slots.specs.declared.wait.Wait.{Wait}
-use Rattle.request_slots.specs.Waits.{AreWhere, SlotsView, count_due, is_due, is_of, is_on, wait_at, with_wait}
+use Rattle.request_slots.specs.Waits.{SlotsView, count_due, is_due, wait_at, with_wait}
 use Rattle.request_book.specs.declared.pending.Standing.{Standing}
 use Rattle.request_book.specs.Waits.{WaitsView, is_over, waits_by}
-use Rattle.request_book.specs.Values.{AreCovered, IsUnique, card_in, output_key, waits_of, waits_on}
+use Rattle.request_book.specs.Values.{IsUnique, card_in, output_key}
 use Rattle.request_book.specs.Kept.{AreKept, AreWaiting, HasWait, IsSameRequest, IsTimed, IsDueInTime, bit, is_waiting, place_of, standing_of}
 use Rattle.request_book.proofs.At.{at_got, got_at, mapped_at, more_at, within}
 use Rattle.request_book.proofs.Places.{count_more, found_none, place_found, place_last, place_same, places_after}
 use Rattle.request_book.proofs.Unique.{quiet, unique_after, unique_more}
 
-and_first : (a b : Bool) → (a && b) ≡ true → a ≡ true
+pub and_first : (a b : Bool) → (a && b) ≡ true → a ≡ true
 and_first true b e = refl
 and_first false b e = e
 
-and_last : (a b : Bool) → (a && b) ≡ true → b ≡ true
+pub and_last : (a b : Bool) → (a && b) ≡ true → b ≡ true
 and_last true b e = e
 and_last false b e = absurd cc
 
-and_both : (a b : Bool) → a ≡ true → b ≡ true → (a && b) ≡ true
+pub and_both : (a b : Bool) → a ≡ true → b ≡ true → (a && b) ≡ true
 and_both a b p q = rw (p, q) refl
 
 same_place : (x y : ℕ) → Some x ≡ Some y → x ≡ y
@@ -142,79 +142,23 @@ count_le p q (x ∷ xs) (y ∷ ys) n h =
     one true b i = rw (i refl) (omega arith)
 
 -- no more waits are due at the next tick than requests whose time is over then
+pub wait_over : (w : WaitsView) (count : ℕ) (timely : Bool) (r : Row) (o : Option Wait) → HasWait w count timely r o → option_map_or (is_due (count + 1)) o false ≡ true → is_over w (count + 1) r ≡ true
+wait_over w count timely r o h t = elim (cases_Bool (is_waiting r)) [
+  | inl waits' ↦
+      let v = h.waits waits' in
+      let passes : is_due (count + 1) v.0 ≡ true = sym (ap (λ (x : Option Wait). option_map_or (is_due (count + 1)) x false) v.1) ∙ t in
+      let due = due_at v.0.due passes in
+      let time = v.5 (count + 1) due in
+      let pending : row_pending r ≡ true = and_first (row_pending r) (is_some r.link || r.asked) waits' in
+      and_both (row_pending r) _ pending (rw time.1 (eq-eqb (r.count + time.0) (count + 1) time.2))
+  | inr rests ↦ (let none : o ≡ None = h.rests rests in let no : false ≡ true = sym (ap (λ (x : Option Wait). option_map_or (is_due (count + 1)) x false) none) ∙ t in absurd cc)
+] where
+  due_at : (m : Option ℕ) → option_map_or (λ n. eqb n (count + 1)) m false ≡ true → m ≡ Some (count + 1)
+  due_at None e = absurd cc
+  due_at (Some n) e = ap Some (eqb-true n (count + 1) e)
+
 pub due_over : (w : WaitsView) (count : ℕ) (timely : Bool) (rows : List Row) (waits : List (Option Wait)) → AreWaiting w count timely rows waits → count_due (count + 1) waits ≤ count_by (is_over w (count + 1)) rows
-due_over w count timely rows waits a = count_le (λ (o : Option Wait). option_map_or (is_due (count + 1)) o false) (is_over w (count + 1)) waits rows a.places each
-  where
-    over : (r : Row) (o : Option Wait) → HasWait w count timely r o → option_map_or (is_due (count + 1)) o false ≡ true → is_over w (count + 1) r ≡ true
-    over r o h t = elim (cases_Bool (is_waiting r)) [
-      | inl waits' ↦
-          let v = h.waits waits' in
-          let passes : is_due (count + 1) v.0 ≡ true = sym (ap (λ (x : Option Wait). option_map_or (is_due (count + 1)) x false) v.1) ∙ t in
-          let due = due_at v.0.due passes in
-          let time = v.5 (count + 1) due in
-          let pending : row_pending r ≡ true = and_first (row_pending r) (is_some r.link || r.asked) waits' in
-          and_both (row_pending r) _ pending (rw time.1 (eq-eqb (r.count + time.0) (count + 1) time.2))
-      | inr rests ↦ (let none : o ≡ None = h.rests rests in let no : false ≡ true = sym (ap (λ (x : Option Wait). option_map_or (is_due (count + 1)) x false) none) ∙ t in absurd cc)
-    ] where
-      due_at : (o : Option ℕ) → option_map_or (λ n. eqb n (count + 1)) o false ≡ true → o ≡ Some (count + 1)
-      due_at None e = absurd cc
-      due_at (Some n) e = ap Some (eqb-true n (count + 1) e)
-
-    each : (k : ℕ) (r : Row) → slice_get rows k ≡ Some r → option_map_or (is_due (count + 1)) (get_or waits k None) false ≡ true → is_over w (count + 1) r ≡ true
-    each k r e t = over r (wait_at waits k) (a.each k r e) t
-
--- ---- what is found
-
-over_waits : (w : WaitsView) (now : ℕ) (r : Row) → is_over w now r ≡ true → (is_waiting r ≡ true) × ((ticks : ℕ) × (waits_by w r.link r.asked ≡ Some ticks) × (r.count + ticks ≡ now))
-over_waits w now r e =
-    let pending : row_pending r ≡ true = and_first (row_pending r) _ e in
-    let rest = by r.link r.asked (and_last (row_pending r) _ e) in
-    (and_both (row_pending r) (is_some r.link || r.asked) pending rest.0, rest.1)
-  where
-    by : (link : Option ℕ) (asked : Bool) → option_map_or (λ ticks. eqb (r.count + ticks) now) (waits_by w link asked) false ≡ true
-        → ((is_some link || asked) ≡ true) × ((ticks : ℕ) × (waits_by w link asked ≡ Some ticks) × (r.count + ticks ≡ now))
-    by (Some l) asked t = (refl, (get_or w.links l 0, refl, eqb-true (r.count + get_or w.links l 0) now t))
-    by None true t = (refl, (w.host, refl, eqb-true (r.count + w.host) now t))
-    by None false t = absurd cc
-
-pub due_covered : (w : WaitsView) (count : ℕ) (timely : Bool) (rows : List Row) (waits : List (Option Wait)) (places : List ℕ) → timely ≡ true → AreWaiting w count timely rows waits → AreWhere (is_due (suc count)) waits places → AreCovered (is_over w (count + 1)) rows places
-due_covered w count timely rows waits places known a where_ k r e t =
-    let o = over_waits w (count + 1) r t in
-    let v = (a.each k r e).waits o.0 in
-    let sum : r.count + o.1.0 ≡ count + 1 = o.1.2 in
-    let due : v.0.due ≡ Some (r.count + o.1.0) = v.4 known o.1.0 o.1.1 (omega (arith, sum)) in
-    let next : r.count + o.1.0 ≡ suc count = omega (arith, sum) in
-    let passes : is_due (suc count) v.0 ≡ true = ap (λ (x : Option ℕ). option_map_or (λ n. eqb n (suc count)) x false) due ∙ eq-eqb (r.count + o.1.0) (suc count) next in
-    where_.all k v.0 v.1 passes
-
-on_waits : (l : ℕ) (r : Row) → waits_on l r ≡ true → (is_waiting r ≡ true) × (r.link ≡ Some l)
-on_waits l r e =
-    let pending = and_first (row_pending r) (is_link l r.link) e in
-    let rest = by r.link (and_last (row_pending r) (is_link l r.link) e) in
-    (and_both (row_pending r) (is_some r.link || r.asked) pending rest.0, rest.1)
-  where
-    by : (link : Option ℕ) → is_link l link ≡ true → ((is_some link || r.asked) ≡ true) × (link ≡ Some l)
-    by None t = absurd cc
-    by (Some k) t = (refl, ap Some (eqb-true k l t))
-
-pub link_covered : (w : WaitsView) (count : ℕ) (timely : Bool) (l : ℕ) (rows : List Row) (waits : List (Option Wait)) (places : List ℕ) → AreWaiting w count timely rows waits → AreWhere (is_on l) waits places → AreCovered (waits_on l) rows places
-link_covered w count timely l rows waits places a where_ k r e t =
-    let o = on_waits l r t in
-    let v = (a.each k r e).waits o.0 in
-    let passes : is_on l v.0 ≡ true = ap (λ (x : Option ℕ). option_map_or (λ n. eqb n l) x false) (v.2 ∙ o.1) ∙ eq-eqb l l refl in
-    where_.all k v.0 v.1 passes
-
-pub card_covered : (w : WaitsView) (count : ℕ) (timely : Bool) (card : List ℕ) (rows : List Row) (waits : List (Option Wait)) (places : List ℕ) → AreWaiting w count timely rows waits → AreWhere (is_of card) waits places → AreCovered (waits_of card) rows places
-card_covered w count timely card rows waits places a where_ k r e t =
-    let pending = and_first (row_pending r) _ t in
-    let rest = and_last (row_pending r) _ t in
-    let waits' = and_both (row_pending r) (is_some r.link || r.asked) pending (and_first (is_some r.link || r.asked) _ rest) in
-    let v = (a.each k r e).waits waits' in
-    let passes : is_of card v.0 ≡ true = ap (λ (x : Option (List ℕ)). option_map_or (λ own. pointwise eqb own card) x false) v.3 ∙ and_last (is_some r.link || r.asked) _ rest in
-    where_.all k v.0 v.1 passes
-
-pub all_covered : (passes : Row → Bool) (rows : List Row) (places : List ℕ) → ((k : ℕ) → k < length rows → Contains places k) → AreCovered passes rows places
-all_covered passes rows places all k r e t = all k (within rows k r e)
+due_over w count timely rows waits a = count_le (λ (o : Option Wait). option_map_or (is_due (count + 1)) o false) (is_over w (count + 1)) waits rows a.places (λ k r e t. wait_over w count timely r (wait_at waits k) (a.each k r e) t)
 
 -- where a request stands as it stood, it waits as it waited
 pub same_standing : (w : WaitsView) (count : ℕ) (timely : Bool) (old r : Row) (o : Option Wait) → IsSameRequest old r → standing_of old ≡ standing_of r → HasWait w count timely old o → HasWait w count timely r o
@@ -238,12 +182,6 @@ same_standing w count timely old r o alike stands h =
           );
       rests = λ t. h.rests (waits ∙ t);
     }
-
--- what was found covers
-pub if_covered : {V E : Type 0} (items : V → List ℕ) (where_ : Wait → Bool) (passes : Row → Bool) (rows : List Row) (waits : List (Option Wait)) (r : Result V E) → IfOk r (λ v. AreWhere where_ waits (items v))
-    → ((places : List ℕ) → AreWhere where_ waits places → AreCovered passes rows places) → IfOk r (λ v. AreCovered passes rows (items v))
-if_covered items where_ passes rows waits (Ok v) a f = f (items v) a
-if_covered items where_ passes rows waits (Err x) a f = tt
 
 -- a request that is put where none waits
 pub has_entered : (w : WaitsView) (count place : ℕ) (known : Bool) (r : Row) (v : Wait) (o : Option Wait) → is_waiting r ≡ true → o ≡ Some v → v.link ≡ r.link → v.card ≡ card_in r.message → (known ≡ true → IsTimed w count r v) → IsDueInTime w r v → HasWait w count known r o
@@ -299,26 +237,6 @@ kept_after o rows es n m b w slots slots' timely known a closed is waiting = rec
   counted = (let c = a.counted in omega (arith, closed, is, c));
   waiting = waiting;
 }
-
--- a place more is found
-pub contains_more : (xs : List ℕ) (x k : ℕ) → Contains xs k → Contains (xs ++ x ∷ []) k
-contains_more xs x k c = (c.0, (let lt = c.1 in let n = length-append xs (x ∷ []) in omega (arith, lt, n)), front xs c.0 c.1 ∙ c.2)
-  where
-    front : (ys : List ℕ) (j : ℕ) → j < length ys → get_or (ys ++ x ∷ []) j k ≡ get_or ys j k
-    front [] j lt = absurd (omega (arith, lt))
-    front (y ∷ ys) zero lt = refl
-    front (y ∷ ys) (suc j) lt = front ys j (omega (arith, lt))
-
-pub contains_end : (xs : List ℕ) (x : ℕ) → Contains (xs ++ x ∷ []) x
-contains_end xs x = (length xs, (let n = length-append xs (x ∷ []) in omega (arith, n)), at_end xs)
-  where
-    at_end : (ys : List ℕ) → get_or (ys ++ x ∷ []) (length ys) x ≡ x
-    at_end [] = refl
-    at_end (y ∷ ys) = at_end ys
-
-pub if_all : {V E : Type 0} (items : V → List ℕ) (passes : Row → Bool) (rows : List Row) (r : Result V E) → IfOk r (λ v. (k : ℕ) → k < length rows → Contains (items v) k) → IfOk r (λ v. AreCovered passes rows (items v))
-if_all items passes rows (Ok v) all = all_covered passes rows (items v) all
-if_all items passes rows (Err x) all = tt
 
 -- a wait at a place
 pub with_at : (waits : List (Option Wait)) (place : ℕ) (o : Option Wait) → place < length waits → wait_at (with_wait waits place o) place ≡ o

@@ -1,5 +1,5 @@
 -- What contracts see of requests and outputs.
-use Rattle.std.specs.Prelude.{◌≡◌, ◌==◌, ℕ, List, [], ◌∷◌, ◌++◌, Bool, true, false, ◌&&◌, ◌||◌, if◌then◌else◌, slice_get, Option, Some, None, is_some, is_none, ⊤}
+use Rattle.std.specs.Prelude.{◌≡◌, ◌==◌, ℕ, List, [], ◌∷◌, ◌++◌, Bool, true, false, ◌&&◌, ◌||◌, if◌then◌else◌, filter, length, slice_get, Option, Some, None, is_some, is_none, ⊤}
 use Rattle.std.specs.Cmp.Lexicographic.{pointwise}
 use Rattle.std.specs.Option.{option_map_or}
 use Rattle.card_digits.specs.declared.key.Key.{Key}
@@ -12,7 +12,7 @@ use Rattle.message_keys.specs.Keys.{key_of}
 use Rattle.iso_message.specs.Made.{has_own_key}
 use Rattle.network_law.specs.Traces.{Source, Gate, ByLink, ReadOutput, Put, Answer, Ask, Post, PutPacket, is_link}
 use Rattle.node_machine.specs.Lists.{Row, Mark, of_key, row_key, row_pending}
-use Rattle.std.specs.List.{Contains}
+use Rattle.std.specs.List.{range_with_len}
 use Rattle.request_book.specs.Waits.{WaitsView}
 
 -- a source is the gate, or a link
@@ -73,6 +73,6 @@ waits_on l r = row_pending r && is_link l r.link
 abbrev pub waits_of : List ℕ → Row → Bool
 waits_of card r = row_pending r && ((is_some r.link || r.asked) && option_map_or (λ own. pointwise ◌==◌ own card) (card_in r.message) false)
 
--- each request that passes a test stands at one of these places
-abbrev pub AreCovered : (Row → Bool) → List Row → List ℕ → Type 0
-AreCovered p rows places = (k : ℕ) (r : Row) → slice_get rows k ≡ Some r → p r ≡ true → Contains places k
+-- the places of the requests that pass a test, in opening order
+abbrev pub places_where : (Row → Bool) → List Row → List ℕ
+places_where p rows = filter (λ place. option_map_or p (slice_get rows place) false) (range_with_len 0 (length rows))

@@ -7,10 +7,9 @@ ghost use Rattle.card_digits.specs.declared.key.Key.{Key};
 ghost use Rattle.message_keys.specs.Keys.{key_eq};
 ghost use Rattle.node_machine.specs.Lists.{row_after, of_key, row_pending, is_marked, left_marks};
 ghost use Rattle.std.specs.Prelude.{◌≢◌, ◌&&◌, ℕ, Bool};
-ghost use Rattle.std.specs.List.{Contains};
 ghost use Rattle.node_machine.specs.Lists.{Row};
 ghost use Rattle.request_slots.specs.Waits.{wait_at};
-ghost use Rattle.request_book.specs.Values.{AreCovered, IsUnique, opened, output_key, waits_of, waits_on};
+ghost use Rattle.request_book.specs.Values.{IsUnique, opened, output_key, places_where, waits_of, waits_on};
 ghost use Rattle.request_book.specs.Waits.{is_over};
 ghost use Rattle.request_book.specs.Kept.{bit, is_waiting, place_of, standing_of, HasWait, IsSameRequest};
 
@@ -348,39 +347,42 @@ impl PendingBook {
         &self.waits
     }
 
-    /// The places of the requests whose time is over at the next tick, in no order; others may stand there too, where some request waits for
-    /// a tick that lies more than 4,000 ahead.
+    /// The places of the requests whose time is over at the next tick, in opening order. Where some request waits for a tick that lies more
+    /// than 4,000 ahead, it looks at all requests.
     pub fn due(&self) -> Result<Vec<usize>, AllocError>
-        ensures { IfOk result (λ places. AreCovered (is_over self.now.waits (self.now.count + 1)) self.now.rows places.items) }
+        ensures exact { IfOk result (λ places. places.items ≡ places_where (is_over self.now.waits (self.now.count + 1)) self.now.rows) }
     {
         if self.is_timely {
             self.waiting.due()
         } else {
-            self.all_places()
+            self.over(&self.waits)
         }
     }
 
-    /// The places of all requests.
-    pub fn all_places(&self) -> Result<Vec<usize>, AllocError>
-        ensures { IfOk result (λ places. (k : ℕ) → k < length self.now.rows → Contains places.items k) }
+    /// The same where requests wait for other numbers of ticks. It looks at all requests.
+    pub fn over(&self, waits: &Waits) -> Result<Vec<usize>, AllocError>
+        ensures exact { IfOk result (λ places. places.items ≡ places_where (is_over waits.now (self.now.count + 1)) self.now.rows) }
     {
+        let count = self.waiting.count();
         let mut places = Vec::new(self.alloc);
         for place in 0..self.rows.len() {
-            places.push(place)?;
+            if waits.is_over(&self.rows[place], count) {
+                places.push(place)?;
+            }
         }
         Ok(places)
     }
 
-    /// The places of the pending requests that were put on a link, in no order.
+    /// The places of the pending requests that were put on a link, in opening order.
     pub fn put_on(&self, link: LinkNo) -> Result<Vec<usize>, AllocError>
-        ensures { IfOk result (λ places. AreCovered (waits_on link) self.now.rows places.items) }
+        ensures exact { IfOk result (λ places. places.items ≡ places_where (waits_on link) self.now.rows) }
     {
         self.waiting.on_link(link)
     }
 
-    /// The places of the pending requests of a card that were put on a link or asked of the host, in no order.
+    /// The places of the pending requests of a card that were put on a link or asked of the host, in opening order.
     pub fn of_card(&self, card: &Card) -> Result<Vec<usize>, AllocError>
-        ensures { IfOk result (λ places. AreCovered (waits_of card.now) self.now.rows places.items) }
+        ensures exact { IfOk result (λ places. places.items ≡ places_where (waits_of card.now) self.now.rows) }
     {
         self.waiting.of_card(card)
     }

@@ -1,7 +1,8 @@
 //! How long requests wait.
-ghost use Rattle.std.specs.Prelude.{◌≡◌, slice_index_or};
-ghost use Rattle.request_book.specs.Waits.{waits_by};
+ghost use Rattle.std.specs.Prelude.{◌≡◌, ◌+◌, slice_index_or};
+ghost use Rattle.request_book.specs.Waits.{is_over, waits_by};
 
+use crate::row::Row;
 use card_digits::LinkNo;
 use std::marker::Model;
 
@@ -61,5 +62,16 @@ impl Waits {
             None if asked => Some(self.host),
             None => None,
         }
+    }
+
+    /// Whether a request is pending, and its time is over one tick after this count of ticks.
+    pub(crate) fn is_over(&self, row: &Row, count: u64) -> bool
+        ensures { result ≡ is_over self.now (count + 1) row.now }
+    {
+        let Some(ticks) = self.of(row.link(), row.asked()) else {
+            return false;
+        };
+        // Neither sum is beyond 128 bits.
+        row.is_open() && row.count() as u128 + ticks as u128 == count as u128 + 1
     }
 }

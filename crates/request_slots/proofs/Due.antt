@@ -3,15 +3,16 @@ use Rattle.std.proofs.Common.{◌≡◌, ℕ, suc, Bool, true, false, List, leng
 use Rattle.std.specs.Option.{option_map_or, option_and_then}
 use Rattle.std.proofs.lemmas.List.{length-map}
 use Rattle.slab.specs.Slab.{get}
-use Rattle.chain_links.specs.Lists.{Among, Distinct}
+use Rattle.chain_links.specs.Lists.{Among}
 use Rattle.tick_wheel.specs.Wheel.{WheelView, due_after}
 use Rattle.request_slots.specs.declared.wait.Wait.{Wait}
-use Rattle.request_slots.specs.Waits.{count_due, is_due, wait_at, waits_in}
+use Rattle.request_slots.specs.Waits.{count_due, is_due, wait_at, held_waits}
 use Rattle.request_slots.specs.Kept.{IsKept, ahead_of, slot_at}
 use Rattle.request_slots.proofs.Counting.{among_map, map_among, distinct_map, counted}
-use Rattle.request_slots.proofs.Waiting.{at_in, due_to, due_from}
+use Rattle.request_slots.proofs.Exact.{due_to, due_from}
+use Rattle.request_slots.proofs.Waiting.{at_in}
 
-module _ (wheel : WheelView Wait) (slots : List (Option ℕ)) (heads : List (List ℕ × ℕ)) (free : List ℕ) (count : ℕ) (k : IsKept wheel slots heads free count) where
+module _ (wheel : WheelView Wait) (slots : List (Option ℕ)) (count : ℕ) (k : IsKept wheel slots count) where
   -- the place of the request in a slot
   abbrev of_slot : ℕ → ℕ
   of_slot slot = option_map_or (λ (w : Wait). w.place) (get wheel.slots slot) 0
@@ -33,29 +34,29 @@ module _ (wheel : WheelView Wait) (slots : List (Option ℕ)) (heads : List (Lis
       let here : Some s ≡ Some t = sym (k.slots_held.placed s x.0 x.1) ∙ (ap (slot_at slots) places ∙ k.slots_held.placed t y.0 y.1) in
       cc
 
-  of : (place : ℕ) → Among place (map of_slot (due_after wheel 0)) → passes (wait_at (waits_in wheel.slots slots) place) ≡ true
+  of : (place : ℕ) → Among place (map of_slot (due_after wheel 0)) → passes (wait_at (held_waits wheel.slots slots) place) ≡ true
   of place a =
       let m = map_among of_slot place (due_after wheel 0) a in
       let x = held_due m.0 m.1 in
       let is : place ≡ x.0.place = m.2 ∙ at_slot m.0 x.0 x.1 in
-      let there : wait_at (waits_in wheel.slots slots) place ≡ Some x.0 =
+      let there : wait_at (held_waits wheel.slots slots) place ≡ Some x.0 =
       at_in wheel.slots slots place ∙ (ap (λ j. option_and_then (get wheel.slots) (slot_at slots j)) is ∙ (ap (option_and_then (get wheel.slots)) (k.slots_held.placed m.0 x.0 x.1) ∙ x.1)) in
       ap passes there ∙ due_from count x.0.due x.2
 
-  all : (place : ℕ) → passes (wait_at (waits_in wheel.slots slots) place) ≡ true → Among place (map of_slot (due_after wheel 0))
+  all : (place : ℕ) → passes (wait_at (held_waits wheel.slots slots) place) ≡ true → Among place (map of_slot (due_after wheel 0))
   all place e = by_slot (slot_at slots place) refl
     where
       by_slot : (o : Option ℕ) → slot_at slots place ≡ o → Among place (map of_slot (due_after wheel 0))
       by_slot None at =
-          let none : wait_at (waits_in wheel.slots slots) place ≡ None = at_in wheel.slots slots place ∙ ap (option_and_then (get wheel.slots)) at in
+          let none : wait_at (held_waits wheel.slots slots) place ≡ None = at_in wheel.slots slots place ∙ ap (option_and_then (get wheel.slots)) at in
           let no : passes None ≡ true = sym (ap passes none) ∙ e in
           absurd cc
       by_slot (Some slot) at =
           let h = k.slots_held.held place slot at in
-          let there : wait_at (waits_in wheel.slots slots) place ≡ Some h.0 = at_in wheel.slots slots place ∙ (ap (option_and_then (get wheel.slots)) at ∙ h.1) in
+          let there : wait_at (held_waits wheel.slots slots) place ≡ Some h.0 = at_in wheel.slots slots place ∙ (ap (option_and_then (get wheel.slots)) at ∙ h.1) in
           let due : is_due (suc count) h.0 ≡ true = sym (ap passes there) ∙ e in
           let among = k.buckets.listed slot h.0 0 h.1 (due_to count h.0.due due) in
           subst (λ j. Among j (map of_slot (due_after wheel 0))) (at_slot slot h.0 h.1 ∙ h.2) (among_map of_slot slot (due_after wheel 0) among)
 
-  pub due_counted : Distinct (due_after wheel 0) → count_due (suc count) (waits_in wheel.slots slots) ≡ length (due_after wheel 0)
-  due_counted once = counted passes refl (map of_slot (due_after wheel 0)) (waits_in wheel.slots slots) (distinct_map of_slot (due_after wheel 0) apart once) of all ∙ length-map (due_after wheel 0) of_slot
+  pub due_counted : count_due (suc count) (held_waits wheel.slots slots) ≡ length (due_after wheel 0)
+  due_counted = counted passes refl (map of_slot (due_after wheel 0)) (held_waits wheel.slots slots) (distinct_map of_slot (due_after wheel 0) apart (k.buckets.once 0)) of all ∙ length-map (due_after wheel 0) of_slot

@@ -1,14 +1,12 @@
 -- A slot that leaves its lists.
-use Rattle.std.proofs.Common.{◌≡◌, ◌≢◌, ℕ, suc, List, [], ◌∷◌, map, get_or, Option, Some, None, refl, sym, ap, ◌∙◌, subst}
-use Rattle.std.specs.Map.{lookup}
+use Rattle.std.proofs.Common.{◌≡◌, ◌≢◌, ℕ, suc, List, [], ◌∷◌, map, get_or, refl, sym, ap, ◌∙◌, subst}
 use Rattle.std.proofs.Math.ListN.{get_or-map}
 use Rattle.request_slots.specs.declared.wait.Wait.{Wait}
-use Rattle.chain_links.specs.Lists.{LinksView, IsMember, Among, without, unlinked, list_at}
+use Rattle.chain_links.specs.Lists.{IsMember, Among, without, unlinked}
 use Rattle.chain_links.proofs.Chains.{without_none}
 use Rattle.chain_links.proofs.Popped.{each_from}
 use Rattle.tick_wheel.specs.Wheel.{WheelView, IsArmed, disarmed}
-use Rattle.request_slots.specs.Cards.{list_of, list_if, card_eq}
-use Rattle.request_slots.proofs.Heads.{among_gone}
+use Rattle.request_slots.proofs.Lists.{among_gone}
 
 same_without : (x : ℕ) (xs : List ℕ) → (Among x xs → ⊥) → without x xs ≡ xs
 same_without x xs none = without_none x xs (each_from (λ y. x ≢ y) xs (λ y m same. let P : ℕ → Type 0 = λ z. Among z xs in none (subst P (sym same) m)))
@@ -26,8 +24,5 @@ not_armed w slot none = ap (λ ws. record w { waiting = ws }) (sym (none_left sl
 pub not_linked : (w : WheelView Wait) (slot : ℕ) → (IsMember w.link slot → ⊥) → w ≡ record w { link = unlinked w.link slot }
 not_linked w slot none = ap (λ ls. record w { link = record w.link { lists = ls } }) (sym (none_left slot w.link.lists (λ h m. none (h, m))))
 
-pub not_carded : (cards : List (List ℕ × ℕ)) (l : LinksView) (slot : ℕ) → (IsMember l slot → ⊥) → (card : List ℕ) → list_of cards l card ≡ without slot (list_of cards l card)
-not_carded cards l slot none card = go (lookup (card_eq card) cards) where
-  go : (o : Option ℕ) → list_if l o ≡ without slot (list_if l o)
-  go None = refl
-  go (Some h) = sym (same_without slot (list_at l h) (λ m. none (h, m)))
+pub not_carded : (w : WheelView Wait) (slot : ℕ) → (IsMember w.card slot → ⊥) → w ≡ record w { card = unlinked w.card slot }
+not_carded w slot none = ap (λ ls. record w { card = record w.card { lists = ls } }) (sym (none_left slot w.card.lists (λ h m. none (h, m))))

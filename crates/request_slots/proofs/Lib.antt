@@ -1,6 +1,9 @@
 mod Counting
 mod Due
-mod Heads
+mod Exact
+mod Found
 mod Leaving
 mod Listing
+mod Lists
+pub mod Located
 mod Waiting

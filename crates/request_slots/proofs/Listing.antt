@@ -1,13 +1,13 @@
 -- Slots stay in the lists that their waits name.
-use Rattle.std.proofs.Common.{◌≡◌, ◌≢◌, ◌⊎◌, ℕ, true, List, [], ◌∷◌, ◌++◌, Option, Some, None, refl, sym, ap, ◌∙◌, subst, inl, inr, arith, eqb}
-use Rattle.std.proofs.lemmas.Bool.{cases_eq, cases_Bool}
-use Rattle.std.proofs.lemmas.Bool.Decides.{nat_tests}
+use Rattle.std.proofs.Common.{◌≡◌, ◌≢◌, ◌⊎◌, ℕ, List, [], ◌∷◌, ◌++◌, Option, Some, None, refl, sym, ap, ◌∙◌, subst, inl, inr}
+use Rattle.std.proofs.lemmas.Bool.{cases_eq}
 use Rattle.slab.specs.Slab.{Slab, get, Updates}
-use Rattle.chain_links.specs.Lists.{Among, without}
-use Rattle.chain_links.proofs.Chains.{among_left, among_right}
+use Rattle.chain_links.specs.Lists.{Among, Distinct, without}
+use Rattle.chain_links.proofs.Chains.{among_left, among_right, distinct_push}
+use Rattle.chain_links.proofs.Popped.{each_from}
 use Rattle.request_slots.specs.declared.wait.Wait.{Wait}
 use Rattle.request_slots.specs.Kept.{AreListed}
-use Rattle.request_slots.proofs.Heads.{among_gone}
+use Rattle.request_slots.proofs.Lists.{among_before, among_end, among_gone, among_without, distinct_without}
 
 same_wait : (v w : Wait) → Some v ≡ Some w → v ≡ w
 same_wait v w e = cc
@@ -20,36 +20,6 @@ no_name h e = cc
 
 same_name : {H : Type 0} (h k : H) → Some h ≡ Some k → h ≡ k
 same_name h k e = cc
-
-pub same_test : (x y : ℕ) → eqb x y ≡ true → x ≡ y
-same_test x y t = grind (arith, nat_tests)
-
--- a slot among others stays when another is taken out
-pub among_without : (x y : ℕ) (xs : List ℕ) → x ≢ y → Among x xs → Among x (without y xs)
-among_without x y [] ne m = m
-among_without x y (z ∷ zs) ne m = elim (cases_Bool (eqb y z)) [
-  | inl t ↦ rw t (elim m [
-    | inl same ↦ absurd (ne (same ∙ sym (same_test y z t)))
-    | inr later ↦ among_without x y zs ne later
-  ])
-  | inr f ↦ rw f (elim m [
-    | inl same ↦ inl same
-    | inr later ↦ inr (among_without x y zs ne later)
-  ])
-]
-
--- and those that are left were there
-pub among_before : (x y : ℕ) (xs : List ℕ) → Among x (without y xs) → Among x xs
-among_before x y [] m = m
-among_before x y (z ∷ zs) m = elim (cases_Bool (eqb y z)) [
-  | inl t ↦ inr (among_before x y zs (rw t at m))
-  | inr f ↦ (let k : Among x (z ∷ without y zs) = rw f at m in elim k [ inl same ↦ inl same | inr later ↦ inr (among_before x y zs later) ])
-]
-
--- one more at the end
-among_end : (x y : ℕ) (xs : List ℕ) → x ≢ y → Among x (xs ++ y ∷ []) → Among x xs
-among_end x y [] ne m = elim m [ inl same ↦ absurd (ne same) | inr none ↦ none ]
-among_end x y (z ∷ zs) ne m = elim m [ inl same ↦ inl same | inr later ↦ inr (among_end x y zs ne later) ]
 
 module _ {H : Type 0} (named : Wait → Option H) (old new : Slab Wait) (slot : ℕ) where
   -- a new slot whose wait names no list
@@ -68,6 +38,7 @@ module _ {H : Type 0} (named : Wait → Option H) (old new : Slab Wait) (slot : 
           | inl same ↦ absurd (no_wait o.0 (sym o.1 ∙ (ap (get old) same ∙ none)))
           | inr ne ↦ (o.0, up.others s ne ∙ o.1, o.2)
         ];
+    once = are.once;
   }
 
   -- a new slot at the end of the list that its wait names
@@ -105,6 +76,11 @@ module _ {H : Type 0} (named : Wait → Option H) (old new : Slab Wait) (slot : 
               let o = are.of_list s k before in
               (o.0, up.others s ne ∙ o.1, o.2)
         ];
+    once =
+        λ k. elim (each k) [
+          | inl p ↦ subst Distinct (sym p.0) (distinct_push slot (list k) (each_from (λ y. y ≢ slot) (list k) (λ y m same. let o = are.of_list y k m in no_wait o.0 (sym o.1 ∙ (ap (get old) same ∙ none)))) (are.once k))
+          | inr p ↦ subst Distinct (sym p) (are.once k)
+        ];
   }
 
   -- a slot that is given up
@@ -123,4 +99,5 @@ module _ {H : Type 0} (named : Wait → Option H) (old new : Slab Wait) (slot : 
           | inl same ↦ absurd (among_gone slot (list h) (subst (λ x. Among x (without slot (list h))) same left))
           | inr ne ↦ (o.0, up.others s ne ∙ o.1, o.2)
         ];
+    once = λ h. subst Distinct (sym (gone h)) (distinct_without slot (list h) (are.once h));
   }

@@ -1,26 +1,20 @@
 -- What the slots hold and where they stand, as requests begin to wait and leave, and ticks go by.
-use Rattle.std.proofs.Common.{◌≡◌, ◌≢◌, ◌⊎◌, ℕ, zero, suc, ◌+◌, ◌-◌, ◌<◌, ◌≤◌, Bool, true, false, cond, List, [], ◌∷◌, ◌++◌, length, drop, get_or, replicate, Option, Some, None, refl, sym, ap, ◌∙◌, subst, inl, inr, arith, eqb}
-use Rattle.std.specs.Prelude.{filter_map, slice_set, IfOk, IfSome, IsSome, Result, Ok, Err}
-use Rattle.std.specs.List.{Contains, cons_option}
-use Rattle.std.specs.Option.{option_map, option_map_or, option_and_then}
-use Rattle.std.proofs.lemmas.Bool.{cases_eq, cases_lt, cases_Bool, lt-ltb, le-ltb}
-use Rattle.std.proofs.lemmas.List.{length-set, length-map, length-replicate, ext_get_or, take_more, get_or-set_same, get_or-set_other}
-use Rattle.std.proofs.lemmas.List.Elements.{filter_map-append}
-use Rattle.std.proofs.Common.{eq-eqb, take}
-use Rattle.std.specs.Cmp.Lexicographic.{same_text}
+use Rattle.std.proofs.Common.{◌≡◌, ◌≢◌, ℕ, zero, suc, ◌+◌, ◌-◌, ◌<◌, ◌≤◌, List, [], ◌∷◌, ◌++◌, length, drop, get_or, replicate, Option, Some, None, refl, sym, ap, ◌∙◌, subst, inl, inr, arith}
+use Rattle.std.specs.Prelude.{slice_set, IfSome, IsSome}
+use Rattle.std.specs.Option.{option_map, option_and_then}
+use Rattle.std.proofs.lemmas.Bool.{cases_eq, cases_lt, lt-ltb, le-ltb}
+use Rattle.std.proofs.lemmas.List.{length-set, length-map, length-replicate, ext_get_or, get_or-set_same, get_or-set_other}
 use Rattle.std.proofs.Common.{length-append}
 use Rattle.std.proofs.Math.ListN.{get_or-map}
 use Rattle.slab.specs.Slab.{Slab, ContainsKey, get, Updates}
-use Rattle.std.specs.Map.{lookup}
-use Rattle.chain_links.specs.Lists.{Among, IsMember, LinksView, list_at, no_lists, pushed, unlinked, with_heads, without}
+use Rattle.chain_links.specs.Lists.{Among, Distinct, IsMember, LinksView, list_at, no_lists, pushed, unlinked, with_heads, without}
 use Rattle.slot_chains.specs.declared.family.Family.{Family}
-use Rattle.tick_wheel.specs.Wheel.{WheelView, due_after, armed, advanced, disarmed, IsArmed, lists_in, with_lists, with_slots}
+use Rattle.tick_wheel.specs.Wheel.{WheelView, due_after, armed, advanced, disarmed, IsArmed, with_lists, with_slots}
 use Rattle.request_slots.specs.declared.wait.Wait.{Wait}
-use Rattle.request_slots.specs.Waits.{AreWhere, wait_at, with_wait, waits_in}
-use Rattle.request_slots.specs.Cards.{AreHeads, card_eq, is_card, linked, list_if, list_of}
-use Rattle.request_slots.specs.Kept.{AreHeld, AreListed, IsKept, ahead_of, armed_by, slot_at}
-use Rattle.request_slots.proofs.Heads.{at_head, at_other, at_unlinked, card_alike}
-use Rattle.request_slots.proofs.Listing.{no_wait, same_test, less_listed, more_listed, more_unlisted}
+use Rattle.request_slots.specs.Waits.{wait_at, with_wait, held_waits}
+use Rattle.request_slots.specs.Kept.{AreHeld, AreListed, IsKept, ahead_of, armed_by, ending, linked, slot_at}
+use Rattle.request_slots.proofs.Lists.{at_head, at_other, at_unlinked}
+use Rattle.request_slots.proofs.Listing.{no_wait, less_listed, more_listed, more_unlisted}
 
 same_slot : (x y : ℕ) → Some x ≡ Some y → x ≡ y
 same_slot x y e = cc
@@ -33,7 +27,7 @@ none_some x e = cc
 
 -- ---- places and their slots
 
-pub at_in : (slab : Slab Wait) (slots : List (Option ℕ)) (place : ℕ) → wait_at (waits_in slab slots) place ≡ option_and_then (get slab) (slot_at slots place)
+pub at_in : (slab : Slab Wait) (slots : List (Option ℕ)) (place : ℕ) → wait_at (held_waits slab slots) place ≡ option_and_then (get slab) (slot_at slots place)
 at_in slab slots place = get_or-map (λ slot. option_and_then (get slab) slot) slots place None
 
 -- a place more
@@ -49,7 +43,7 @@ held_more slab slots h = record {
   placed = λ slot w e. empty_place slots w.place ∙ h.placed slot w e;
 }
 
-pub waits_more : (slab : Slab Wait) (slots : List (Option ℕ)) → waits_in slab (slots ++ None ∷ []) ≡ waits_in slab slots ++ None ∷ []
+pub waits_more : (slab : Slab Wait) (slots : List (Option ℕ)) → held_waits slab (slots ++ None ∷ []) ≡ held_waits slab slots ++ None ∷ []
 waits_more slab [] = refl
 waits_more slab (s ∷ slots) = ap (λ ws. option_and_then (get slab) s ∷ ws) (waits_more slab slots)
 
@@ -137,77 +131,8 @@ pub buckets_turned : (wheel : WheelView Wait) (count : ℕ) → AreListed wheel.
 buckets_turned wheel count h = record {
   listed = λ slot w a e is. subst (Among slot) (sym (turned_at wheel.waiting a)) (h.listed slot w (suc a) e (ahead_before count a w.due is));
   of_list = λ slot a m. let o = h.of_list slot (suc a) (subst (Among slot) (turned_at wheel.waiting a) m) in (o.0, o.1, ahead_later count a o.0.due o.2);
+  once = λ a. subst Distinct (sym (turned_at wheel.waiting a)) (h.once (suc a));
 }
-
--- ---- the places of some slots
-
-pub among_contains : {A : Type 0} (f : ℕ → Option A) (x : A) (slot : ℕ) (slots : List ℕ) → Among slot slots → f slot ≡ Some x → Contains (filter_map f slots) x
-among_contains f x slot [] m e = absurd m
-among_contains {A} f x slot (s ∷ slots) m e = elim m [
-  | inl same ↦ here (f s) (ap f (sym same) ∙ e)
-  | inr later ↦ behind (f s) (among_contains f x slot slots later e)
-]
-  where
-    here : (o : Option A) → o ≡ Some x → Contains (cons_option o (filter_map f slots)) x
-    here None is = absurd cc
-    here (Some y) is = (0, omega arith, let same : y ≡ x = cc in same)
-
-    behind : (o : Option A) → Contains (filter_map f slots) x → Contains (cons_option o (filter_map f slots)) x
-    behind None c = c
-    behind (Some y) c = (suc c.0, omega (arith, c.1), c.2)
-
-abbrev IsFound : {A : Type 0} → (ℕ → Option A) → A → List ℕ → Type 0
-IsFound f x slots = (slot : ℕ) × Among slot slots × (f slot ≡ Some x)
-
-pub contains_among : {A : Type 0} (f : ℕ → Option A) (x : A) (slots : List ℕ) → Contains (filter_map f slots) x → IsFound f x slots
-contains_among f x [] c = absurd (omega (arith, c.1))
-contains_among {A} f x (s ∷ slots) c = go (f s) refl (contains_among f x slots) c
-  where
-    go : (o : Option A) → f s ≡ o → (Contains (filter_map f slots) x → IsFound f x slots) → Contains (cons_option o (filter_map f slots)) x → IsFound f x (s ∷ slots)
-    go None is rest d = let r = rest d in (r.0, inr r.1, r.2)
-    go (Some y) is rest (zero, lt, same) = (s, inl refl, is ∙ ap Some same)
-    go (Some y) is rest (suc k, lt, same) = let r = rest (k, omega (arith, lt), same) in (r.0, inr r.1, r.2)
-
--- the place whose wait is in a slot
-abbrev pub place_in : Slab Wait → ℕ → Option ℕ
-place_in slab slot = option_map (λ (w : Wait). w.place) (get slab slot)
-
-pub more_places : (slab : Slab Wait) (slots : List ℕ) (i slot : ℕ) → i < length slots → slot ≡ get_or slots i slot → filter_map (place_in slab) (take (i + 1) slots) ≡ filter_map (place_in slab) (take i slots) ++ filter_map (place_in slab) (slot ∷ [])
-more_places slab slots i slot lt is =
-    ap (filter_map (place_in slab)) (take_more slots i slot lt)
-    ∙ (filter_map-append (place_in slab) (take i slots) (get_or slots i slot ∷ [])
-    ∙ ap (λ z. filter_map (place_in slab) (take i slots) ++ filter_map (place_in slab) (z ∷ [])) (sym is))
-
-pub one_place : (slab : Slab Wait) (slot place : ℕ) → Some place ≡ place_in slab slot → filter_map (place_in slab) (slot ∷ []) ≡ place ∷ []
-one_place slab slot place is = rw (← is) refl
-
-pub no_more : (slab : Slab Wait) (slot : ℕ) → None ≡ place_in slab slot → filter_map (place_in slab) (slot ∷ []) ≡ []
-no_more slab slot none = rw (← none) refl
-
--- the places of the slots in a list are those whose waits name it
-pub where_listed : {H : Type 0} (named : Wait → Option H) (passes : Wait → Bool) (h : H) (list : H → List ℕ) (slab : Slab Wait) (slots : List (Option ℕ)) → AreHeld slab slots → AreListed slab named list
-    → ((w : Wait) → passes w ≡ true → named w ≡ Some h) → ((w : Wait) → named w ≡ Some h → passes w ≡ true)
-    → AreWhere passes (waits_in slab slots) (filter_map (place_in slab) (list h))
-where_listed named passes h list slab slots held listed to from = record {
-  all =
-      λ place w e passed.
-      let at : option_and_then (get slab) (slot_at slots place) ≡ Some w = sym (at_in slab slots place) ∙ e in
-      let s = a_slot (slot_at slots place) w at in
-      let o = held.held place s.0 s.1 in
-      let same : o.0 ≡ w = same_wait o.0 w (sym o.1 ∙ s.2) in
-      among_contains (place_in slab) place s.0 (list h) (listed.listed s.0 w h s.2 (to w passed)) (ap (option_map (λ (v : Wait). v.place)) o.1 ∙ ap Some o.2);
-  none_else =
-      λ place c.
-      let r = contains_among (place_in slab) place (list h) c in
-      let o = listed.of_list r.0 h r.1 in
-      let is : o.0.place ≡ place = same_slot o.0.place place (sym (ap (option_map (λ (v : Wait). v.place)) o.1) ∙ r.2) in
-      let at = held.placed r.0 o.0 o.1 in
-      (o.0, at_in slab slots place ∙ (ap (λ k. option_and_then (get slab) (slot_at slots k)) (sym is) ∙ (ap (option_and_then (get slab)) at ∙ o.1)), from o.0 o.2);
-}
-  where
-    a_slot : (o : Option ℕ) (w : Wait) → option_and_then (get slab) o ≡ Some w → (slot : ℕ) × (o ≡ Some slot) × (get slab slot ≡ Some w)
-    a_slot None w e = absurd cc
-    a_slot (Some slot) w e = (slot, refl, e)
 
 -- ---- all together
 
@@ -230,23 +155,18 @@ none_listed : {H : Type 0} (named : Wait → Option H) (list : H → List ℕ) (
 none_listed named list slab none empty = record {
   listed = λ slot w h e is. absurd (no_wait w (sym e ∙ no_slot slab slot none));
   of_list = λ slot h m. absurd (subst (Among slot) (empty h) m);
+  once = λ h. subst Distinct (sym (empty h)) tt;
 }
 
 -- no request waits
-pub kept_none : (wheel : WheelView Wait) → wheel.slots.slots ≡ [] → wheel.waiting ≡ replicate 4096 [] → wheel.card ≡ no_lists → wheel.link ≡ no_lists → IsKept (with_lists wheel Family.Link (with_heads (lists_in wheel Family.Link) 256)) [] [] [] 0
+pub kept_none : (wheel : WheelView Wait) → wheel.slots.slots ≡ [] → wheel.waiting ≡ replicate 4096 [] → wheel.card ≡ no_lists → wheel.link ≡ no_lists
+    → IsKept (with_lists (with_lists wheel Family.Link (with_heads wheel.link 256)) Family.Card (with_heads wheel.card 1000)) [] 0
 kept_none wheel none waiting card link = record {
   slots_held = record { held = λ place slot e. absurd (none_some slot (sym e ∙ no_place place)); placed = λ slot w e. absurd (no_wait w (sym e ∙ no_slot wheel.slots slot none)) };
   all_buckets = ap length waiting ∙ length-replicate {A = List ℕ} 4096 [];
   buckets = none_listed (λ w. ahead_of 0 w.due) (due_after wheel) wheel.slots none (λ a. ap (λ (xs : List (List ℕ)). get_or xs a []) waiting ∙ no_list 4096 a);
   links = none_listed (λ w. w.link) (list_at (with_heads wheel.link 256)) wheel.slots none (λ l. ap (λ (v : LinksView). list_at (with_heads v 256) l) link ∙ no_list 256 l);
-  cards = none_listed (λ w. w.card) (list_of [] wheel.card) wheel.slots none (λ card'. refl);
-  card_heads = record {
-    used = λ card' head e. absurd cc;
-    apart = λ card' other head e f. absurd cc;
-    empty = λ head m. absurd m;
-    once = tt;
-    whole = λ head lt. absurd (let lt' : head < 0 = subst (λ (v : LinksView). head < length v.lists) card lt in omega (arith, lt'));
-  };
+  cards = none_listed (λ w. option_map ending w.card) (list_at (with_heads wheel.card 1000)) wheel.slots none (λ l. ap (λ (v : LinksView). list_at (with_heads v 1000) l) card ∙ no_list 1000 l);
 }
   where
     no_place : (k : ℕ) → slot_at [] k ≡ None
@@ -254,54 +174,28 @@ kept_none wheel none waiting card link = record {
     no_place (suc k) = refl
 
 -- one place more
-pub kept_place : (wheel : WheelView Wait) (slots : List (Option ℕ)) (heads : List (List ℕ × ℕ)) (free : List ℕ) (count : ℕ) → IsKept wheel slots heads free count → IsKept wheel (slots ++ None ∷ []) heads free count
-kept_place wheel slots heads free count k = record {
+pub kept_place : (wheel : WheelView Wait) (slots : List (Option ℕ)) (count : ℕ) → IsKept wheel slots count → IsKept wheel (slots ++ None ∷ []) count
+kept_place wheel slots count k = record {
   slots_held = held_more wheel.slots slots k.slots_held;
   all_buckets = k.all_buckets;
   buckets = k.buckets;
   links = k.links;
   cards = k.cards;
-  card_heads = k.card_heads;
 }
 
 -- a tick later
-pub kept_turned : (wheel : WheelView Wait) (slots : List (Option ℕ)) (heads : List (List ℕ × ℕ)) (free : List ℕ) (count : ℕ) → IsKept wheel slots heads free count → IsKept (advanced wheel) slots heads free (count + 1)
-kept_turned wheel slots heads free count k = let one : suc count ≡ count + 1 = omega arith in subst (IsKept (advanced wheel) slots heads free) one (record {
+pub kept_turned : (wheel : WheelView Wait) (slots : List (Option ℕ)) (count : ℕ) → IsKept wheel slots count → IsKept (advanced wheel) slots (count + 1)
+kept_turned wheel slots count k = let one : suc count ≡ count + 1 = omega arith in subst (IsKept (advanced wheel) slots) one (record {
   slots_held = k.slots_held;
   all_buckets = turned_length wheel.waiting k.all_buckets;
   buckets = buckets_turned wheel count k.buckets;
   links = k.links;
   cards = k.cards;
-  card_heads = k.card_heads;
 })
   where
     turned_length : (ws : List (List ℕ)) → length ws ≡ 4096 → length (drop 1 ws ++ [] ∷ []) ≡ 4096
     turned_length [] e = absurd (omega (arith, e))
     turned_length (w ∷ ws) e = length-append ws ([] ∷ []) ∙ omega (arith, e)
-
--- a slot that is in the list of no card is a member of none
-carded : (heads : List (List ℕ × ℕ)) (free : List ℕ) (wheel : WheelView Wait) (slot : ℕ) → AreHeads heads free wheel.card → IsMember wheel.card slot → ((c : List ℕ) → Among slot (list_of heads wheel.card c) → ⊥) → ⊥
-carded heads free wheel slot fit m none = go (cases_lt m.0 (length wheel.card.lists))
-  where
-    in_head : (h : ℕ) → Among slot (list_at wheel.card h) → Among h free ⊎ ((c : List ℕ) × (lookup (card_eq c) heads ≡ Some h)) → ⊥
-    in_head h among (inl f) = subst (Among slot) (fit.empty h f).1 among
-    in_head h among (inr u) = none u.0 (subst (λ o. Among slot (list_if wheel.card o)) (sym u.1) among)
-
-    go : (m.0 < length wheel.card.lists) ⊎ (length wheel.card.lists ≤ m.0) → ⊥
-    go (inl lt) = in_head m.0 m.1 (fit.whole m.0 lt)
-    go (inr le) = subst (Among slot) (past_all wheel.card.lists m.0 le) m.1
-
--- a slot whose wait has no card is in the list of none
-pub cardless : (heads : List (List ℕ × ℕ)) (free : List ℕ) (wheel : WheelView Wait) (slot : ℕ) (w : Wait) → AreHeads heads free wheel.card → AreListed wheel.slots (λ v. v.card) (list_of heads wheel.card)
-    → get wheel.slots slot ≡ Some w → w.card ≡ None → IsMember wheel.card slot → ⊥
-cardless heads free wheel slot w fit listed is none m =
-    carded heads free wheel slot fit m
-    (λ c among.
-    let o = listed.of_list slot c among in
-    no_card c (sym o.2 ∙ (ap (λ (v : Wait). v.card) (same_wait o.0 w (sym o.1 ∙ is)) ∙ none)))
-  where
-    no_card : (c : List ℕ) → Some c ≡ None → ⊥
-    no_card c e = cc
 
 -- ---- lists that are the same, over slots that hold the same
 
@@ -309,6 +203,7 @@ listed_as : {H : Type 0} (named : Wait → Option H) (old new : Slab Wait) (list
 listed_as named old new list now same is a = record {
   listed = λ slot w h e n. subst (Among slot) (sym (is h)) (a.listed slot w h (sym (same slot) ∙ e) n);
   of_list = λ slot h m. let o = a.of_list slot h (subst (Among slot) (is h) m) in (o.0, same slot ∙ o.1, o.2);
+  once = λ h. subst Distinct (sym (is h)) (a.once h);
 }
 
 held_as : (old new : Slab Wait) (slots : List (Option ℕ)) → ((slot : ℕ) → get new slot ≡ get old slot) → AreHeld old slots → AreHeld new slots
@@ -318,54 +213,40 @@ held_as old new slots same h = record {
 }
 
 -- room for more slots
-pub kept_roomier : (wheel : WheelView Wait) (slab : Slab Wait) (slots : List (Option ℕ)) (heads : List (List ℕ × ℕ)) (free : List ℕ) (count : ℕ) → ((slot : ℕ) → get slab slot ≡ get wheel.slots slot) → IsKept wheel slots heads free count
-    → IsKept (with_slots wheel slab) slots heads free count
-kept_roomier wheel slab slots heads free count same k = record {
+pub kept_roomier : (wheel : WheelView Wait) (slab : Slab Wait) (slots : List (Option ℕ)) (count : ℕ) → ((slot : ℕ) → get slab slot ≡ get wheel.slots slot) → IsKept wheel slots count → IsKept (with_slots wheel slab) slots count
+kept_roomier wheel slab slots count same k = record {
   slots_held = held_as wheel.slots slab slots same k.slots_held;
   all_buckets = k.all_buckets;
   buckets = listed_as (λ w. ahead_of count w.due) wheel.slots slab (due_after wheel) (due_after wheel) same (λ a. refl) k.buckets;
   links = listed_as (λ w. w.link) wheel.slots slab (list_at wheel.link) (list_at wheel.link) same (λ l. refl) k.links;
-  cards = listed_as (λ w. w.card) wheel.slots slab (list_of heads wheel.card) (list_of heads (with_slots wheel slab).card) same (λ c. list_over (lookup (card_eq c) heads)) k.cards;
-  card_heads = heads_over k.card_heads;
-}
-  where
-    list_over : (o : Option ℕ) → list_if (with_slots wheel slab).card o ≡ list_if wheel.card o
-    list_over None = refl
-    list_over (Some h) = refl
-
-    heads_over : AreHeads heads free wheel.card → AreHeads heads free (with_slots wheel slab).card
-    heads_over a = record { used = a.used; apart = a.apart; empty = a.empty; once = a.once; whole = a.whole }
-
--- other heads of cards, with the same lists
-pub kept_heads : (wheel : WheelView Wait) (card : LinksView) (slots : List (Option ℕ)) (heads heads' : List (List ℕ × ℕ)) (free free' : List ℕ) (count : ℕ) → AreHeads heads' free' card → ((c : List ℕ) → list_of heads' card c ≡ list_of heads wheel.card c)
-    → IsKept wheel slots heads free count → IsKept (record wheel { card = card }) slots heads' free' count
-kept_heads wheel card slots heads heads' free free' count fit same k = record {
-  slots_held = k.slots_held;
-  all_buckets = k.all_buckets;
-  buckets = k.buckets;
-  links = k.links;
-  cards = listed_as (λ w. w.card) wheel.slots wheel.slots (list_of heads wheel.card) (list_of heads' card) (λ slot. refl) same k.cards;
-  card_heads = fit;
+  cards = listed_as (λ w. option_map ending w.card) wheel.slots slab (list_at wheel.card) (list_at wheel.card) same (λ l. refl) k.cards;
 }
 
 -- a request begins to wait
-pub kept_enter : (wheel new : WheelView Wait) (slots : List (Option ℕ)) (heads heads' : List (List ℕ × ℕ)) (free free' : List ℕ) (count slot : ℕ) (w : Wait) → IsKept wheel slots heads free count → get wheel.slots slot ≡ None → Updates wheel.slots new.slots slot (Some w)
+pub kept_enter : (wheel new : WheelView Wait) (slots : List (Option ℕ)) (count slot : ℕ) (w : Wait) → IsKept wheel slots count → get wheel.slots slot ≡ None → Updates wheel.slots new.slots slot (Some w)
     → w.place < length slots → slot_at slots w.place ≡ None → IfSome w.due (λ due. (count < due) × (due ≤ count + 4000)) → IfSome w.link (λ l. l < length wheel.link.lists)
-    → new.waiting ≡ (armed_by wheel slot count w.due).waiting → new.link ≡ linked wheel.link w.link slot
-    → ((c : List ℕ) → list_of heads' new.card c ≡ cond (is_card w.card c) (list_of heads wheel.card c ++ slot ∷ []) (list_of heads wheel.card c)) → AreHeads heads' free' new.card
-    → IsKept new (slice_set slots w.place (Some slot)) heads' free' count
-kept_enter wheel new slots heads heads' free free' count slot w k none up within empty due link waiting links cards fit = record {
+    → IfSome w.card (λ c. ending c < length wheel.card.lists)
+    → new.waiting ≡ (armed_by wheel slot count w.due).waiting → new.link ≡ linked wheel.link w.link slot → new.card ≡ linked wheel.card (option_map ending w.card) slot
+    → IsKept new (slice_set slots w.place (Some slot)) count
+kept_enter wheel new slots count slot w k none up within empty due link card waiting links cards = record {
   slots_held = held_enter wheel.slots new.slots slots slot w k.slots_held none up within empty;
   all_buckets = ap length waiting ∙ armed_length w.due;
   buckets = listed_as (λ v. ahead_of count v.due) new.slots new.slots (λ a. get_or (armed_by wheel slot count w.due).waiting a []) (due_after new) (λ s. refl) (λ a. ap (λ (ws : List (List ℕ)). get_or ws a []) waiting) (in_buckets w.due refl due);
-  links = listed_as (λ v. v.link) new.slots new.slots (list_at (linked wheel.link w.link slot)) (list_at new.link) (λ s. refl) (λ l. ap (λ (v : LinksView). list_at v l) links) (in_links w.link refl link);
-  cards = in_cards w.card refl cards;
-  card_heads = fit;
+  links = in_lists (λ v. v.link) wheel.link new.link w.link refl (λ h e. small_link w.link h link e) k.links links;
+  cards = in_lists (λ v. option_map ending v.card) wheel.card new.card (option_map ending w.card) refl (λ h e. small ending (length wheel.card.lists) h w.card card e) k.cards cards;
 }
   where
     armed_length : (o : Option ℕ) → length (armed_by wheel slot count o).waiting ≡ 4096
     armed_length None = k.all_buckets
     armed_length (Some d) = length-set wheel.waiting (d - count - 1) (due_after wheel (d - count - 1) ++ slot ∷ []) ∙ k.all_buckets
+
+    small : {X : Type 0} (f : X → ℕ) (n h : ℕ) (o : Option X) → IfSome o (λ x. f x < n) → option_map f o ≡ Some h → h < n
+    small f n h None few e = absurd (none_some h (sym e))
+    small f n h (Some x) few e = subst (λ j. j < n) (same_slot (f x) h e) few
+
+    small_link : (o : Option ℕ) (h : ℕ) → IfSome o (λ l. l < length wheel.link.lists) → o ≡ Some h → h < length wheel.link.lists
+    small_link None h few e = absurd (none_some h (sym e))
+    small_link (Some l) h few e = subst (λ j. j < length wheel.link.lists) (same_slot l h e) few
 
     in_buckets : (o : Option ℕ) → w.due ≡ o → IfSome o (λ d. (count < d) × (d ≤ count + 4000)) → AreListed new.slots (λ v. ahead_of count v.due) (λ a. get_or (armed_by wheel slot count o).waiting a [])
     in_buckets None is f = more_unlisted (λ v. ahead_of count v.due) wheel.slots new.slots slot w (due_after wheel) k.buckets none up (ap (ahead_of count) is)
@@ -380,87 +261,37 @@ kept_enter wheel new slots heads heads' free free' count slot w k none up within
           | inr ne ↦ inr (get_or-set_other wheel.waiting a b (due_after wheel a ++ slot ∷ []) [] ne)
         ])
 
-    in_links : (o : Option ℕ) → w.link ≡ o → IfSome o (λ l. l < length wheel.link.lists) → AreListed new.slots (λ v. v.link) (list_at (linked wheel.link o slot))
-    in_links None is f = more_unlisted (λ v. v.link) wheel.slots new.slots slot w (list_at wheel.link) k.links none up is
-    in_links (Some l) is f =
-        more_listed (λ v. v.link) wheel.slots new.slots slot w l (list_at wheel.link) (list_at (pushed wheel.link l slot)) k.links none up is (at_head wheel.link l slot f)
-        (λ b. elim (cases_eq b l) [
-          | inl same ↦ inl (subst (λ j. list_at (pushed wheel.link l slot) j ≡ list_at wheel.link j ++ slot ∷ []) (sym same) (at_head wheel.link l slot f), same)
-          | inr ne ↦ inr (at_other wheel.link l slot b ne)
-        ])
-
-    in_cards : (o : Option (List ℕ)) → w.card ≡ o → ((c : List ℕ) → list_of heads' new.card c ≡ cond (is_card o c) (list_of heads wheel.card c ++ slot ∷ []) (list_of heads wheel.card c)) → AreListed new.slots (λ v. v.card) (list_of heads' new.card)
-    in_cards None is each = listed_as (λ v. v.card) new.slots new.slots (list_of heads wheel.card) (list_of heads' new.card) (λ s. refl) each (more_unlisted (λ v. v.card) wheel.slots new.slots slot w (list_of heads wheel.card) k.cards none up is)
-    in_cards (Some c) is each =
-        more_listed (λ v. v.card) wheel.slots new.slots slot w c (list_of heads wheel.card) (list_of heads' new.card) k.cards none up is
-        (each c ∙ ap (λ b. cond b (list_of heads wheel.card c ++ slot ∷ []) (list_of heads wheel.card c)) (card_alike c))
-        (λ b. elim (cases_Bool (card_eq c b)) [
-          | inl t ↦ inl (each b ∙ ap (λ x. cond x (list_of heads wheel.card b ++ slot ∷ []) (list_of heads wheel.card b)) t, sym (same_text c b (sym t)))
-          | inr f ↦ inr (each b ∙ ap (λ x. cond x (list_of heads wheel.card b ++ slot ∷ []) (list_of heads wheel.card b)) f)
-        ])
+    in_lists : (named : Wait → Option ℕ) (l now : LinksView) (o : Option ℕ) → named w ≡ o → ((h : ℕ) → o ≡ Some h → h < length l.lists) → AreListed wheel.slots named (list_at l) → now ≡ linked l o slot → AreListed new.slots named (list_at now)
+    in_lists named l now None is f a e = listed_as named new.slots new.slots (list_at l) (list_at now) (λ s. refl) (λ h. ap (λ (v : LinksView). list_at v h) e) (more_unlisted named wheel.slots new.slots slot w (list_at l) a none up is)
+    in_lists named l now (Some g) is f a e =
+        listed_as named new.slots new.slots (list_at (pushed l g slot)) (list_at now) (λ s. refl) (λ h. ap (λ (v : LinksView). list_at v h) e)
+        (more_listed named wheel.slots new.slots slot w g (list_at l) (list_at (pushed l g slot)) a none up is (at_head l g slot (f g refl))
+        (λ b. elim (cases_eq b g) [
+          | inl same ↦ inl (subst (λ j. list_at (pushed l g slot) j ≡ list_at l j ++ slot ∷ []) (sym same) (at_head l g slot (f g refl)), same)
+          | inr ne ↦ inr (at_other l g slot b ne)
+        ]))
 
 -- a request waits no longer
-pub kept_leave : (wheel new : WheelView Wait) (slots : List (Option ℕ)) (heads heads' : List (List ℕ × ℕ)) (free free' : List ℕ) (count place slot : ℕ) → IsKept wheel slots heads free count → slot_at slots place ≡ Some slot → place < length slots
-    → Updates wheel.slots new.slots slot None → new.waiting ≡ (disarmed wheel slot).waiting → new.link ≡ unlinked wheel.link slot → ((c : List ℕ) → list_of heads' new.card c ≡ without slot (list_of heads wheel.card c)) → AreHeads heads' free' new.card
-    → IsKept new (slice_set slots place None) heads' free' count
-kept_leave wheel new slots heads heads' free free' count place slot k at within up waiting links cards fit = record {
+pub kept_leave : (wheel new : WheelView Wait) (slots : List (Option ℕ)) (count place slot : ℕ) → IsKept wheel slots count → slot_at slots place ≡ Some slot → place < length slots → Updates wheel.slots new.slots slot None
+    → new.waiting ≡ (disarmed wheel slot).waiting → new.link ≡ unlinked wheel.link slot → new.card ≡ unlinked wheel.card slot → IsKept new (slice_set slots place None) count
+kept_leave wheel new slots count place slot k at within up waiting links cards = record {
   slots_held = held_leave wheel.slots new.slots slots place slot k.slots_held at up within;
   all_buckets = ap length waiting ∙ (length-map wheel.waiting (without slot) ∙ k.all_buckets);
   buckets = less_listed (λ v. ahead_of count v.due) wheel.slots new.slots slot (due_after wheel) (due_after new) k.buckets up (λ a. ap (λ (ws : List (List ℕ)). get_or ws a []) waiting ∙ get_or-map (without slot) wheel.waiting a []);
   links = less_listed (λ v. v.link) wheel.slots new.slots slot (list_at wheel.link) (list_at new.link) k.links up (λ l. ap (λ (v : LinksView). list_at v l) links ∙ at_unlinked wheel.link slot l);
-  cards = less_listed (λ v. v.card) wheel.slots new.slots slot (list_of heads wheel.card) (list_of heads' new.card) k.cards up cards;
-  card_heads = fit;
+  cards = less_listed (λ v. option_map ending v.card) wheel.slots new.slots slot (list_at wheel.card) (list_at new.card) k.cards up (λ l. ap (λ (v : LinksView). list_at v l) cards ∙ at_unlinked wheel.card slot l);
 }
-
--- ---- what is due next
-
--- due at the next tick, and with no tick before it
-pub due_to : (count : ℕ) (due : Option ℕ) → option_map_or (λ d. eqb d (suc count)) due false ≡ true → ahead_of count due ≡ Some 0
-due_to count None e = absurd cc
-due_to count (Some d) e =
-    let is : d ≡ suc count = same_test d (suc count) e in
-    rw (is, lt-ltb count (suc count) (omega arith)) (ap Some (omega arith))
-
-pub due_from : (count : ℕ) (due : Option ℕ) → ahead_of count due ≡ Some 0 → option_map_or (λ d. eqb d (suc count)) due false ≡ true
-due_from count None e = absurd (none_some 0 (sym e))
-due_from count (Some d) e = elim (cases_lt count d) [
-  | inl lt ↦
-      let zero_is : d - suc count ≡ 0 = same_slot (d - suc count) 0 (rw (lt-ltb count d lt) at e) in
-      let is : d ≡ suc count = omega (arith, lt, zero_is) in
-      rw is (eq-eqb (suc count) (suc count) refl)
-  | inr le ↦ absurd (none_some 0 (sym (rw (le-ltb count d le) at e)))
-]
-
-pub where_places : {V E : Type 0} (items : V → List ℕ) (passes : Wait → Bool) (waits : List (Option Wait)) (places : List ℕ) (r : Result V E) → IfOk r (λ v. items v ≡ places) → AreWhere passes waits places → IfOk r (λ v. AreWhere passes waits (items v))
-where_places items passes waits places (Ok v) e w = subst (AreWhere passes waits) (sym e) w
-where_places items passes waits places (Err x) e w = tt
-
-pub link_to : (l : ℕ) (link : Option ℕ) → option_map_or (λ own. eqb own l) link false ≡ true → link ≡ Some l
-link_to l None e = absurd cc
-link_to l (Some own) e = ap Some (same_test own l e)
-
-pub link_from : (l : ℕ) (link : Option ℕ) → link ≡ Some l → option_map_or (λ own. eqb own l) link false ≡ true
-link_from l None e = absurd (none_some l (sym e))
-link_from l (Some own) e = rw (same_slot own l e) (eq-eqb l l refl)
-
-pub card_to : (c : List ℕ) (card : Option (List ℕ)) → option_map_or (λ own. card_eq own c) card false ≡ true → card ≡ Some c
-card_to c None e = absurd cc
-card_to c (Some own) e = ap Some (same_text own c (sym e))
-
-pub card_from : (c : List ℕ) (card : Option (List ℕ)) → card ≡ Some c → option_map_or (λ own. card_eq own c) card false ≡ true
-card_from c None e = absurd cc
-card_from c (Some own) e = (let same : own ≡ c = cc in rw same (card_alike c))
 
 -- ---- a slot that holds nothing is in no list
 
-pub none_armed : (wheel : WheelView Wait) (slots : List (Option ℕ)) (heads : List (List ℕ × ℕ)) (free : List ℕ) (count slot : ℕ) → IsKept wheel slots heads free count → get wheel.slots slot ≡ None → IsArmed wheel slot → ⊥
-none_armed wheel slots heads free count slot k none m = let o = k.buckets.of_list slot m.0 m.1 in no_wait o.0 (sym o.1 ∙ none)
+pub none_armed : (wheel : WheelView Wait) (slots : List (Option ℕ)) (count slot : ℕ) → IsKept wheel slots count → get wheel.slots slot ≡ None → IsArmed wheel slot → ⊥
+none_armed wheel slots count slot k none m = let o = k.buckets.of_list slot m.0 m.1 in no_wait o.0 (sym o.1 ∙ none)
 
-pub none_linked : (wheel : WheelView Wait) (slots : List (Option ℕ)) (heads : List (List ℕ × ℕ)) (free : List ℕ) (count slot : ℕ) → IsKept wheel slots heads free count → get wheel.slots slot ≡ None → IsMember wheel.link slot → ⊥
-none_linked wheel slots heads free count slot k none m = let o = k.links.of_list slot m.0 m.1 in no_wait o.0 (sym o.1 ∙ none)
+pub none_linked : (wheel : WheelView Wait) (slots : List (Option ℕ)) (count slot : ℕ) → IsKept wheel slots count → get wheel.slots slot ≡ None → IsMember wheel.link slot → ⊥
+none_linked wheel slots count slot k none m = let o = k.links.of_list slot m.0 m.1 in no_wait o.0 (sym o.1 ∙ none)
 
-pub none_carded : (wheel : WheelView Wait) (slots : List (Option ℕ)) (heads : List (List ℕ × ℕ)) (free : List ℕ) (count slot : ℕ) → IsKept wheel slots heads free count → get wheel.slots slot ≡ None → IsMember wheel.card slot → ⊥
-none_carded wheel slots heads free count slot k none m = carded heads free wheel slot k.card_heads m (λ c among. let o = k.cards.of_list slot c among in no_wait o.0 (sym o.1 ∙ none))
+pub none_carded : (wheel : WheelView Wait) (slots : List (Option ℕ)) (count slot : ℕ) → IsKept wheel slots count → get wheel.slots slot ≡ None → IsMember wheel.card slot → ⊥
+none_carded wheel slots count slot k none m = let o = k.cards.of_list slot m.0 m.1 in no_wait o.0 (sym o.1 ∙ none)
 
 -- what arming leaves as it is
 pub armed_slots : (wheel : WheelView Wait) (slot count : ℕ) (due : Option ℕ) → (armed_by wheel slot count due).slots ≡ wheel.slots
@@ -489,7 +320,7 @@ linked_length l (Some head) slot = length-set l.lists head (list_at l head ++ sl
 
 -- ---- what is seen of it
 
-pub no_slot_at : (slab : Slab Wait) (slots : List (Option ℕ)) (place : ℕ) → AreHeld slab slots → wait_at (waits_in slab slots) place ≡ None → slot_at slots place ≡ None
+pub no_slot_at : (slab : Slab Wait) (slots : List (Option ℕ)) (place : ℕ) → AreHeld slab slots → wait_at (held_waits slab slots) place ≡ None → slot_at slots place ≡ None
 no_slot_at slab slots place held none = go (slot_at slots place) refl
   where
     go : (o : Option ℕ) → slot_at slots place ≡ o → o ≡ None
@@ -498,41 +329,41 @@ no_slot_at slab slots place held none = go (slot_at slots place) refl
         let w = held.held place slot e in
         absurd (no_wait w.0 (sym w.1 ∙ (sym (ap (option_and_then (get slab)) e) ∙ (sym (at_in slab slots place) ∙ none))))
 
-pub waits_length : (slab : Slab Wait) (slots : List (Option ℕ)) → length (waits_in slab slots) ≡ length slots
+pub waits_length : (slab : Slab Wait) (slots : List (Option ℕ)) → length (held_waits slab slots) ≡ length slots
 waits_length slab slots = length-map slots (λ slot. option_and_then (get slab) slot)
 
 pub waits_enter : (old new : Slab Wait) (slots : List (Option ℕ)) (slot : ℕ) (w : Wait) → AreHeld old slots → get old slot ≡ None → Updates old new slot (Some w) → w.place < length slots
-    → waits_in new (slice_set slots w.place (Some slot)) ≡ with_wait (waits_in old slots) w.place (Some w)
+    → held_waits new (slice_set slots w.place (Some slot)) ≡ with_wait (held_waits old slots) w.place (Some w)
 waits_enter old new slots slot w held none up within =
     let n = length-set slots w.place (Some slot) in
-    let m = length-set (waits_in old slots) w.place (Some w) in
-    ext_get_or None (waits_in new (slice_set slots w.place (Some slot))) (with_wait (waits_in old slots) w.place (Some w)) (waits_length new (slice_set slots w.place (Some slot)) ∙ (n ∙ sym (m ∙ waits_length old slots))) at
+    let m = length-set (held_waits old slots) w.place (Some w) in
+    ext_get_or None (held_waits new (slice_set slots w.place (Some slot))) (with_wait (held_waits old slots) w.place (Some w)) (waits_length new (slice_set slots w.place (Some slot)) ∙ (n ∙ sym (m ∙ waits_length old slots))) at
   where
     other : (o : Option ℕ) (k : ℕ) → slot_at slots k ≡ o → option_and_then (get new) o ≡ option_and_then (get old) o
     other None k e = refl
     other (Some s) k e = let h = held.held k s e in up.others s (λ same. no_wait h.0 (sym h.1 ∙ (ap (get old) same ∙ none)))
 
-    at : (k : ℕ) → k < length (waits_in new (slice_set slots w.place (Some slot))) → get_or (waits_in new (slice_set slots w.place (Some slot))) k None ≡ get_or (with_wait (waits_in old slots) w.place (Some w)) k None
+    at : (k : ℕ) → k < length (held_waits new (slice_set slots w.place (Some slot))) → get_or (held_waits new (slice_set slots w.place (Some slot))) k None ≡ get_or (with_wait (held_waits old slots) w.place (Some w)) k None
     at k lt = elim (cases_eq k w.place) [
       | inl same ↦
           at_in new (slice_set slots w.place (Some slot)) k
           ∙ (ap (λ j. option_and_then (get new) (slot_at (slice_set slots w.place (Some slot)) j)) same
           ∙ (ap (option_and_then (get new)) (get_or-set_same slots w.place (Some slot) None within)
           ∙ (up.changed
-          ∙ sym (ap (λ j. get_or (with_wait (waits_in old slots) w.place (Some w)) j None) same ∙ get_or-set_same (waits_in old slots) w.place (Some w) None (let n = waits_length old slots in omega (arith, n, within))))))
+          ∙ sym (ap (λ j. get_or (with_wait (held_waits old slots) w.place (Some w)) j None) same ∙ get_or-set_same (held_waits old slots) w.place (Some w) None (let n = waits_length old slots in omega (arith, n, within))))))
       | inr ne ↦
           at_in new (slice_set slots w.place (Some slot)) k
           ∙ (ap (option_and_then (get new)) (get_or-set_other slots w.place k (Some slot) None ne)
           ∙ (other (slot_at slots k) k refl
-          ∙ (sym (at_in old slots k) ∙ sym (get_or-set_other (waits_in old slots) w.place k (Some w) None ne))))
+          ∙ (sym (at_in old slots k) ∙ sym (get_or-set_other (held_waits old slots) w.place k (Some w) None ne))))
     ]
 
 pub waits_leave : (old new : Slab Wait) (slots : List (Option ℕ)) (place slot : ℕ) → AreHeld old slots → slot_at slots place ≡ Some slot → Updates old new slot None → place < length slots
-    → waits_in new (slice_set slots place None) ≡ with_wait (waits_in old slots) place None
+    → held_waits new (slice_set slots place None) ≡ with_wait (held_waits old slots) place None
 waits_leave old new slots place slot held at_place up within =
     let n = length-set slots place None in
-    let m = length-set (waits_in old slots) place None in
-    ext_get_or None (waits_in new (slice_set slots place None)) (with_wait (waits_in old slots) place None) (waits_length new (slice_set slots place None) ∙ (n ∙ sym (m ∙ waits_length old slots))) at
+    let m = length-set (held_waits old slots) place None in
+    ext_get_or None (held_waits new (slice_set slots place None)) (with_wait (held_waits old slots) place None) (waits_length new (slice_set slots place None) ∙ (n ∙ sym (m ∙ waits_length old slots))) at
   where
     other : (o : Option ℕ) (k : ℕ) → k ≢ place → slot_at slots k ≡ o → option_and_then (get new) o ≡ option_and_then (get old) o
     other None k ne e = refl
@@ -541,24 +372,24 @@ waits_leave old new slots place slot held at_place up within =
         let p = held.held place slot at_place in
         up.others s (λ same. ne (sym h.2 ∙ (ap (λ (u : Wait). u.place) (same_wait h.0 p.0 (sym h.1 ∙ (ap (get old) same ∙ p.1))) ∙ p.2)))
 
-    at : (k : ℕ) → k < length (waits_in new (slice_set slots place None)) → get_or (waits_in new (slice_set slots place None)) k None ≡ get_or (with_wait (waits_in old slots) place None) k None
+    at : (k : ℕ) → k < length (held_waits new (slice_set slots place None)) → get_or (held_waits new (slice_set slots place None)) k None ≡ get_or (with_wait (held_waits old slots) place None) k None
     at k lt = elim (cases_eq k place) [
       | inl same ↦
           at_in new (slice_set slots place None) k
           ∙ (ap (λ j. option_and_then (get new) (slot_at (slice_set slots place None) j)) same
           ∙ (ap (option_and_then (get new)) (get_or-set_same slots place None None within)
-          ∙ sym (ap (λ j. get_or (with_wait (waits_in old slots) place None) j None) same ∙ get_or-set_same (waits_in old slots) place None None (let n = waits_length old slots in omega (arith, n, within)))))
+          ∙ sym (ap (λ j. get_or (with_wait (held_waits old slots) place None) j None) same ∙ get_or-set_same (held_waits old slots) place None None (let n = waits_length old slots in omega (arith, n, within)))))
       | inr ne ↦
           at_in new (slice_set slots place None) k
           ∙ (ap (option_and_then (get new)) (get_or-set_other slots place k None None ne)
           ∙ (other (slot_at slots k) k ne refl
-          ∙ (sym (at_in old slots k) ∙ sym (get_or-set_other (waits_in old slots) place k None None ne))))
+          ∙ (sym (at_in old slots k) ∙ sym (get_or-set_other (held_waits old slots) place k None None ne))))
     ]
 
 -- a place without a slot stays without
-pub waits_stay : (slab : Slab Wait) (slots : List (Option ℕ)) (place : ℕ) → slot_at slots place ≡ None → place < length slots → waits_in slab slots ≡ with_wait (waits_in slab slots) place None
+pub waits_stay : (slab : Slab Wait) (slots : List (Option ℕ)) (place : ℕ) → slot_at slots place ≡ None → place < length slots → held_waits slab slots ≡ with_wait (held_waits slab slots) place None
 waits_stay slab slots place none within =
-    sym (set-get_or' (waits_in slab slots) place (let n = waits_length slab slots in omega (arith, n, within)) (at_in slab slots place ∙ ap (option_and_then (get slab)) none))
+    sym (set-get_or' (held_waits slab slots) place (let n = waits_length slab slots in omega (arith, n, within)) (at_in slab slots place ∙ ap (option_and_then (get slab)) none))
   where
     set-get_or' : (ws : List (Option Wait)) (k : ℕ) → k < length ws → get_or ws k None ≡ None → slice_set ws k None ≡ ws
     set-get_or' [] k lt e = absurd (omega (arith, lt))

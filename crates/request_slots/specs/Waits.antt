@@ -1,6 +1,6 @@
 -- What requests wait for.
-use Rattle.std.specs.Prelude.{◌≡◌, ℕ, ◌==◌, count_by, Bool, true, List, map, Option, Some, None, false, slice_index_or, slice_set}
-use Rattle.std.specs.List.{Contains}
+use Rattle.std.specs.Prelude.{ℕ, ◌==◌, count_by, Bool, List, filter, length, map, Option, None, false, slice_index_or, slice_set}
+use Rattle.std.specs.List.{range_with_len}
 use Rattle.std.specs.Option.{option_map_or, option_and_then}
 use Rattle.std.specs.Cmp.Lexicographic.{pointwise}
 use Rattle.slab.specs.Slab.{Slab, get}
@@ -23,13 +23,12 @@ abbrev pub with_wait : List (Option Wait) → ℕ → Option Wait → List (Opti
 with_wait waits place wait = slice_set waits place wait
 
 -- the waits of some slots
-abbrev pub waits_in : Slab Wait → List (Option ℕ) → List (Option Wait)
-waits_in slab slots = map (λ slot. option_and_then (get slab) slot) slots
+abbrev pub held_waits : Slab Wait → List (Option ℕ) → List (Option Wait)
+held_waits slab slots = map (λ slot. option_and_then (get slab) slot) slots
 
--- these are the places whose waits pass, each of them
-pub record AreWhere (passes : Wait → Bool) (waits : List (Option Wait)) (places : List ℕ) : Type 0 where
-  pub all : (place : ℕ) (w : Wait) → wait_at waits place ≡ Some w → passes w ≡ true → Contains places place
-  pub none_else : (place : ℕ) → Contains places place → (w : Wait) × (wait_at waits place ≡ Some w) × (passes w ≡ true)
+-- the places whose waits pass, in opening order
+abbrev pub places_where : (Wait → Bool) → List (Option Wait) → List ℕ
+places_where passes waits = filter (λ place. option_map_or passes (wait_at waits place) false) (range_with_len 0 (length waits))
 
 -- due at this count of ticks
 abbrev pub is_due : ℕ → Wait → Bool

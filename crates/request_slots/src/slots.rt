@@ -1,17 +1,14 @@
 //! Slots for requests that wait.
-ghost use Rattle.std.specs.Prelude.{◌≡◌, ◌≢◌, ◌<◌, ◌≤◌, ◌+◌, ◌-◌, ◌^◌, ◌++◌, ◌∷◌, ℕ, [], IfOk, IfSome, OnOk, OnErr, Some, None, length, suc};
-ghost use Rattle.std.specs.Prelude.{List, cond, filter_map};
+ghost use Rattle.std.specs.Prelude.{◌≡◌, ◌<◌, ◌≤◌, ◌+◌, ◌-◌, ◌^◌, ◌++◌, ◌∷◌, [], IfOk, IfSome, OnOk, Some, None, length, suc};
 ghost use Rattle.std.specs.Option.{option_copied, option_map};
-ghost use Rattle.std.specs.Vec.{vec_capacity};
-ghost use Rattle.slab.specs.Slab.{ContainsKey, get};
-ghost use Rattle.crowded_map.specs.Values.{spare};
-ghost use Rattle.chain_links.specs.Lists.{IsMember, unlinked, without};
+ghost use Rattle.slab.specs.Slab.{ContainsKey};
+ghost use Rattle.chain_links.specs.Lists.{IsMember, unlinked};
 ghost use Rattle.tick_wheel.specs.Wheel.{IsArmed, disarmed};
-ghost use Rattle.request_slots.specs.Cards.{AreHeads, is_card, linked, list_of};
-ghost use Rattle.request_slots.specs.Kept.{AreListed, armed_by};
-ghost use Rattle.request_slots.specs.Waits.{count_due, AreWhere, wait_at, with_wait, is_due, is_on, is_of};
+ghost use Rattle.request_slots.specs.Kept.{armed_by, ending, linked};
+ghost use Rattle.request_slots.specs.Waits.{count_due, places_where, wait_at, with_wait, is_due, is_on, is_of};
 
-use crate::cards::CardHeads;
+use crate::endings::{ENDINGS, ending};
+use crate::places::{in_order, places_of, places_of_card};
 use crate::wait::Wait;
 use card_digits::{Card, LinkNo};
 use std::alloc::{AllocError, Global};
@@ -27,23 +24,21 @@ pub struct RequestSlots {
     wheel: Wheel<Wait>,
     /// The slot of each place whose request waits.
     slots: Vec<Option<SlotId>>,
-    cards: CardHeads,
     count: u64,
     room: usize,
     alloc: Global,
 }
 
 impl Model for RequestSlots {
-    ghost use Rattle.std.specs.Prelude.{vec_len, vec_capacity, length, ◌≤◌, ◌≡◌};
-    ghost use Rattle.crowded_map.specs.Values.{spare};
-    ghost use Rattle.request_slots.specs.Waits.{SlotsView, waits_in};
+    ghost use Rattle.std.specs.Prelude.{vec_len, vec_capacity};
+    ghost use Rattle.request_slots.specs.Waits.{SlotsView, held_waits};
     ghost use Rattle.request_slots.specs.Kept.{IsKept, HasRoom};
 
     ghost Value = { SlotsView };
 
-    ghost view = { λ s. record { waits = waits_in s.wheel.slots s.slots.items; count = s.count; visits = s.wheel.visits; room = s.room } };
+    ghost view = { λ s. record { waits = held_waits s.wheel.slots s.slots.items; count = s.count; visits = s.wheel.visits; room = s.room } };
 
-    ghost invariant = { λ s. IsKept s.wheel s.slots.items s.cards.heads.entries s.cards.free.items s.count × HasRoom s.room s.wheel (vec_len s.slots) (vec_capacity s.slots) s.cards.count (length s.cards.free.items) (vec_capacity s.cards.free) (spare s.cards.heads) };
+    ghost invariant = { λ s. IsKept s.wheel s.slots.items s.count × HasRoom s.room s.wheel (vec_len s.slots) (vec_capacity s.slots) };
 }
 
 /// Puts a slot in the bucket of its tick, if it is due at one.
@@ -70,24 +65,16 @@ fn enter_link(wheel: &mut Wheel<Wait>, slot: SlotId, link: Option<LinkNo>)
     }
 }
 
-/// Puts a slot in the list of its card, if it has one.
-fn enter_card(wheel: &mut Wheel<Wait>, cards: &mut CardHeads, slot: SlotId, card: Option<Card>)
-    requires fit { AreHeads cards.old.heads.entries cards.old.free.items wheel.old.card }
-    requires room { 1 ≤ spare cards.old.heads }
-    requires head { 1 ≤ length cards.old.free.items }
+/// Puts a slot in the list of how its card ends, if it has one.
+fn enter_card(wheel: &mut Wheel<Wait>, slot: SlotId, card: Option<Card>)
     requires held { ContainsKey wheel.old.slots slot }
     requires loose { ¬ IsMember wheel.old.card slot }
-    ensures wheel { wheel.new ≡ record wheel.old { card = wheel.new.card } }
-    ensures fit { AreHeads cards.new.heads.entries cards.new.free.items wheel.new.card }
-    ensures lists { (other : List ℕ) → list_of cards.new.heads.entries wheel.new.card other ≡ cond (is_card card other) (list_of cards.old.heads.entries wheel.old.card other ++ slot ∷ []) (list_of cards.old.heads.entries wheel.old.card other) }
-    ensures count { length wheel.new.card.lists ≡ length wheel.old.card.lists }
-    ensures same { cards.new.count ≡ cards.old.count }
-    ensures capacity { vec_capacity cards.new.free ≡ vec_capacity cards.old.free }
-    ensures free { length cards.old.free.items ≤ length cards.new.free.items + 1 }
-    ensures spare { spare cards.old.heads ≤ spare cards.new.heads + 1 }
+    requires heads { length wheel.old.card.lists ≡ 1000 }
+    ensures wheel { wheel.new ≡ record wheel.old { card = linked wheel.old.card (option_map ending card) slot } }
+    ensures head { IfSome card (λ card. ending card < 1000) }
 {
     if let Some(card) = card {
-        cards.push(wheel, card, slot);
+        wheel.push_back(Family::Card, ending(&card), slot);
     }
 }
 
@@ -111,41 +98,14 @@ fn leave_link(wheel: &mut Wheel<Wait>, slot: SlotId)
     }
 }
 
-/// Takes a slot out of the list of its card, if it is in one.
-fn leave_card(wheel: &mut Wheel<Wait>, cards: &mut CardHeads, slot: SlotId)
-    requires fit { AreHeads cards.old.heads.entries cards.old.free.items wheel.old.card }
-    requires capacity { length wheel.old.card.lists ≤ vec_capacity cards.old.free }
-    requires listed { AreListed wheel.old.slots (λ w. w.card) (list_of cards.old.heads.entries wheel.old.card) }
-    requires held { ContainsKey wheel.old.slots slot }
-    ensures wheel { wheel.new ≡ record wheel.old { card = wheel.new.card } }
-    ensures fit { AreHeads cards.new.heads.entries cards.new.free.items wheel.new.card }
-    ensures lists { (card : List ℕ) → list_of cards.new.heads.entries wheel.new.card card ≡ without slot (list_of cards.old.heads.entries wheel.old.card card) }
+/// Takes a slot out of the list of how its card ends, if it is in one.
+fn leave_card(wheel: &mut Wheel<Wait>, slot: SlotId)
+    ensures wheel { wheel.new ≡ record wheel.old { card = unlinked wheel.old.card slot } }
     ensures loose { ¬ IsMember wheel.new.card slot }
-    ensures count { length wheel.new.card.lists ≡ length wheel.old.card.lists }
-    ensures same { cards.new.count ≡ cards.old.count }
-    ensures capacity { vec_capacity cards.new.free ≡ vec_capacity cards.old.free }
-    ensures free { length cards.old.free.items ≤ length cards.new.free.items }
-    ensures spare { spare cards.old.heads ≤ spare cards.new.heads }
 {
-    let Some(wait) = wheel.get(slot).copied() else {
-        return;
-    };
-    if let Some(card) = wait.card {
-        cards.unlink(wheel, &card, slot);
+    if wheel.is_member(Family::Card, slot) {
+        wheel.unlink(Family::Card, slot);
     }
-}
-
-/// The places whose waits are in these slots.
-fn places_of(alloc: Global, wheel: &Wheel<Wait>, slots: &[SlotId]) -> Result<Vec<usize>, AllocError>
-    ensures { IfOk result (λ places. places.items ≡ filter_map (λ slot. option_map (λ w. w.place) (get wheel.now.slots slot)) slots.now) }
-{
-    let mut places = Vec::new(alloc);
-    for slot in slots {
-        if let Some(wait) = wheel.get(*slot) {
-            places.push(wait.place)?;
-        }
-    }
-    Ok(places)
 }
 
 impl RequestSlots {
@@ -155,10 +115,10 @@ impl RequestSlots {
     {
         let mut wheel = Wheel::new(alloc)?;
         wheel.grow_heads(Family::Link, LINKS)?;
+        wheel.grow_heads(Family::Card, ENDINGS)?;
         Ok(RequestSlots {
             wheel,
             slots: Vec::new(alloc),
-            cards: CardHeads::new(alloc),
             count: 0,
             room: 0,
             alloc,
@@ -178,7 +138,6 @@ impl RequestSlots {
         };
         self.wheel.room(slots)?;
         self.slots.reserve(n)?;
-        self.cards.reserve(&mut self.wheel, n)?;
         self.room = n;
         Ok(())
     }
@@ -211,7 +170,7 @@ impl RequestSlots {
         let slot = self.wheel.insert(wait);
         enter_tick(&mut self.wheel, slot, count, due);
         enter_link(&mut self.wheel, slot, link);
-        enter_card(&mut self.wheel, &mut self.cards, slot, card);
+        enter_card(&mut self.wheel, slot, card);
         self.slots[place] = Some(slot);
         self.room -= 1;
     }
@@ -225,8 +184,8 @@ impl RequestSlots {
             return;
         };
         leave_tick(&mut self.wheel, slot);
+        leave_card(&mut self.wheel, slot);
         leave_link(&mut self.wheel, slot);
-        leave_card(&mut self.wheel, &mut self.cards, slot);
         let _ = self.wheel.take(slot);
         self.slots[place] = None;
     }
@@ -264,27 +223,30 @@ impl RequestSlots {
         self.wheel.visits()
     }
 
-    /// The places of the requests that are due at the next tick.
+    /// The places of the requests that are due at the next tick, in opening order.
     pub fn due(&self) -> Result<Vec<usize>, AllocError>
-        ensures { IfOk result (λ places. AreWhere (is_due (suc self.now.count)) self.now.waits places.items) }
+        ensures exact { IfOk result (λ places. places.items ≡ places_where (is_due (suc self.now.count)) self.now.waits) }
     {
         let slots = self.wheel.due()?;
-        places_of(self.alloc, &self.wheel, &slots)
+        let places = places_of(self.alloc, &self.wheel, &slots)?;
+        Ok(in_order(places))
     }
 
-    /// The places of the requests that wait on a link.
+    /// The places of the requests that wait on a link, in opening order.
     pub fn on_link(&self, link: LinkNo) -> Result<Vec<usize>, AllocError>
-        ensures { IfOk result (λ places. AreWhere (is_on link) self.now.waits places.items) }
+        ensures exact { IfOk result (λ places. places.items ≡ places_where (is_on link) self.now.waits) }
     {
         let slots = self.wheel.listed(Family::Link, link.place() as u32)?;
-        places_of(self.alloc, &self.wheel, &slots)
+        let places = places_of(self.alloc, &self.wheel, &slots)?;
+        Ok(in_order(places))
     }
 
-    /// The places of the requests of a card that wait.
+    /// The places of the requests of a card that wait, in opening order. It looks at those of all cards whose last three digits are the same.
     pub fn of_card(&self, card: &Card) -> Result<Vec<usize>, AllocError>
-        ensures { IfOk result (λ places. AreWhere (is_of card.now) self.now.waits places.items) }
+        ensures exact { IfOk result (λ places. places.items ≡ places_where (is_of card.now) self.now.waits) }
     {
-        let slots = self.cards.listed(&self.wheel, card, self.alloc)?;
-        places_of(self.alloc, &self.wheel, &slots)
+        let slots = self.wheel.listed(Family::Card, ending(card))?;
+        let places = places_of_card(self.alloc, &self.wheel, &slots, card)?;
+        Ok(in_order(places))
     }
 }

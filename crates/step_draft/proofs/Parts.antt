@@ -1,5 +1,6 @@
 -- Parts of the decision, as the code takes them.
-use Rattle.std.proofs.Common.{◌≡◌, ◌⊎◌, inl, inr, ◌<◌, ◌≤◌, ◌+◌, ℕ, zero, suc, List, [], ◌∷◌, map, filter, drop, length, get_or, arith, add-one, Bool, true, false, cond, refl, sym, ap, subst, ◌∙◌, Option, Some, None, Result, Ok, Err, OnOk}
+use Rattle.std.proofs.Common.{◌≡◌, ◌⊎◌, inl, inr, ◌<◌, ◌≤◌, ◌+◌, ℕ, zero, suc, List, [], ◌∷◌, map, filter, drop, length, get_or, arith, add-one, Bool, true, false, cond, refl, sym, ap, subst, ◌∙◌, Option, Some, None, Result, Ok, Err, OnOk, slice_get}
+use Rattle.std.specs.List.{cons_option}
 use Rattle.std.specs.Option.{option_map}
 use Rattle.card_digits.specs.Numbers.{decimal}
 use Rattle.card_digits.specs.declared.key.Key.{Key}
@@ -25,7 +26,7 @@ use Rattle.node_books.proofs.Loads.{one_row}
 use Rattle.request_book.specs.Values.{IsUnique}
 use Rattle.node_books.specs.Values.{NewAdvice}
 use Rattle.node_books.specs.declared.effect.Effect.TheVariants as effects
-use Rattle.step_draft.specs.Failures.{head_key, fail_next}
+use Rattle.step_draft.specs.Failures.{keys_at}
 use Rattle.step_draft.specs.Used.{IsQuiet}
 use Rattle.step_draft.proofs.Quiet.{fail_quiet}
 use Rattle.step_draft.proofs.Drafts.{kept_is, took_is}
@@ -70,27 +71,6 @@ fail_steps t n b r put code count p0 p1 p2 p3 e1 eput ecode ecount e2 e3 =
 request_at : (r : Row) (m : Fields) (src : Source) → m ≡ r.message → src ≡ r.source → Path Request (record { message = m; source = src; count = r.count }) (request_of r)
 request_at r m src e f = λ j. record { message = e j; source = f j; count = r.count }
 
--- rows one after another
-
-pub head_of_rows : (p : Row → Bool) (t : Network) (n : ℕ) (b : Books) (rows : List Row) (i : ℕ) (d : Progress) → i < length rows → steps.fail_all t n b (map row_key (filter p (drop (suc i) rows))) (fail_next t n b (head_key p (drop i rows)) d) ≡ steps.fail_all t n b (map row_key (filter p (drop i rows))) d
-head_of_rows p t n b [] i d less = absurd (omega arith)
-head_of_rows p t n b (r ∷ rs) zero d less = go (p r)
-  where
-    go : (c : Bool) → steps.fail_all t n b (map row_key (filter p rs)) (fail_next t n b (cond c (Some (row_key r)) None) d) ≡ steps.fail_all t n b (map row_key (cond c (r ∷ filter p rs) (filter p rs))) d
-    go true = refl
-    go false = refl
-head_of_rows p t n b (r ∷ rs) (suc i) d less = head_of_rows p t n b rs i d (omega arith)
-
-pub no_rows : (p : Row → Bool) (t : Network) (n : ℕ) (b : Books) (rows : List Row) (i : ℕ) (d : Progress) → length rows ≤ i → steps.fail_all t n b (map row_key (filter p (drop i rows))) d ≡ d
-no_rows p t n b [] zero d less = refl
-no_rows p t n b [] (suc i) d less = refl
-no_rows p t n b (r ∷ rs) zero d less = absurd (omega arith)
-no_rows p t n b (r ∷ rs) (suc i) d less = no_rows p t n b rs i d (omega arith)
-
-pub next_quiet : (t : Network) (n : ℕ) (b : Books) (x : Lists) (w : Option Key) (p : Progress) → IsQuiet x p.lists → IsQuiet x (fail_next t n b w p).lists
-next_quiet t n b x None p q = q
-next_quiet t n b x (Some k) p q = fail_quiet t n b x (b.opening k) p q
-
 swap : {A E Q : Type 0} (f : Q → Progress) (q : ℕ → Q) (c : ℕ) (q' : Q) (d' : Progress) (w : Result A E) → q c ≡ q' → OnOk w ((count : ℕ) → d' ≡ f (q count)) → OnOk w (d' ≡ f q')
 swap f q c q' d' w e h = on_ok w (λ g. g c ∙ ap f e) h
 
@@ -102,42 +82,32 @@ fail_with t n x k r m src d d' w found e f h = swap (λ z. steps.fail t n (view 
 
 -- the request at a place
 
-head_at : (p : Row → Bool) (rows : List Row) (i : ℕ) (r : Row) → i < length rows → r ≡ get_or rows i r → head_key p (drop i rows) ≡ cond (p r) (Some (row_key r)) None
-head_at p [] i r lt e = absurd (omega arith)
-head_at p (y ∷ ys) zero r lt e = ap (λ z. cond (p z) (Some (row_key z)) None) (sym e)
-head_at p (y ∷ ys) (suc i) r lt e = head_at p ys i r (omega arith) e
-
 in_at : (rows : List Row) (i : ℕ) (r : Row) → i < length rows → r ≡ get_or rows i r → IsIn r rows
 in_at [] i r lt e = absurd (omega arith)
 in_at (y ∷ ys) zero r lt e = inl (sym e)
 in_at (y ∷ ys) (suc i) r lt e = inr (in_at ys i r (omega arith) e)
 
-retold : {A E X : Type 0} (f : X → Progress) (a b : X) (d' : Progress) (w : Result A E) → a ≡ b → OnOk w (d' ≡ f b) → OnOk w (d' ≡ f a)
-retold f a b d' w e h = on_ok w (λ g. g ∙ sym (ap f e)) h
+key_at : (rows : List Row) (place : ℕ) (r : Row) → place < length rows → r ≡ get_or rows place r → keys_at rows (place ∷ []) ≡ row_key r ∷ []
+key_at [] place r lt e = absurd (omega arith)
+key_at (y ∷ ys) zero r lt e = ap (λ z. row_key z ∷ []) (sym e)
+key_at (y ∷ ys) (suc i) r lt e = key_at ys i r (omega arith) e
 
-pub fails_at : {A E : Type 0} (t : Network) (n : ℕ) (x : Lists) (i : ReadInput) (place : ℕ) (r : Row) (m : Fields) (src : Source) (d d' : Progress) (w : Result A E) → IsUnique x.rows → place < length x.rows → r ≡ get_or x.rows place r → row_fails t x.count i r ≡ true → m ≡ r.message → src ≡ r.source
+pub fails_at : {A E : Type 0} (t : Network) (n : ℕ) (x : Lists) (place : ℕ) (r : Row) (m : Fields) (src : Source) (d d' : Progress) (w : Result A E) → IsUnique x.rows → place < length x.rows → r ≡ get_or x.rows place r → m ≡ r.message → src ≡ r.source
     → OnOk w ((count : ℕ) → d' ≡ steps.fail t n (view t n x) (Some (record { message = m; source = src; count = count })) d)
-    → OnOk w (d' ≡ fail_next t n (view t n x) (head_key (row_fails t x.count i) (drop place x.rows)) d)
-fails_at t n x i place r m src d d' w unique lt is fails em es h =
+    → OnOk w (d' ≡ steps.fail_all t n (view t n x) (keys_at x.rows (place ∷ [])) d)
+fails_at t n x place r m src d d' w unique lt is em es h =
     let found : Some r ≡ of_key (row_key r) x.rows = sym (one_row x.rows unique r (in_at x.rows place r lt is)) in
-    let head : head_key (row_fails t x.count i) (drop place x.rows) ≡ Some (row_key r) = head_at (row_fails t x.count i) x.rows place r lt is ∙ rw fails refl in
-    retold (λ k. fail_next t n (view t n x) k d) (head_key (row_fails t x.count i) (drop place x.rows)) (Some (row_key r)) d' w head (fail_with t n x (row_key r) r m src d d' w found em es h)
+    on_ok w (λ g. g ∙ ap (λ ks. steps.fail_all t n (view t n x) ks d) (sym (key_at x.rows place r lt is))) (fail_with t n x (row_key r) r m src d d' w found em es h)
 
--- all that fail
-pub failed_all : (t : Network) (n : ℕ) (x : Lists) (i : ReadInput) (place : ℕ) (d d' : Progress) → IsUnique x.rows → length x.rows ≤ place → steps.fail_all t n (view t n x) (map row_key (filter (row_fails t x.count i) (drop place x.rows))) d' ≡ steps.fail_all t n (view t n x) (map row_key (filter (row_fails t x.count i) x.rows)) d → d' ≡ steps.fail_all t n (view t n x) (machine.failing t (view t n x) i) d
-failed_all t n x i place d d' unique past e =
-    sym (no_rows (row_fails t x.count i) t n (view t n x) x.rows place d' past)
-    ∙ (e ∙ ap (λ ks. steps.fail_all t n (view t n x) ks d) (sym (failing_is t n x (one_row x.rows unique) i)))
+-- the requests at places, one after another
 
--- one more that may fail
-pub failed_more : (t : Network) (n : ℕ) (x : Lists) (i : ReadInput) (place : ℕ) (d0 d d' : Progress) → place < length x.rows → d' ≡ fail_next t n (view t n x) (head_key (row_fails t x.count i) (drop place x.rows)) d → steps.fail_all t n (view t n x) (map row_key (filter (row_fails t x.count i) (drop place x.rows))) d ≡ steps.fail_all t n (view t n x) (map row_key (filter (row_fails t x.count i) x.rows)) d0 → steps.fail_all t n (view t n x) (map row_key (filter (row_fails t x.count i) (drop (place + 1) x.rows))) d' ≡ steps.fail_all t n (view t n x) (map row_key (filter (row_fails t x.count i) x.rows)) d0
-failed_more t n x i place d0 d d' less step e =
-    ap (λ k. steps.fail_all t n (view t n x) (map row_key (filter (row_fails t x.count i) (drop k x.rows))) d') (add-one place)
-    ∙ (ap (λ z. steps.fail_all t n (view t n x) (map row_key (filter (row_fails t x.count i) (drop (suc place) x.rows))) z) step
-    ∙ (head_of_rows (row_fails t x.count i) t n (view t n x) x.rows place d less ∙ e))
+pub fail_next : (t : Network) (n : ℕ) (b : Books) (rows : List Row) (place : ℕ) (places : List ℕ) (d : Progress) → steps.fail_all t n b (keys_at rows (place ∷ places)) d ≡ steps.fail_all t n b (keys_at rows places) (steps.fail_all t n b (keys_at rows (place ∷ [])) d)
+fail_next t n b rows place places d = go (option_map row_key (slice_get rows place))
+  where
+    go : (o : Option Key) → steps.fail_all t n b (cons_option o (keys_at rows places)) d ≡ steps.fail_all t n b (keys_at rows places) (steps.fail_all t n b (cons_option o []) d)
+    go None = refl
+    go (Some k) = refl
 
-pub next_at : (t : Network) (n : ℕ) (x y : Lists) (i : ReadInput) (place : ℕ) (d d' : Progress) → y ≡ x → d' ≡ fail_next t n (view t n y) (head_key (row_fails t y.count i) (drop place y.rows)) d → d' ≡ fail_next t n (view t n x) (head_key (row_fails t x.count i) (drop place x.rows)) d
-next_at t n x y i place d d' e step = step ∙ ap (λ (z : Lists). fail_next t n (view t n z) (head_key (row_fails t z.count i) (drop place z.rows)) d) e
-
-pub still_quiet : (t : Network) (n : ℕ) (b : Books) (x : Lists) (w : Option Key) (p p' : Progress) → p' ≡ fail_next t n b w p → IsQuiet x p.lists → IsQuiet x p'.lists
-still_quiet t n b x w p p' e q = subst (λ (z : Progress). IsQuiet x z.lists) (sym e) (next_quiet t n b x w p q)
+pub fails_quiet : (t : Network) (n : ℕ) (b : Books) (x : Lists) (ks : List Key) (p : Progress) → IsQuiet x p.lists → IsQuiet x (steps.fail_all t n b ks p).lists
+fails_quiet t n b x [] p q = q
+fails_quiet t n b x (k ∷ ks) p q = fails_quiet t n b x ks (steps.fail t n b (b.opening k) p) (fail_quiet t n b x (b.opening k) p q)

@@ -1,12 +1,12 @@
 //! What ticks and links that go down do.
-ghost use Rattle.std.specs.Prelude.{◌≡◌, ◌≤◌, ◌<◌, ◌+◌, ◌==◌, ◌^◌, IfOk, OnOk, length, drop};
+ghost use Rattle.std.specs.Prelude.{◌≡◌, ◌<◌, ◌∷◌, [], OnOk, length};
 ghost use Rattle.network_law.specs.Traces.{LinkDown, Tick};
-ghost use Rattle.node_machine.specs.Lists.{LeftAsMarked, row_fails, view};
+ghost use Rattle.node_machine.specs.Lists.{LeftAsMarked, view};
 ghost use Rattle.node_machine.specs.Machine.{due, failing};
 ghost use Rattle.node_machine.specs.Steps.{fail_all, send_all, send_due, send_grant};
 ghost use Rattle.node_books.specs.Effects.{progress};
 ghost use Rattle.step_draft.specs.Used.{IsQuiet};
-ghost use Rattle.step_draft.specs.Failures.{cause_of, fail_next, head_key, key_from, next_from};
+ghost use Rattle.step_draft.specs.Failures.{cause_of, keys_at};
 ghost use Rattle.request_book.specs.Values.{IsUnique};
 
 use crate::draft::Draft;
@@ -14,9 +14,8 @@ use card_digits::{LinkNo, NodeNo};
 use net_rows::Tables;
 use network_law::{Grant, GrantPacket};
 use node_books::{StoredCase, StoredItem};
-use request_book::Row;
 use std::alloc::AllocError;
-use step_rules::{first_up_between, ticks_by};
+use step_rules::first_up_between;
 
 /// What makes pending requests fail.
 #[derive(Drop)]
@@ -27,81 +26,20 @@ pub enum Cause {
     Tick,
 }
 
-/// Whether so many ticks went by since a count.
-fn is_over(now: u64, count: u64, ticks: u16) -> bool
-    ensures { result ≡ (count + ticks == now) }
-{
-    let ticks = ticks as u64;
-    ticks <= now && now - ticks == count
-}
-
-/// Whether a request fails.
-fn row_fails(tables: &Tables, count: u64, cause: &Cause, row: &Row) -> bool
-    requires { count ≤ 2 ^ 62 }
-    ensures { result ≡ row_fails tables.now count (cause_of cause.now) row.now }
-{
-    if !row.is_open() {
-        return false;
-    }
-    match cause {
-        Cause::LinkDown(link) => match row.link() {
-            Some(own) => own == *link,
-            None => false,
-        },
-        Cause::Tick => match ticks_by(tables, row.link(), row.asked()) {
-            Some(ticks) => is_over(count + 1, row.count(), ticks),
-            None => false,
-        },
-    }
-}
-
 impl Draft {
-    /// The request at this place fails, if it does.
-    #[tactic(auto, using(crate::proofs::Parts::next_quiet))]
-    fn fail_at(
-        &mut self,
-        tables: &Tables,
-        node: NodeNo,
-        cause: &Cause,
-        place: usize,
-    ) -> Result<(), AllocError>
+    /// The request at this place fails.
+    fn fail_at(&mut self, tables: &Tables, node: NodeNo, place: usize) -> Result<(), AllocError>
         requires place { place < length self.old.base.rows }
         requires quiet { IsQuiet self.old.base (progress self.old).lists }
         requires left { LeftAsMarked self.old.base.marks self.old.base.takes }
         ensures base { self.new.base ≡ self.old.base }
-        ensures ok { OnOk result (progress self.new ≡ fail_next tables.now node (view tables.now node self.old.base) (head_key (row_fails tables.now self.old.base.count (cause_of cause.now)) (drop place self.old.base.rows)) (progress self.old)) }
+        ensures ok { OnOk result (progress self.new ≡ fail_all tables.now node (view tables.now node self.old.base) (keys_at self.old.base.rows (place ∷ [])) (progress self.old)) }
     {
         let row = &self.books.rows()[place];
-        if !row_fails(tables, self.books.count(), cause, row) {
-            return Ok(());
-        }
         let key = row.key();
         let source = row.source();
         let request = row.message().decode()?;
         self.fail_request(tables, node, key, &request, source)
-    }
-
-    /// The request at this place fails, if it does and stands among those that are left; and from where on they are left then.
-    fn fail_from(
-        &mut self,
-        tables: &Tables,
-        node: NodeNo,
-        cause: &Cause,
-        from: usize,
-        place: usize,
-    ) -> Result<usize, AllocError>
-        requires quiet { IsQuiet self.old.base (progress self.old).lists }
-        requires left { LeftAsMarked self.old.base.marks self.old.base.takes }
-        ensures base { self.new.base ≡ self.old.base }
-        ensures next { IfOk result (λ next. next ≡ next_from from place (length self.old.base.rows)) }
-        ensures ok { OnOk result (progress self.new ≡ fail_next tables.now node (view tables.now node self.old.base) (key_from (row_fails tables.now self.old.base.count (cause_of cause.now)) from place self.old.base.rows) (progress self.old)) }
-    {
-        if from <= place && place < self.row_count() {
-            self.fail_at(tables, node, cause, place)?;
-            Ok(place + 1)
-        } else {
-            Ok(from)
-        }
     }
 
     /// The requests that fail do so one after another, in the order in which they came.
@@ -118,9 +56,8 @@ impl Draft {
     {
         let places = self.failing_places(tables, cause)?;
         let _ = self.row_count();
-        let mut from = 0;
         for i in 0..places.len() {
-            from = self.fail_from(tables, node, cause, from, places[i])?;
+            self.fail_at(tables, node, places[i])?;
         }
         Ok(())
     }

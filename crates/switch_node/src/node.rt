@@ -7,7 +7,6 @@ ghost use Rattle.network_law.specs.Tables.{is_link_of};
 ghost use Rattle.network_law.specs.Runs.{IsLegal, NamesOwnLink, step_refusal, step_outputs};
 ghost use Rattle.network_law.specs.declared.fault.StepFault.TheVariants.{Memory};
 ghost use Rattle.std.specs.Prelude.{reverse, if◌then◌else◌};
-ghost use Rattle.node_books.specs.Values.{waits_of};
 ghost use Rattle.step_draft.specs.Outputs.{spelled_in};
 ghost use Rattle.switch_node.specs.Node.{newest_outputs, IsNode};
 
@@ -19,8 +18,7 @@ use iso_message::Message;
 use message_elements::Kind;
 use net_rows::Tables;
 use network_law::{StepFault, every_legal_trace_is_within_limits};
-use node_books::Books;
-use request_book::Waits;
+use node_books::{Books, waits_in};
 use std::alloc::{AllocError, Global};
 use std::marker::Model;
 use step_draft::{Draft, Output, Outputs};
@@ -39,14 +37,6 @@ fn lend(draft: &Draft, lends: bool, out: &mut Outputs) -> Result<(), AllocError>
         draft.lend(out)?;
     }
     Ok(())
-}
-
-/// How long requests wait in a network with these tables.
-fn waits_of(alloc: Global, tables: &Tables) -> Result<Waits, AllocError>
-    ensures { IfOk result (λ w. w ≡ waits_of tables.now.links tables.now.settings.host_ticks) }
-{
-    let links: Vec<u16> = tables.links().iter().map(|link| link.ticks).collect(alloc)?;
-    Ok(Waits::new(links, tables.settings().host_ticks))
 }
 
 /// What a node has beside its tables.
@@ -73,7 +63,7 @@ impl State {
     {
         let settings = tables.settings();
         let ticks = settings.advice_ticks;
-        let waits = waits_of(alloc, tables)?;
+        let waits = waits_in(alloc, tables.links(), settings.host_ticks)?;
         let books = Books::new(alloc, settings.date, tables.links().len(), ticks, waits)?;
         let draft = Draft::new(alloc, books)?;
         Ok(State {

@@ -1,5 +1,5 @@
 use Rattle.std.proofs.Common.{rules}
-use Rattle.request_slots.proofs.Heads.{loose_after}
+use Rattle.request_slots.proofs.Lists.{loose_after}
 use Rattle.request_slots.proofs.Leaving.{not_linked}
 use Rattle.request_slots.proofs.slots.leave_link.Goals as goal
 

@@ -1,11 +1,7 @@
-use Rattle.request_slots.specs.Waits.{is_of}
-use Rattle.request_book.specs.Values.{waits_of}
-use Rattle.request_book.proofs.Waiting.{card_covered, if_covered}
+use Rattle.request_book.proofs.Found.{card_found, if_same}
 use Rattle.request_book.proofs.pending.PendingBook.of_card.Goals as goal
 
 pub returns : goal.returns
 returns c =
     let i = c.self.inside in
-    let card = c.args.card.now in
-    rw (← c.self.view_is) (if_covered (λ v. v.items) (is_of card) (waits_of card) i.rows.items i.waiting.waits c.of_card.result c.of_card.ensures
-    (λ places a. card_covered i.waits i.waiting.count i.is_timely card i.rows.items i.waiting.waits places c.self.invariant.0.waiting a))
+    rw (← c.self.view_is) (record { exact = if_same (λ v. v.items) c.of_card.result (card_found i.waits i.waiting.count i.is_timely i.rows.items i.waiting.waits c.self.invariant.0.waiting c.args.card.now) c.of_card.ensures.exact })

@@ -5,4 +5,4 @@ use Rattle.request_slots.proofs.slots.RequestSlots.add_place.Goals as goal
 pub invariant_of-self : goal.invariant_of-self
 invariant_of-self c =
     let i = c.self.inside in
-    rw c.push_reserved.ensures.items (kept_place i.wheel i.slots.items i.cards.heads.entries i.cards.free.items i.count c.self.invariant.0, search rules)
+    rw c.push_reserved.ensures.items (kept_place i.wheel i.slots.items i.count c.self.invariant.0, search rules)

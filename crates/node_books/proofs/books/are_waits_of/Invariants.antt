@@ -1,7 +1,0 @@
-use Rattle.std.proofs.Common.{◌≡◌, ◌<◌, ℕ, Some}
-use Rattle.std.specs.Prelude.{slice_get}
-use Rattle.net_rows.specs.declared.row.Link.{Link}
-use Rattle.node_books.proofs.books.are_waits_of.Given as goal
-
-abbrev pub invariant-loop-i : goal.invariant-loop-i
-invariant-loop-i l = (k : ℕ) (link : Link) → k < l.i → slice_get l.links k ≡ Some link → slice_get l.ticks k ≡ Some link.ticks
