@@ -1,8 +1,5 @@
 //! Ids that stand twice, and timers that run too long.
-ghost use Rattle.std.specs.Prelude.{◌≡◌, ◌==◌, [], map, IfOk, Some};
-ghost use Rattle.std.specs.List.{list_any};
-ghost use Rattle.std.specs.Cmp.Lexicographic.{pointwise};
-ghost use Rattle.card_digits.specs.Numbers.{pad11};
+ghost use Rattle.std.specs.Prelude.{◌≡◌, [], IfOk, Some};
 ghost use Rattle.net_rows.specs.Network.{Network};
 ghost use Rattle.all_refusals.specs.Rows.{Adds, row_at};
 ghost use Rattle.all_refusals.specs.Known.{id_refusal, id_row};
@@ -11,41 +8,15 @@ ghost use Rattle.all_refusals.specs.Found.{again, repeated, too_long, acquirers_
 use crate::at::add;
 use crate::row::{RowRefusal, TableRow};
 use card_digits::{Id, LinkNo};
-use net_rows::{Acquirer, Link, MOST_TICKS, Node, Tables};
+use net_rows::{Link, MOST_TICKS, Tables};
 use std::alloc::{AllocError, Global};
-use table_checker::Refusal;
+use table_checker::{Refusal, acquirer_ids, is_among, node_ids};
 
 /// A table whose rows have ids.
 #[derive(Clone, Copy, Debug)]
 pub(crate) enum IdTable {
     Acquirers,
     Nodes,
-}
-
-fn acquirer_ids(alloc: Global, acquirers: &[Acquirer]) -> Result<Vec<Id>, AllocError>
-    ensures { IfOk result (λ v. v.items ≡ map (λ a. pad11 a.id) acquirers.now) }
-{
-    let mut ids = Vec::new(alloc);
-    for acquirer in acquirers {
-        ids.push(acquirer.id.padded())?;
-    }
-    Ok(ids)
-}
-
-fn node_ids(alloc: Global, nodes: &[Node]) -> Result<Vec<Id>, AllocError>
-    ensures { IfOk result (λ v. v.items ≡ map (λ n. pad11 n.id) nodes.now) }
-{
-    let mut ids = Vec::new(alloc);
-    for node in nodes {
-        ids.push(node.id.padded())?;
-    }
-    Ok(ids)
-}
-
-fn is_among(ids: &[Id], id: &Id) -> bool
-    ensures { result ≡ list_any (λ other. pointwise ◌==◌ other id.now) ids.now }
-{
-    ids.iter().any(|other| other.as_slice() == id.as_slice())
 }
 
 /// The refusal of an id that stands a second time.

@@ -19,5 +19,5 @@ pub use faults::{cert_fault_line, table_fault_line};
 pub use input_parts::{parts, without_carriage_returns};
 pub use make_text::make_answer;
 pub use message_text::{MOST_WAITING, PrintFault, add_text, send};
-pub use names::{link_name, node_name};
+pub use names::{NamedLink, NamedNode, NamedNodes, link_name, node_name};
 pub use refusals::refusal_line;

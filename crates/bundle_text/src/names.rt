@@ -31,9 +31,9 @@ pub fn link_name(tables: &Tables, link: LinkNo) -> &[u8]
 
 /// A node by its name, empty where the tables have no such node.
 #[derive(Clone, Copy)]
-pub(crate) struct NamedNode<'t> {
-    pub(crate) tables: &'t Tables,
-    pub(crate) node: NodeNo,
+pub struct NamedNode<'t> {
+    pub tables: &'t Tables,
+    pub node: NodeNo,
 }
 
 impl fmt::Display for NamedNode<'_> {
@@ -52,9 +52,9 @@ impl fmt::Display for NamedNode<'_> {
 
 /// A link by its name, empty where the tables have no such link.
 #[derive(Clone, Copy)]
-pub(crate) struct NamedLink<'t> {
-    pub(crate) tables: &'t Tables,
-    pub(crate) link: LinkNo,
+pub struct NamedLink<'t> {
+    pub tables: &'t Tables,
+    pub link: LinkNo,
 }
 
 impl fmt::Display for NamedLink<'_> {
@@ -73,9 +73,9 @@ impl fmt::Display for NamedLink<'_> {
 
 /// Nodes by their names, a space before each.
 #[derive(Clone, Copy)]
-pub(crate) struct NamedNodes<'t> {
-    pub(crate) tables: &'t Tables,
-    pub(crate) nodes: &'t [NodeNo],
+pub struct NamedNodes<'t> {
+    pub tables: &'t Tables,
+    pub nodes: &'t [NodeNo],
 }
 
 impl fmt::Display for NamedNodes<'_> {

@@ -7,6 +7,7 @@ use Rattle.buffer_front.specs.Fronts.{with_front}
 use Rattle.net_rows.specs.Network.{Network}
 use Rattle.net_rows.specs.declared.row.Link.{Link}
 use Rattle.network_law.specs.Entries.{Output}
+use Rattle.network_law.specs.Faults.{refusal_number}
 use Rattle.network_law.specs.declared.fault.StepFault.{StepFault}
 use Rattle.network_law.specs.declared.fault.StepFault.TheVariants as faults
 use Rattle.step_draft.specs.Outputs.{bytes_of}
@@ -35,19 +36,6 @@ pub record Makes (tables ranks name : List ℕ) (before after : Option NodeView)
   pub made : status ≡ 0 → (a : NodeView) × (node_in tables ranks name ≡ Ok a) × (after ≡ Some a)
   pub fault : status ≢ 0 → status ≢ 4 → (f : MakeFault) × (node_in tables ranks name ≡ Err f) × (status ≡ make_status f)
   pub kept : status ≢ 0 → after ≡ before
-
--- the number of a refusal, as it is printed
-abbrev pub refusal_number : StepFault → ℕ
-refusal_number (faults.Decode fault) = 1
-refusal_number faults.ForeignAcquirer = 2
-refusal_number (faults.Missing element) = 3
-refusal_number faults.TypeNotForGate = 4
-refusal_number faults.UnknownAsk = 5
-refusal_number faults.Replacement = 6
-refusal_number faults.HistoryFull = 7
-refusal_number faults.Memory = 8
-refusal_number faults.NoPlace = 9
-refusal_number faults.NotLent = 10
 
 -- the number of the message's fault, 0 where that isn't the reason
 abbrev pub refused_message : StepFault → ℕ

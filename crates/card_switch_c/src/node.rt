@@ -1,6 +1,6 @@
 //! A node.
 ghost use Rattle.std.specs.Prelude.{◌≡◌, ◌≢◌, None, Some, IfErr, IfOk, IfSome};
-ghost use Rattle.card_switch_c.specs.Nodes.{Makes, make_status, refusal_told, TellsInput, TellsHandle, GivesOutput, GivesOutputOf, FindsLink, FindsLinkOf, NamesLink, NamesLinkOf, refusal_number, refused_message, refused_element};
+ghost use Rattle.card_switch_c.specs.Nodes.{Makes, make_status, refusal_told, TellsInput, TellsHandle, GivesOutput, GivesOutputOf, FindsLink, FindsLinkOf, NamesLink, NamesLinkOf, refused_message, refused_element};
 ghost use Rattle.node_calls.specs.Making.{node_in};
 ghost use Rattle.std.specs.Prelude.{Ok, Err};
 
@@ -99,24 +99,6 @@ pub extern "C" fn cs_node_free(alloc: Global, node: &mut NodeHandle)
     drop(node.take(alloc));
 }
 
-/// The number of a refusal, as it is printed.
-fn refusal_number(fault: StepFault) -> u8
-    ensures { result ≡ refusal_number fault }
-{
-    match fault {
-        StepFault::Decode(_) => 1,
-        StepFault::ForeignAcquirer => 2,
-        StepFault::Missing(_) => 3,
-        StepFault::TypeNotForGate => 4,
-        StepFault::UnknownAsk => 5,
-        StepFault::Replacement => 6,
-        StepFault::HistoryFull => 7,
-        StepFault::Memory => 8,
-        StepFault::NoPlace => 9,
-        StepFault::NotLent => 10,
-    }
-}
-
 /// The number of the message's fault, 0 where that isn't the reason.
 fn refused_message(fault: StepFault) -> u8
     ensures { result ≡ refused_message fault }
@@ -143,7 +125,7 @@ fn refusal_told(fault: StepFault) -> Stepped
 {
     Stepped {
         outputs: 0,
-        refusal: refusal_number(fault),
+        refusal: fault.number(),
         message_fault: refused_message(fault),
         element: refused_element(fault),
     }

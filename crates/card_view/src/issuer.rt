@@ -3,26 +3,26 @@ ghost use Rattle.std.specs.Prelude.{◌≡◌, Some};
 ghost use Rattle.net_rows.specs.Network.{issuer};
 ghost use Rattle.card_view.specs.View.{issuer_line, named_text};
 
-use crate::names::{NodeName, NodeNames};
+use bundle_text::{NamedNode, NamedNodes};
 use card_digits::{Card, NodeNo};
 use net_rows::{Issuer, Tables};
 use std::fmt;
 
 /// The nodes that an issuer names.
 #[derive(Clone, Copy)]
-struct NamedNodes<'t> {
+struct NamedByIssuer<'t> {
     tables: &'t Tables,
     nodes: &'t [NodeNo],
 }
 
-impl fmt::Display for NamedNodes<'_> {
+impl fmt::Display for NamedByIssuer<'_> {
     ghost output = { λ named. Some (named_text named.tables.now named.nodes.now) };
 
     fn fmt<W: fmt::Write>(&self, f: &mut fmt::Formatter<W>) -> fmt::Result {
         if self.nodes.is_empty() {
             return f.write_str("no named nodes");
         }
-        let names = NodeNames {
+        let names = NamedNodes {
             tables: self.tables,
             nodes: self.nodes,
         };
@@ -43,12 +43,12 @@ impl fmt::Display for IssuerRow<'_> {
     fn fmt<W: fmt::Write>(&self, f: &mut fmt::Formatter<W>) -> fmt::Result {
         let (tables, row) = (self.tables, self.row);
         let (name, prefix) = (row.name, row.prefix);
-        let home = NodeName {
+        let home = NamedNode {
             tables,
             node: row.home,
         };
         let ceiling = row.ceiling.value();
-        let named = NamedNodes {
+        let named = NamedByIssuer {
             tables,
             nodes: row.named.as_slice(),
         };

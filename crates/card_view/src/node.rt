@@ -4,7 +4,8 @@ ghost use Rattle.net_rows.specs.Network.{issuer, route, stand_in};
 ghost use Rattle.table_checker.specs.Ranks.{rank_at};
 ghost use Rattle.card_view.specs.View.{rank_in, is_home, home_text, rank_text, route_text, stand_in_text, node_line};
 
-use crate::names::{Hops, NodeName};
+use crate::hops::Hops;
+use bundle_text::NamedNode;
 use card_digits::{Card, NodeNo, Prefix};
 use net_rows::Tables;
 use rank_cert::Cert;
@@ -138,7 +139,7 @@ impl fmt::Display for NodeLine<'_> {
             card: self.card,
             node,
         };
-        let name = NodeName { tables, node };
+        let name = NamedNode { tables, node };
         let home = HomeMark { at };
         let rank = NodeRank {
             rank: rank_in(tables, self.cert, self.class, node),

@@ -4,8 +4,9 @@ ghost use Rattle.std.specs.Fmt.{WritesOnOk};
 ghost use Rattle.net_rows.specs.Network.{route};
 ghost use Rattle.card_view.specs.View.{links_of, way_text, acquirer_line, acquirer_lines};
 
-use crate::names::{Hops, NodeName};
+use crate::hops::Hops;
 use crate::node::is_home;
+use bundle_text::NamedNode;
 use card_digits::{Card, LinkNo, NodeNo};
 use net_rows::{Acquirer, Tables};
 use std::fmt;
@@ -83,7 +84,7 @@ impl fmt::Display for AcquirerLine<'_> {
     fn fmt<W: fmt::Write>(&self, f: &mut fmt::Formatter<W>) -> fmt::Result {
         let (tables, card, node) = (self.tables, self.card, self.row.node);
         let id = self.row.id;
-        let name = NodeName { tables, node };
+        let name = NamedNode { tables, node };
         let way = Way { tables, card, node };
         write!(f, "acquirer {id} at {name}:{way}\n")
     }

@@ -1,6 +1,7 @@
 //! The text of decoded messages.
 use card_digits::Counted;
 use message_text::{decode_frames, decode_lines};
+use std::alloc::{AllocError, Global};
 use std::test::Fail;
 
 /// Whether the input's lines are answered so.
@@ -265,25 +266,61 @@ const WHOLE_TABLE: [(u8, u8, &str, usize); 37] = [
     (128, 128, "", 16),
 ];
 
-/// A message of all elements, each as long as it can be, has the longest block.
+/// A message as digits, and its block.
+#[derive(Drop)]
+struct Printed {
+    input: String,
+    text: String,
+}
+
+/// Adds an element of so many sevens, behind the digits of its length.
+fn add_sevens(
+    alloc: Global,
+    printed: &mut Printed,
+    number: u8,
+    digits: &str,
+    size: usize,
+) -> Result<(), AllocError> {
+    let label = format!(in alloc; "{number} ")?;
+    printed.input.push_str(digits)?;
+    printed.text.push_str(&label)?;
+    for _ in 0..size {
+        printed.input.push_str("7")?;
+        printed.text.push_str("7")?;
+    }
+    printed.text.push_str("\n")
+}
+
+/// Adds the elements from a first to a last one.
+fn add_row(
+    alloc: Global,
+    printed: &mut Printed,
+    row: (u8, u8, &str, usize),
+) -> Result<(), AllocError> {
+    let (first, last, digits, size) = row;
+    for number in first..=last {
+        add_sevens(alloc, printed, number, digits, size)?;
+    }
+    Ok(())
+}
+
+/// A message of all elements, each as long as it can be.
+fn longest(alloc: Global) -> Result<Printed, AllocError> {
+    let mut printed = Printed {
+        input: String::from_str(alloc, "0100FFFFFFFFFFFFFFFF0400004216000001")?,
+        text: String::from_str(alloc, "message 1\ntype 0100\n")?,
+    };
+    for row in WHOLE_TABLE {
+        add_row(alloc, &mut printed, row)?;
+    }
+    Ok(printed)
+}
+
+/// It has the longest block.
 #[test]
 fn longest_message(rt: HostRuntime) -> Result<(), Fail> {
-    let alloc = rt.alloc();
-    let mut input = String::from_str(alloc, "0100FFFFFFFFFFFFFFFF0400004216000001")?;
-    let mut text = String::from_str(alloc, "message 1\ntype 0100\n")?;
-    for (first, last, digits, size) in WHOLE_TABLE {
-        for number in first..=last {
-            let label = format!(in alloc; "{number} ")?;
-            input.push_str(digits)?;
-            text.push_str(&label)?;
-            for _ in 0..size {
-                input.push_str("7")?;
-                text.push_str("7")?;
-            }
-            text.push_str("\n")?;
-        }
-    }
-    assert!(rt; text.len() == 13_199);
-    assert!(rt; answers(&rt, &input, &text, true)?);
+    let printed = longest(rt.alloc())?;
+    assert!(rt; printed.text.len() == 13_199);
+    assert!(rt; answers(&rt, &printed.input, &printed.text, true)?);
     Ok(())
 }

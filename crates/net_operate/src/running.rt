@@ -10,7 +10,7 @@ use crate::sessions::run_session;
 use crate::worker::Worker;
 use iso_message::Message;
 use message_elements::Code;
-use net_threads::{Ended, Network, Station};
+use net_threads::{Ended, LineEnd, Network, Station};
 use plan_state::PlanState;
 use run_plan::{Loan, Plan, Session};
 use std::alloc::{AllocError, Global};
@@ -198,6 +198,40 @@ fn run_all<H: Host + Sync, R: Threads + Wait + Sync>(
     )
 }
 
+/// Makes the loans and runs the threads of a plan, whose clock the network's pumps are told of meanwhile.
+fn run_shared<H: Host + Sync, R: Threads + Wait + Sync>(
+    rt: &R,
+    alloc: Global,
+    network: &Network<'_, '_>,
+    plan: &Plan<'_>,
+    hosts: &[H],
+    shared: &PlanState,
+) -> Result<(), OperateFault> {
+    let Ok(number) = network.add_plan(rt, shared.clock()) else {
+        return Err(OperateFault::Memory);
+    };
+    let ran = lend_and_run(rt, alloc, network, plan, hosts, shared);
+    network.remove_plan(rt, number);
+    ran
+}
+
+/// What the plan's sessions ended with, held against its lines.
+fn ended(
+    alloc: Global,
+    plan: &Plan<'_>,
+    ends: Result<Vec<Vec<LineEnd>>, AllocError>,
+) -> Result<Ended, OperateFault>
+    ensures { IfOk result (λ e. AllZip SessionFits plan.now.sessions.items e.sessions.items) }
+{
+    let Ok(ends) = ends else {
+        return Err(OperateFault::Memory);
+    };
+    match fitted(alloc, plan.sessions.as_slice(), ends) {
+        Ok(sessions) => Ok(Ended { sessions }),
+        Err(_) => Err(OperateFault::Memory),
+    }
+}
+
 /// Runs a plan on a network: for each node a thread that pumps and one that asks its host, and a thread for each session. The plan's
 /// loans are made before. All threads have ended at the return, also where one could not be started; steps that were made stay. Each
 /// thread ends after the plan's turns at the latest, for each line of a session, and as soon as all sessions have ended. A host is called
@@ -221,24 +255,14 @@ pub fn operate<H: Host + Sync, R: Threads + Wait + Sync>(
     // For each session an end for each of its lines, at its node; and an answer has the key of its line.
     ensures { IfOk result (λ e. AllZip SessionFits plan.now.sessions.items e.sessions.items) }
 {
-    let stations = network.stations();
-    let Ok(places) = places_of(rt, alloc, stations) else {
+    let Ok(places) = places_of(rt, alloc, network.stations()) else {
         return Err(OperateFault::Memory);
     };
     let Ok(shared) = PlanState::new(alloc, places, hosts.len(), plan) else {
         return Err(OperateFault::Memory);
     };
-    let Ok(number) = network.add_plan(rt, shared.clock()) else {
-        return Err(OperateFault::Memory);
-    };
-    let ran = lend_and_run(rt, alloc, network, plan, hosts, &shared);
-    network.remove_plan(rt, number);
+    let ran = run_shared(rt, alloc, network, plan, hosts, &shared);
+    let ends = shared.into_ends(alloc);
     ran?;
-    let Ok(ends) = shared.into_ends(alloc) else {
-        return Err(OperateFault::Memory);
-    };
-    match fitted(alloc, plan.sessions.as_slice(), ends) {
-        Ok(sessions) => Ok(Ended { sessions }),
-        Err(_) => Err(OperateFault::Memory),
-    }
+    ended(alloc, plan, ends)
 }

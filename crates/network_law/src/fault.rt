@@ -1,4 +1,6 @@
 //! Why a step is refused.
+ghost use Rattle.std.specs.Prelude.{◌≡◌};
+ghost use Rattle.network_law.specs.Faults.{refusal_number};
 
 use message_elements::DecodeFault;
 use std::alloc::AllocError;
@@ -39,6 +41,26 @@ pub enum StepFault {
     /// card whose issuer doesn't name this one.
     #[error("an amount that may not be lent")]
     NotLent,
+}
+
+impl StepFault {
+    /// Its number, as it is printed: 1 to 10.
+    pub fn number(self) -> u8
+        ensures { result ≡ refusal_number self }
+    {
+        match self {
+            StepFault::Decode(_) => 1,
+            StepFault::ForeignAcquirer => 2,
+            StepFault::Missing(_) => 3,
+            StepFault::TypeNotForGate => 4,
+            StepFault::UnknownAsk => 5,
+            StepFault::Replacement => 6,
+            StepFault::HistoryFull => 7,
+            StepFault::Memory => 8,
+            StepFault::NoPlace => 9,
+            StepFault::NotLent => 10,
+        }
+    }
 }
 
 impl From<AllocError> for StepFault {

@@ -4,8 +4,7 @@ use Rattle.std.specs.Fmt.{decimal}
 use Rattle.std.specs.Result.{result_ok}
 use Rattle.iso_message.specs.Fields.{get}
 use Rattle.iso_message.specs.Messages.{read}
-use Rattle.network_law.specs.declared.fault.StepFault.{StepFault}
-use Rattle.network_law.specs.declared.fault.StepFault.TheVariants as refused
+use Rattle.network_law.specs.Faults.{refusal_number}
 use Rattle.net_threads.specs.declared.fault.StationFault.{StationFault}
 use Rattle.net_threads.specs.declared.fault.StationFault.TheVariants.{StrangeLink, Step}
 use Rattle.net_threads.specs.declared.ended.Ended.{Ended}
@@ -15,22 +14,10 @@ use Rattle.net_threads.specs.declared.ended.LineEnd.TheVariants.{Answer, Nothing
 use Rattle.serde_json.specs.Data.{Data, string, array}
 use Rattle.serde_json.specs.View.{items_of}
 
-abbrev pub step_number : StepFault → ℕ
-step_number (refused.Decode fault) = 1
-step_number refused.ForeignAcquirer = 2
-step_number (refused.Missing element) = 3
-step_number refused.TypeNotForGate = 4
-step_number refused.UnknownAsk = 5
-step_number refused.Replacement = 6
-step_number refused.HistoryFull = 7
-step_number refused.Memory = 8
-step_number refused.NoPlace = 9
-step_number refused.NotLent = 10
-
 -- the number of a refusal
 abbrev pub fault_number : StationFault → ℕ
 fault_number StrangeLink = 11
-fault_number (Step fault) = step_number fault
+fault_number (Step fault) = refusal_number fault
 
 -- the code of an answer, where its bytes are a message that has one
 abbrev pub code_in : List ℕ → Option (List ℕ)

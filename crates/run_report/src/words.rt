@@ -1,6 +1,6 @@
 //! The words of a report.
 ghost use Rattle.std.specs.Prelude.{◌≡◌, IfOk, string_bytes};
-ghost use Rattle.run_report.specs.Answers.{step_number, fault_number, code_text, end_text};
+ghost use Rattle.run_report.specs.Answers.{fault_number, code_text, end_text};
 ghost use Rattle.run_report.specs.Reports.{node_name, link_name, verdict_text};
 
 use crate::messages::read_message;
@@ -9,25 +9,7 @@ use message_elements::Code;
 use message_keys::code_of;
 use net_rows::Tables;
 use net_threads::{LineEnd, StationFault, Verdict};
-use network_law::StepFault;
 use std::alloc::{AllocError, Global};
-
-fn step_number(fault: StepFault) -> u8
-    ensures { result ≡ step_number fault }
-{
-    match fault {
-        StepFault::Decode(_) => 1,
-        StepFault::ForeignAcquirer => 2,
-        StepFault::Missing(_) => 3,
-        StepFault::TypeNotForGate => 4,
-        StepFault::UnknownAsk => 5,
-        StepFault::Replacement => 6,
-        StepFault::HistoryFull => 7,
-        StepFault::Memory => 8,
-        StepFault::NoPlace => 9,
-        StepFault::NotLent => 10,
-    }
-}
 
 /// The number of a fault, as the texts have it.
 fn fault_number(fault: StationFault) -> u8
@@ -35,7 +17,7 @@ fn fault_number(fault: StationFault) -> u8
 {
     match fault {
         StationFault::StrangeLink => 11,
-        StationFault::Step(fault) => step_number(fault),
+        StationFault::Step(fault) => fault.number(),
     }
 }
 

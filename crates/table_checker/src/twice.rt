@@ -1,40 +1,13 @@
 //! Ids that stand twice, and timers that run too long.
-ghost use Rattle.std.specs.Prelude.{◌≡◌, ◌==◌, ◌<◌, map, nat_lt, IfOk, Some};
-ghost use Rattle.std.specs.List.{list_any, position_from};
-ghost use Rattle.std.specs.Cmp.Lexicographic.{pointwise};
-ghost use Rattle.card_digits.specs.Numbers.{pad11};
+ghost use Rattle.std.specs.Prelude.{◌≡◌, ◌<◌, nat_lt, IfOk, Some};
+ghost use Rattle.std.specs.List.{position_from};
 ghost use Rattle.table_checker.specs.Rules.{first_repeated, acquirer_twice, node_id_twice, timer_too_long};
 
+use crate::ids::{acquirer_ids, is_among, node_ids};
 use crate::refusal::Refusal;
 use card_digits::{Id, LinkNo};
-use net_rows::{Acquirer, Link, MOST_TICKS, Node, Tables};
+use net_rows::{Link, MOST_TICKS, Tables};
 use std::alloc::{AllocError, Global};
-
-fn acquirer_ids(alloc: Global, acquirers: &[Acquirer]) -> Result<Vec<Id>, AllocError>
-    ensures { IfOk result (λ v. v.items ≡ map (λ a. pad11 a.id) acquirers.now) }
-{
-    let mut ids = Vec::new(alloc);
-    for acquirer in acquirers {
-        ids.push(acquirer.id.padded())?;
-    }
-    Ok(ids)
-}
-
-fn node_ids(alloc: Global, nodes: &[Node]) -> Result<Vec<Id>, AllocError>
-    ensures { IfOk result (λ v. v.items ≡ map (λ n. pad11 n.id) nodes.now) }
-{
-    let mut ids = Vec::new(alloc);
-    for node in nodes {
-        ids.push(node.id.padded())?;
-    }
-    Ok(ids)
-}
-
-fn is_among(ids: &[Id], id: &Id) -> bool
-    ensures { result ≡ list_any (λ other. pointwise ◌==◌ other id.now) ids.now }
-{
-    ids.iter().any(|other| other.as_slice() == id.as_slice())
-}
 
 /// The first id that stands behind an equal one. There are at most 1,024 ids, so that each may be sought among those before it.
 fn first_repeated(ids: &[Id]) -> Option<Id>

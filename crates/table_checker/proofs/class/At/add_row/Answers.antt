@@ -3,20 +3,20 @@ use Rattle.table_checker.specs.Known.{falls_by}
 use Rattle.table_checker.proofs.Codes.{nothing_more, row_none, falling_no_rank, falling_not_less, set_falling}
 use Rattle.table_checker.proofs.class.At.add_row.Goals as goal
 
-pub returns-then-falls-clause-no_rank : goal.returns-then-falls-clause-no_rank
-returns-then-falls-clause-no_rank c =
+pub returns-then-falls_by_known-clause-no_rank : goal.returns-then-falls_by_known-clause-no_rank
+returns-then-falls_by_known-clause-no_rank c =
     let at : slice_get c.args.self.now.tables.now.routes c.args.place ≡ Some c.in-Some.row.now = search rules in
     let falls : falls_by c.args.self.now.tables.now c.args.known.now.ranks c.args.node c.in-Some.row.now.links ≡ true = search rules in
     nothing_more _ _ (row_none _ _ c.in-Some.row.now at (falling_no_rank c.args.self.now c.args.known.now.ranks c.requires.known.ranks c.args.node c.in-Some.row.now.links falls))
 
-pub returns-then-falls-clause-not_less : goal.returns-then-falls-clause-not_less
-returns-then-falls-clause-not_less c =
+pub returns-then-falls_by_known-clause-not_less : goal.returns-then-falls_by_known-clause-not_less
+returns-then-falls_by_known-clause-not_less c =
     let at : slice_get c.args.self.now.tables.now.routes c.args.place ≡ Some c.in-Some.row.now = search rules in
     let falls : falls_by c.args.self.now.tables.now c.args.known.now.ranks c.args.node c.in-Some.row.now.links ≡ true = search rules in
     nothing_more _ _ (row_none _ _ c.in-Some.row.now at (falling_not_less c.args.self.now c.args.known.now.ranks c.requires.known.ranks c.args.node c.in-Some.row.now.links falls))
 
-pub returns-then-falls-clause-known : goal.returns-then-falls-clause-known
-returns-then-falls-clause-known c =
+pub returns-then-falls_by_known-clause-known : goal.returns-then-falls_by_known-clause-known
+returns-then-falls_by_known-clause-known c =
     let at : slice_get c.args.self.now.tables.now.routes c.args.place ≡ Some c.in-Some.row.now = search rules in
     let falls : falls_by c.args.self.now.tables.now c.args.known.now.ranks c.args.node c.in-Some.row.now.links ≡ true = search rules in
     record {

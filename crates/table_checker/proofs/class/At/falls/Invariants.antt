@@ -1,10 +1,15 @@
-use Rattle.std.proofs.Common.{◌≡◌, ℕ, drop, nat_lt}
-use Rattle.std.specs.List.{list_all}
-use Rattle.net_rows.specs.Network.{other_end}
-use Rattle.table_checker.specs.Known.{code_at}
+use Rattle.std.proofs.Common.{◌≡◌, drop}
+use Rattle.table_checker.specs.Search.{first_some}
+use Rattle.table_checker.specs.Rules.{unranked_over, not_less_over}
+use Rattle.table_checker.specs.Known.{IsKept}
 use Rattle.table_checker.proofs.class.At.falls.Given as goal
 
 abbrev pub invariant-loop-link : goal.invariant-loop-link
 invariant-loop-link l =
-    let f = λ (link : ℕ). nat_lt (code_at l.ranks (other_end l.self.tables.now l.node link)) (code_at l.ranks l.node) in
-    list_all f (drop l.link-index l.links) ≡ list_all f l.links
+    let f = unranked_over l.self.tables.now l.self.cert.now l.self.class l.node in
+    let g = not_less_over l.self.tables.now l.self.cert.now l.self.class l.node in
+    record {
+      known : IsKept l.self l.known;
+      no_rank : first_some f (drop l.link-index l.links) ≡ first_some f l.links;
+      not_less : first_some g (drop l.link-index l.links) ≡ first_some g l.links;
+    }

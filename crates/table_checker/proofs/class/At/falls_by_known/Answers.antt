@@ -4,7 +4,7 @@ use Rattle.std.proofs.lemmas.Bool.{lt-ltb, le-ltb}
 use Rattle.net_rows.specs.Network.{other_end}
 use Rattle.table_checker.specs.Known.{code_at}
 use Rattle.table_checker.proofs.Codes.{all_on, all_off, all_end}
-use Rattle.table_checker.proofs.class.At.falls.Goals as goal
+use Rattle.table_checker.proofs.class.At.falls_by_known.Goals as goal
 
 pub returns-then-far-own : goal.returns-then-far-own
 returns-then-far-own c =

@@ -1,7 +1,7 @@
 use Rattle.std.proofs.Common.{rules}
 use Rattle.std.proofs.lemmas.Grind.{put_two}
 use Rattle.card_view.proofs.Pieces.{fallbacks_more}
-use Rattle.card_view.proofs.names.FallbacksDisplay.fmt.Goals as goal
+use Rattle.card_view.proofs.hops.FallbacksDisplay.fmt.Goals as goal
 
 pub loop-link-preserved : goal.loop-link-preserved
 loop-link-preserved g c =

@@ -1,76 +1,11 @@
-//! Nodes and links by their names.
-ghost use Rattle.std.specs.Prelude.{◌≡◌, Some};
-ghost use Rattle.bundle_text.specs.Lines.{node_name, link_name};
-ghost use Rattle.card_view.specs.View.{hop_text, hops_text, nodes_text};
+//! The links of a route by their names.
+ghost use Rattle.std.specs.Prelude.{Some};
+ghost use Rattle.card_view.specs.View.{hop_text, hops_text};
 
+use bundle_text::{NamedLink, NamedNode};
 use card_digits::{LinkNo, NodeNo};
 use net_rows::Tables;
 use std::fmt;
-
-/// A node by its name, empty where the tables have no such node.
-#[derive(Clone, Copy)]
-pub(crate) struct NodeName<'t> {
-    pub(crate) tables: &'t Tables,
-    pub(crate) node: NodeNo,
-}
-
-impl fmt::Display for NodeName<'_> {
-    ghost output = { λ named. Some (node_name named.tables.now named.node) };
-
-    fn fmt<W: fmt::Write>(&self, f: &mut fmt::Formatter<W>) -> fmt::Result {
-        match self.tables.nodes().get(self.node.place()) {
-            Some(row) => {
-                let name = row.name;
-                write!(f, "{name}")
-            }
-            None => Ok(()),
-        }
-    }
-}
-
-/// A link by its name, empty where the tables have no such link.
-#[derive(Clone, Copy)]
-pub(crate) struct LinkName<'t> {
-    pub(crate) tables: &'t Tables,
-    pub(crate) link: LinkNo,
-}
-
-impl fmt::Display for LinkName<'_> {
-    ghost output = { λ named. Some (link_name named.tables.now named.link) };
-
-    fn fmt<W: fmt::Write>(&self, f: &mut fmt::Formatter<W>) -> fmt::Result {
-        match self.tables.links().get(self.link.place()) {
-            Some(row) => {
-                let name = row.name;
-                write!(f, "{name}")
-            }
-            None => Ok(()),
-        }
-    }
-}
-
-/// Nodes by their names, a space before each.
-#[derive(Clone, Copy)]
-pub(crate) struct NodeNames<'t> {
-    pub(crate) tables: &'t Tables,
-    pub(crate) nodes: &'t [NodeNo],
-}
-
-impl fmt::Display for NodeNames<'_> {
-    ghost output = { λ named. Some (nodes_text named.tables.now named.nodes.now) };
-
-    fn fmt<W: fmt::Write>(&self, f: &mut fmt::Formatter<W>) -> fmt::Result {
-        let tables = self.tables;
-        for node in self.nodes {
-            let node = NodeName {
-                tables,
-                node: *node,
-            };
-            write!(f, " {node}")?;
-        }
-        Ok(())
-    }
-}
 
 /// A link of a node, and the node at its other end.
 #[derive(Clone, Copy)]
@@ -85,11 +20,11 @@ impl fmt::Display for Hop<'_> {
 
     fn fmt<W: fmt::Write>(&self, f: &mut fmt::Formatter<W>) -> fmt::Result {
         let tables = self.tables;
-        let link = LinkName {
+        let link = NamedLink {
             tables,
             link: self.link,
         };
-        let far = NodeName {
+        let far = NamedNode {
             tables,
             node: tables.other_end(self.node, self.link),
         };

@@ -1,6 +1,6 @@
 use Rattle.std.proofs.Common.{sym}
 use Rattle.table_checker.proofs.Codes.{rank_is, none_is}
-use Rattle.table_checker.proofs.class.At.rank_once.Goals as goal
+use Rattle.table_checker.proofs.class.At.rank.Goals as goal
 
 pub returns-then-code-lt-NO_RANK-clause-rank : goal.returns-then-code-lt-NO_RANK-clause-rank
 returns-then-code-lt-NO_RANK-clause-rank c =
