@@ -5,7 +5,7 @@
  * The hash is that of a HashMap. Each write is a multiplication to 128 bits whose halves are joined, and at last the halves of the state are
  * joined. A table has a place for the lowest bits, and a tag of the highest eight. OF is 0 for the key of a request (card_digits, Key): the
  * acquirer, the trace and the time are written; 1 for the identity of its reversal (message_keys, AdviceId): before that its kind, and behind
- * it the number and the bytes of its forwarder, which are zeros; 2 for the same among stored ones (advice_store, StoredKey): first that it is
+ * it the number and the bytes of its forwarder, which are zeros; 2 for the same among stored ones (advice_slots, ItemName): first that it is
  * an advice. */
 #include <stdint.h>
 #include <stdio.h>

@@ -1,11 +1,2 @@
-mod Derived
-mod Loose
-mod Stores
-mod Looking
-mod Standing
-mod Items
-mod Due
-mod Arming
-mod Lists
-mod Turning
-mod Ids
+mod Nodes
+mod Identities

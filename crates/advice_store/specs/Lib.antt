@@ -1,2 +1,3 @@
+pub mod Books
+pub mod Nodes
 pub mod Advices
-pub mod Kept

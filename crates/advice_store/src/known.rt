@@ -1,50 +1,65 @@
 //! The identities that are known.
-ghost use Rattle.std.specs.Prelude.{◌≡◌, ◌≤◌, ◌+◌, OnOk, cond, true, false};
-ghost use Rattle.crowded_map.specs.Sets.{spare};
-ghost use Rattle.std.specs.List.{list_any};
-ghost use Rattle.message_keys.specs.Keys.{identity_eq};
+ghost use Rattle.std.specs.Prelude.{◌≡◌, ◌≤◌, ◌+◌, ◌∷◌, ◌++◌, [], OnOk, IfOk};
+ghost use Rattle.node_machine.specs.Lists.{is_among};
 
 use crowded_map::CrowdedSet;
 use message_keys::AdviceId;
 use std::alloc::{AllocError, Global};
+use std::marker::Model;
 
-/// A set of identities.
+/// Identities in the order in which they came.
 #[derive(Drop)]
 pub(crate) struct KnownIds {
-    pub ids: CrowdedSet<AdviceId>,
+    list: Vec<AdviceId>,
+    set: CrowdedSet<AdviceId>,
+}
+
+impl Model for KnownIds {
+    ghost use Rattle.std.specs.Prelude.{vec_len, vec_capacity, min, ◌-◌};
+    ghost use Rattle.crowded_map.specs.Sets.{spare};
+    ghost use Rattle.advice_store.specs.Books.{AreKnown, KnownView};
+
+    ghost Value = { KnownView };
+
+    ghost view = { λ k. record { ids = k.list.items; room = min (vec_capacity k.list - vec_len k.list) (spare k.set) } };
+
+    ghost invariant = { λ k. AreKnown k.set.keys k.list.items };
 }
 
 impl KnownIds {
     /// No identity is known.
     pub fn new(alloc: Global) -> KnownIds
-        ensures { (id : AdviceId) → list_any (identity_eq id) result.ids.keys ≡ false }
+        ensures { result.ids ≡ [] }
     {
         KnownIds {
-            ids: CrowdedSet::new(alloc),
+            list: Vec::new(alloc),
+            set: CrowdedSet::new(alloc),
         }
     }
 
-    /// The next n identities need no memory.
+    /// The next n identities need no memory. Where it is refused, the next one may need some.
     pub fn reserve(&mut self, n: usize) -> Result<(), AllocError>
-        ensures keys { (id : AdviceId) → list_any (identity_eq id) self.new.ids.keys ≡ list_any (identity_eq id) self.old.ids.keys }
-        ensures room { OnOk result (n ≤ spare self.new.ids) }
+        ensures same { self.new.ids ≡ self.old.ids }
+        ensures ok { OnOk result (n ≤ self.new.room) }
     {
-        self.ids.reserve(n)
+        self.list.reserve(n)?;
+        self.set.reserve(n)
     }
 
-    /// Whether the identity is among them.
+    /// Whether the identity is among them. One look-up.
     pub fn contains(&self, id: AdviceId) -> bool
-        ensures { result ≡ list_any (identity_eq id) self.now.ids.keys }
+        ensures { result ≡ is_among id self.now.ids }
     {
-        self.ids.contains(&id)
+        self.set.contains(&id)
     }
 
     /// An identity more.
     pub fn insert(&mut self, id: AdviceId)
-        requires { 1 ≤ spare self.old.ids }
-        ensures keys { (other : AdviceId) → list_any (identity_eq other) self.new.ids.keys ≡ cond (identity_eq id other) true (list_any (identity_eq other) self.old.ids.keys) }
-        ensures room { spare self.old.ids ≤ spare self.new.ids + 1 }
+        requires { 1 ≤ self.old.room }
+        ensures ids { self.new.ids ≡ self.old.ids ++ id ∷ [] }
+        ensures room { self.old.room ≤ self.new.room + 1 }
     {
-        self.ids.insert(id);
+        self.list.push_reserved(id);
+        self.set.insert(id);
     }
 }

@@ -1,14 +1,14 @@
-//! Advices and grants that wait for their acknowledgement.
+//! Store and forward: advices and grants that wait for their acknowledgement, and the identities that are known.
 #![tactic(auto)]
 
-mod held;
-mod item;
-mod key;
+mod grant;
 mod known;
-mod places;
+mod lenders;
+mod node;
 mod store;
-mod wanted;
-mod wheel;
 
-pub use item::{KeptAdvice, KeptGrant, StoredCase, StoredItem};
-pub use store::AdviceStore;
+pub use advice_slots::{Advice, ItemName, KeptAdvice, KeptGrant, StoredCase, StoredItem};
+pub use grant::read_grant;
+pub use network_law::{Grant, GrantPacket};
+pub use node::NodeAdvices;
+pub use store::{AdviceStore, GrantFault, StoreFault};

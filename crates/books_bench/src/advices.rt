@@ -1,7 +1,7 @@
 //! The store of advices.
 use crate::messages::advice;
 use crate::report::{report, start};
-use advice_store::{AdviceStore, KeptAdvice};
+use advice_store::{KeptAdvice, NodeAdvices};
 use iso_message::Message;
 use message_keys::advice_id;
 use std::alloc::{AllocError, Global};
@@ -17,13 +17,13 @@ fn kept(message: Message) -> Option<KeptAdvice> {
     Some(KeptAdvice::new(id, message, 0, false))
 }
 
-fn store(store: &mut AdviceStore, advice: KeptAdvice) -> Result<(), AllocError> {
-    store.reserve(1)?;
-    store.store(advice);
+fn store(store: &mut NodeAdvices, advice: KeptAdvice) -> Result<(), AllocError> {
+    store.room(1)?;
+    store.keep(advice);
     Ok(())
 }
 
-fn store_all(alloc: Global, into: &mut AdviceStore, count: u32) -> Result<(), AllocError> {
+fn store_all(alloc: Global, into: &mut NodeAdvices, count: u32) -> Result<(), AllocError> {
     for trace in 0..count {
         if let Some(message) = advice(alloc, trace)? {
             if let Some(kept) = kept(message) {
@@ -31,18 +31,18 @@ fn store_all(alloc: Global, into: &mut AdviceStore, count: u32) -> Result<(), Al
             }
         }
     }
-    into.reserve(1)
+    into.room(1)
 }
 
 /// A tick at this count. The result is how many advices are due.
-fn tick(store: &mut AdviceStore, now: u64) -> Result<u64, AllocError> {
-    let due = store.due(TICKS, now)?;
+fn tick(store: &mut NodeAdvices, now: u64) -> Result<u64, AllocError> {
+    let due = store.due_at(TICKS, now)?;
     store.tick();
     Ok(due.len() as u64)
 }
 
 /// So many ticks, one after another. Of each hundredth, at which all are due, it isn't asked what is due.
-fn ticks(store: &mut AdviceStore, count: u32) -> Result<u64, AllocError> {
+fn ticks(store: &mut NodeAdvices, count: u32) -> Result<u64, AllocError> {
     let mut due = 0u64;
     let mut now = 0u64;
     for _ in 0..count {
@@ -56,13 +56,13 @@ fn ticks(store: &mut AdviceStore, count: u32) -> Result<u64, AllocError> {
     Ok(due)
 }
 
-fn measure_stored(rt: &HostRuntime, store: &mut AdviceStore, count: u32) -> io::Result<()> {
+fn measure_stored(rt: &HostRuntime, store: &mut NodeAdvices, count: u32) -> io::Result<()> {
     let from = start(rt)?;
     store_all(rt.alloc(), store, count)?;
     report(rt, from, "advices stored", count, store.len() as u64)
 }
 
-fn measure_ticks(rt: &HostRuntime, store: &mut AdviceStore, count: u32) -> io::Result<()> {
+fn measure_ticks(rt: &HostRuntime, store: &mut NodeAdvices, count: u32) -> io::Result<()> {
     let from = start(rt)?;
     let due = ticks(store, count)?;
     report(rt, from, "ticks with none due", count, due)
@@ -70,7 +70,7 @@ fn measure_ticks(rt: &HostRuntime, store: &mut AdviceStore, count: u32) -> io::R
 
 fn measure_in(
     rt: &HostRuntime,
-    store: &mut AdviceStore,
+    store: &mut NodeAdvices,
     stored: u32,
     count: u32,
 ) -> io::Result<()> {
@@ -80,6 +80,6 @@ fn measure_in(
 
 /// Ticks beside so many that are stored, none of which is due.
 pub(crate) fn measure(rt: &HostRuntime, stored: u32, calls: u32) -> io::Result<()> {
-    let mut store = AdviceStore::new(rt.alloc(), TICKS)?;
+    let mut store = NodeAdvices::new(rt.alloc(), TICKS)?;
     measure_in(rt, &mut store, stored, calls.wrapping_mul(100))
 }

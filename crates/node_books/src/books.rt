@@ -21,7 +21,7 @@ ghost use Rattle.node_books.specs.Ways.{asks_by, store_by};
 use crate::effect::{Effect, NewAdvice};
 use crate::links::{LinkState, Links};
 use crate::waits::{are_waits_in, waits_in};
-use advice_store::{AdviceStore, KeptAdvice, KeptGrant, StoredItem};
+use advice_store::{KeptAdvice, KeptGrant, NodeAdvices, StoredItem};
 use card_digits::{Amount, Card, DateLabel, Key, LinkNo};
 use message_keys::AdviceId;
 use net_rows::Link;
@@ -40,7 +40,7 @@ const ROOM: usize = 64;
 pub struct Books {
     pub(crate) pending: PendingBook,
     pub(crate) standin: StandInBook,
-    pub(crate) advices: AdviceStore,
+    pub(crate) advices: NodeAdvices,
     pub(crate) lending: LendingBook,
     pub(crate) links: Links,
     pub(crate) asks: Vec<Key>,
@@ -72,7 +72,7 @@ fn ask_in(asks: &mut Vec<Key>, way: Way, key: Key)
 }
 
 /// What an output that goes this way does to the store.
-fn mark_in(advices: &mut AdviceStore, way: Way, output: &PreparedOutput)
+fn mark_in(advices: &mut NodeAdvices, way: Way, output: &PreparedOutput)
     ensures { advices.new ≡ record advices.old { store = store_by way (advice_of (message_of output.now)) advices.old.store } }
 {
     if let Way::Put(_, _) = way {
@@ -98,7 +98,7 @@ impl Books {
         Ok(Books {
             pending: PendingBook::new(alloc, waits)?,
             standin: StandInBook::new(alloc),
-            advices: AdviceStore::new(alloc, ticks)?,
+            advices: NodeAdvices::new(alloc, ticks)?,
             lending: LendingBook::new(alloc),
             links,
             asks: Vec::new(alloc),
@@ -116,7 +116,7 @@ impl Books {
         self.room = 0;
         self.pending.reserve(n)?;
         self.standin.reserve(n)?;
-        self.advices.reserve(n)?;
+        self.advices.room(n)?;
         self.lending.reserve(n)?;
         self.asks.reserve(n)?;
         self.room = n;
@@ -286,7 +286,7 @@ impl Books {
     pub fn due(&self, ticks: u16, now: u64) -> Result<Vec<StoredItem>, AllocError>
         ensures { IfOk result (λ v. v.items ≡ filter (is_due ticks now) self.now.lists.store) }
     {
-        self.advices.due(ticks, now)
+        self.advices.due_at(ticks, now)
     }
 
     /// What the node approved by itself, the oldest first.
@@ -403,9 +403,9 @@ impl Books {
             self.standin.give_back(id.key, actual);
         }
         if home {
-            self.advices.note(id);
+            self.advices.know(id);
         } else {
-            self.advices.store(KeptAdvice::new(id, message, count, put));
+            self.advices.keep(KeptAdvice::new(id, message, count, put));
         }
     }
 
@@ -417,7 +417,7 @@ impl Books {
         let lent = grant.grant();
         self.lending
             .lend(Loan::new(lent.card, lent.date, lent.amount));
-        self.advices.lend(grant);
+        self.advices.keep_grant(grant);
         self.room -= 1;
     }
 

@@ -1,4 +1,4 @@
-//! The book of advices and grants.
+//! The store of advices and grants.
 mod desk;
 mod full;
 mod orders;

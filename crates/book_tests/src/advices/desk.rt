@@ -1,5 +1,5 @@
 //! A store in which advices are sent again after three ticks. Nothing is promised of these functions.
-use advice_store::{AdviceStore, KeptAdvice};
+use advice_store::{KeptAdvice, NodeAdvices};
 use iso_message::{Message, decode};
 use message_keys::{AdviceId, advice_id};
 use std::alloc::{AllocError, Global};
@@ -42,7 +42,7 @@ pub(crate) enum Step {
 #[derive(Drop)]
 struct Desk {
     alloc: Global,
-    store: AdviceStore,
+    store: NodeAdvices,
 }
 
 fn ticks() -> u16 {
@@ -69,8 +69,8 @@ impl Desk {
     }
 
     fn keep(&mut self, advice: KeptAdvice) -> Result<bool, AllocError> {
-        self.store.reserve(1)?;
-        self.store.store(advice);
+        self.store.room(1)?;
+        self.store.keep(advice);
         Ok(true)
     }
 
@@ -89,13 +89,13 @@ impl Desk {
     }
 
     fn note(&mut self, id: AdviceId) -> Result<(), AllocError> {
-        self.store.reserve(1)?;
-        self.store.note(id);
+        self.store.room(1)?;
+        self.store.know(id);
         Ok(())
     }
 
     fn is_due(&mut self, now: u64, count: usize) -> Result<bool, AllocError> {
-        let due = self.store.due(ticks(), now)?;
+        let due = self.store.due_at(ticks(), now)?;
         self.store.tick();
         Ok(due.len() == count)
     }
@@ -153,7 +153,7 @@ fn first_wrong_in(desk: &mut Desk, steps: &[Step]) -> Result<Option<usize>, Allo
 
 /// The first step that goes otherwise.
 pub(crate) fn first_wrong(alloc: Global, steps: &[Step]) -> Result<Option<usize>, AllocError> {
-    let store = AdviceStore::new(alloc, ticks())?;
+    let store = NodeAdvices::new(alloc, ticks())?;
     let mut desk = Desk { alloc, store };
     first_wrong_in(&mut desk, steps)
 }

@@ -1,5 +1,5 @@
 //! Grants, stored, sent again and acknowledged.
-use advice_store::{AdviceStore, KeptGrant};
+use advice_store::{KeptGrant, NodeAdvices};
 use card_digits::{Amount, Card, DateLabel, DigitFault, NodeNo};
 use network_law::{Grant, GrantPacket};
 use std::alloc::{AllocError, Global};
@@ -37,21 +37,21 @@ fn grant(number: u64) -> Result<Grant, DigitFault> {
     })
 }
 
-fn store(store: &mut AdviceStore, grant: Grant, count: u64) -> Result<bool, AllocError> {
-    store.reserve(1)?;
-    store.lend(KeptGrant::new(grant, NodeNo::new(2), count));
+fn store(store: &mut NodeAdvices, grant: Grant, count: u64) -> Result<bool, AllocError> {
+    store.room(1)?;
+    store.keep_grant(KeptGrant::new(grant, NodeNo::new(2), count));
     Ok(true)
 }
 
-fn lend(to: &mut AdviceStore, number: u64, count: u64) -> Result<bool, AllocError> {
+fn lend(to: &mut NodeAdvices, number: u64, count: u64) -> Result<bool, AllocError> {
     match grant(number) {
         Ok(grant) => store(to, grant, count),
         Err(_) => Ok(false),
     }
 }
 
-fn is_due(store: &AdviceStore, ticks: u16, now: u64, count: usize) -> Result<bool, AllocError> {
-    let due = store.due(ticks, now)?;
+fn is_due(store: &NodeAdvices, ticks: u16, now: u64, count: usize) -> Result<bool, AllocError> {
+    let due = store.due_at(ticks, now)?;
     Ok(due.len() == count)
 }
 
@@ -63,7 +63,7 @@ fn ack(number: u64) -> GrantPacket {
 }
 
 /// Whether a step goes as it says.
-fn does(store: &mut AdviceStore, step: Step) -> Result<bool, AllocError> {
+fn does(store: &mut NodeAdvices, step: Step) -> Result<bool, AllocError> {
     match step {
         Step::Lend(number, count) => lend(store, number, count),
         Step::Due(now, count) => is_due(store, ticks(), now, count),
@@ -80,7 +80,7 @@ fn does(store: &mut AdviceStore, step: Step) -> Result<bool, AllocError> {
     }
 }
 
-fn first_wrong_in(store: &mut AdviceStore, steps: &[Step]) -> Result<Option<usize>, AllocError> {
+fn first_wrong_in(store: &mut NodeAdvices, steps: &[Step]) -> Result<Option<usize>, AllocError> {
     for place in 0..steps.len() {
         if !does(store, steps[place])? {
             return Ok(Some(place));
@@ -91,7 +91,7 @@ fn first_wrong_in(store: &mut AdviceStore, steps: &[Step]) -> Result<Option<usiz
 
 /// The first step that goes otherwise in a new store.
 fn first_wrong(alloc: Global, steps: &[Step]) -> Result<Option<usize>, AllocError> {
-    let mut store = AdviceStore::new(alloc, ticks())?;
+    let mut store = NodeAdvices::new(alloc, ticks())?;
     first_wrong_in(&mut store, steps)
 }
 

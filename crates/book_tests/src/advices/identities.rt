@@ -1,29 +1,29 @@
 //! Identities that are known.
 
 use crate::samples::{REVERSAL, STAND_IN};
-use advice_store::AdviceStore;
+use advice_store::NodeAdvices;
 use message_keys::AdviceId;
 use std::alloc::{AllocError, Global};
 use std::test::*;
 
-fn note(store: &mut AdviceStore, id: AdviceId) -> Result<(), AllocError> {
-    store.reserve(1)?;
-    store.note(id);
+fn note(store: &mut NodeAdvices, id: AdviceId) -> Result<(), AllocError> {
+    store.room(1)?;
+    store.know(id);
     Ok(())
 }
 
 /// Whether an identity is known, and neither stored nor put.
-fn is_only_known(store: &AdviceStore, id: AdviceId) -> bool {
+fn is_only_known(store: &NodeAdvices, id: AdviceId) -> bool {
     store.is_known(id) && !store.is_stored(id) && !store.was_put(id)
 }
 
-fn notes(store: &mut AdviceStore) -> Result<bool, AllocError> {
+fn notes(store: &mut NodeAdvices) -> Result<bool, AllocError> {
     note(store, REVERSAL)?;
     Ok(is_only_known(store, REVERSAL) && !store.is_known(STAND_IN) && store.len() == 0)
 }
 
 fn notes_in_new_store(alloc: Global) -> Result<bool, AllocError> {
-    let mut store = AdviceStore::new(alloc, 3)?;
+    let mut store = NodeAdvices::new(alloc, 3)?;
     notes(&mut store)
 }
 
@@ -33,14 +33,14 @@ fn noted_where_nothing_is_stored(rt: HostRuntime) -> Result<(), Fail> {
     Ok(())
 }
 
-fn knows_what_is_acknowledged(store: &mut AdviceStore) -> Result<bool, AllocError> {
+fn knows_what_is_acknowledged(store: &mut NodeAdvices) -> Result<bool, AllocError> {
     note(store, REVERSAL)?;
     store.ack(REVERSAL);
     Ok(is_only_known(store, REVERSAL))
 }
 
 fn knows_in_new_store(alloc: Global) -> Result<bool, AllocError> {
-    let mut store = AdviceStore::new(alloc, 3)?;
+    let mut store = NodeAdvices::new(alloc, 3)?;
     knows_what_is_acknowledged(&mut store)
 }
 

@@ -1,6 +1,6 @@
-//! A book, and what the tests do with it.
+//! A store, and what the tests do with it.
 use crate::advices::words::{Name, advice, grant, id, item_name};
-use advice_book::{Advice, AdviceBook, GrantFault, ItemName, StoreFault};
+use advice_store::{Advice, AdviceStore, GrantFault, ItemName, StoreFault};
 use std::alloc::{AllocError, Global};
 
 /// The ticks after which items are due again.
@@ -41,11 +41,11 @@ pub(crate) enum Step {
     Lent(u64, bool),
 }
 
-/// A book of a test.
+/// A store of a test.
 #[derive(Drop)]
 struct Desk {
     alloc: Global,
-    book: AdviceBook,
+    store: AdviceStore,
 }
 
 fn are(names: &[ItemName], wanted: &[Name]) -> bool {
@@ -60,32 +60,36 @@ fn are(names: &[ItemName], wanted: &[Name]) -> bool {
     true
 }
 
-fn reserve_and_store(book: &mut AdviceBook, count: u32, advice: Advice) -> Result<(), StoreFault> {
-    book.reserve(count)?;
+fn reserve_and_store(
+    store: &mut AdviceStore,
+    count: u32,
+    advice: Advice,
+) -> Result<(), StoreFault> {
+    store.reserve(count)?;
     if count == 0 {
         return Ok(());
     }
-    match book.store(advice, true) {
+    match store.store(advice, true) {
         Ok(()) => Ok(()),
         Err((fault, _)) => Err(fault),
     }
 }
 
-fn reserve_and_give_back(book: &mut AdviceBook, count: u32) -> Result<(), StoreFault> {
-    book.reserve(count)?;
-    book.unreserve(count);
+fn reserve_and_give_back(store: &mut AdviceStore, count: u32) -> Result<(), StoreFault> {
+    store.reserve(count)?;
+    store.unreserve(count);
     Ok(())
 }
 
 impl Desk {
     fn new(alloc: Global) -> Result<Desk, AllocError> {
-        let book = AdviceBook::new(alloc, TICKS)?;
-        Ok(Desk { alloc, book })
+        let store = AdviceStore::new(alloc, TICKS)?;
+        Ok(Desk { alloc, store })
     }
 
     /// Whether storing an advice answers this; what comes back is the advice.
     fn stores(&mut self, number: u32, wanted: Option<StoreFault>) -> bool {
-        match self.book.store(advice(self.alloc, number), false) {
+        match self.store.store(advice(self.alloc, number), false) {
             Ok(()) => wanted.is_none(),
             Err((fault, back)) => wanted == Some(fault) && back.id == id(number),
         }
@@ -104,13 +108,13 @@ impl Desk {
     /// Whether so many places are reserved, and an advice is stored on one of them.
     fn stores_reserved(&mut self, count: u32, number: u32) -> bool {
         let advice = advice(self.alloc, number);
-        reserve_and_store(&mut self.book, count, advice).is_ok()
+        reserve_and_store(&mut self.store, count, advice).is_ok()
     }
 
     /// Whether storing a grant answers this.
     fn lends(&mut self, number: u64, wanted: Option<GrantFault>) -> bool {
         match grant(number) {
-            Ok(grant) => self.book.store_grant(grant).err() == wanted,
+            Ok(grant) => self.store.store_grant(grant).err() == wanted,
             Err(_) => false,
         }
     }
@@ -118,24 +122,24 @@ impl Desk {
     /// Takes an item out, and says whether it was held.
     fn acks(&mut self, name: Name) -> bool {
         match name {
-            Name::Advice(number) => self.book.ack(&id(number)),
-            Name::Grant(number) => self.book.ack_grant(number),
+            Name::Advice(number) => self.store.ack(&id(number)),
+            Name::Grant(number) => self.store.ack_grant(number),
         }
     }
 
     /// Marks an advice as put, if it is held.
     fn puts(&mut self, number: u32) -> bool {
         let id = id(number);
-        if !self.book.holds(&id) {
+        if !self.store.holds(&id) {
             return false;
         }
-        self.book.mark_put(&id);
+        self.store.mark_put(&id);
         true
     }
 
     /// Whether these are due at the next tick, in this order.
     fn is_due(&self, wanted: &[Name]) -> bool {
-        match self.book.due() {
+        match self.store.due() {
             Ok(due) => are(due.as_slice(), wanted),
             Err(_) => false,
         }
@@ -144,41 +148,41 @@ impl Desk {
     /// Whether the next tick has these, and looks at no more than these and one.
     fn ticks(&mut self, wanted: &[Name]) -> bool {
         let same = self.is_due(wanted);
-        self.book.tick();
-        same && self.book.visits() <= (wanted.len() as u64).saturating_add(1)
+        self.store.tick();
+        same && self.store.visits() <= (wanted.len() as u64).saturating_add(1)
     }
 
     /// Whether reserving so many places answers this.
     fn reserves(&mut self, count: u32, wanted: Option<StoreFault>) -> bool {
-        self.book.reserve(count).err() == wanted
+        self.store.reserve(count).err() == wanted
     }
 
     /// Whether so many places are reserved, and then given back.
     fn gives_back(&mut self, count: u32) -> bool {
-        reserve_and_give_back(&mut self.book, count).is_ok()
+        reserve_and_give_back(&mut self.store, count).is_ok()
     }
 
     /// Whether there is memory for so many calls.
     fn has_room(&mut self, count: usize) -> bool {
-        self.book.room(count).is_ok()
+        self.store.room(count).is_ok()
     }
 
     /// Whether noting an identity answers this.
     fn notes(&mut self, number: u32, wanted: Option<StoreFault>) -> bool {
-        self.book.note(id(number)).err() == wanted
+        self.store.note(id(number)).err() == wanted
     }
 
     /// Whether this is so: the identity is known, and its advice held.
     fn is_known(&self, number: u32, known: bool, held: bool) -> bool {
         let id = id(number);
-        self.book.known(&id) == known
-            && self.book.holds(&id) == held
-            && self.book.get(&id).is_some() == held
+        self.store.known(&id) == known
+            && self.store.holds(&id) == held
+            && self.store.get(&id).is_some() == held
     }
 
     /// Whether the advice is held and was put.
     fn was_put(&self, number: u32) -> bool {
-        match self.book.get(&id(number)) {
+        match self.store.get(&id(number)) {
             Some(advice) => advice.put,
             None => false,
         }
@@ -186,7 +190,7 @@ impl Desk {
 
     /// Whether the grant is held, and is the one that was stored.
     fn is_lent(&self, number: u64) -> bool {
-        match self.book.grant(number) {
+        match self.store.grant(number) {
             Some(held) => Ok(*held) == grant(number),
             None => false,
         }

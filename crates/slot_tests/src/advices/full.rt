@@ -1,7 +1,7 @@
-//! A book with as many places taken as it has.
+//! A store with as many places taken as it has.
 use crate::advices::desk::{Step, first_wrong};
 use crate::advices::words::Name;
-use advice_book::{GrantFault, StoreFault};
+use advice_store::{GrantFault, StoreFault};
 use std::test::*;
 
 /// One more is refused, a tick looks at none of those stored, and a place that is given up is free again.
@@ -29,7 +29,7 @@ fn the_last_place(rt: HostRuntime) -> Result<(), Fail> {
 
 /// An identity is noted where no place is free, and takes none.
 #[test]
-fn noted_in_a_full_book(rt: HostRuntime) -> Result<(), Fail> {
+fn noted_in_a_full_store(rt: HostRuntime) -> Result<(), Fail> {
     const STEPS: &[Step] = &[
         Step::Reserve(65_536, None),
         Step::Note(1, None),
@@ -62,7 +62,7 @@ fn reserved_places(rt: HostRuntime) -> Result<(), Fail> {
     Ok(())
 }
 
-/// The whole book reserved leaves no place.
+/// The whole store reserved leaves no place.
 #[test]
 fn all_reserved(rt: HostRuntime) -> Result<(), Fail> {
     const STEPS: &[Step] = &[
@@ -74,7 +74,7 @@ fn all_reserved(rt: HostRuntime) -> Result<(), Fail> {
     Ok(())
 }
 
-/// Memory is there for as many calls as a book has places, more than once, and what is stored stays.
+/// Memory is there for as many calls as a store has places, more than once, and what is stored stays.
 #[test]
 fn room_for_all(rt: HostRuntime) -> Result<(), Fail> {
     const STEPS: &[Step] = &[

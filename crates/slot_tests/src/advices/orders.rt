@@ -1,7 +1,7 @@
 //! What is due at which tick, what is known, and what was put.
 use crate::advices::desk::{Step, first_wrong};
 use crate::advices::words::{Name, REVERSALS};
-use advice_book::StoreFault;
+use advice_store::StoreFault;
 use std::test::*;
 
 /// Advices and grants come in one stored order, at each third tick after their storing, until they are acknowledged.

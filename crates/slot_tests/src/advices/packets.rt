@@ -1,5 +1,5 @@
 //! Packets of grants.
-use advice_book::{GrantPacket, read_grant};
+use advice_store::{GrantPacket, read_grant};
 use std::test::*;
 
 #[test]

@@ -1,6 +1,6 @@
 //! Advices and grants of the tests.
 use crate::requests::words::key;
-use advice_book::{Advice, Grant, ItemName};
+use advice_store::{Advice, Grant, ItemName};
 use card_digits::{Amount, Card, DateLabel, DigitFault};
 use iso_message::Message;
 use message_elements::Kind;

@@ -1,6 +1,8 @@
-use Rattle.std.proofs.Common.{sym, ◌∙◌, refl}
-use Rattle.book_index.proofs.Identities.{any_is, derived_id_is}
+use Rattle.std.proofs.Common.{◌∙◌}
+use Rattle.advice_store.proofs.Identities.{known_more}
 use Rattle.advice_store.proofs.known.KnownIds.insert.Goals as goal
 
-pub returns-clause-keys : goal.returns-clause-keys
-returns-clause-keys c = λ other. sym (any_is other c.insert.new.self.keys) ∙ (c.insert.ensures.keys other ∙ rw (derived_id_is c.args.id other, any_is other c.args.self.now.ids.keys) refl)
+pub invariant_of-self : goal.invariant_of-self
+invariant_of-self c =
+    let i = c.self.inside in
+    rw c.push_reserved.ensures.items (known_more i.set.keys c.insert.new.self.keys i.list.items c.args.id c.insert.ensures.keys c.self.invariant)

@@ -1,6 +1,7 @@
-use Rattle.std.proofs.Common.{sym, ◌∙◌}
-use Rattle.book_index.proofs.Identities.{any_is}
+use Rattle.advice_store.proofs.Identities.{known_again}
 use Rattle.advice_store.proofs.known.KnownIds.reserve.Goals as goal
 
-pub returns-clause-keys : goal.returns-clause-keys
-returns-clause-keys c = λ id. sym (any_is id c.reserve.new.self.keys) ∙ (c.reserve.ensures.keys id ∙ any_is id c.args.self.now.ids.keys)
+pub invariant_of-self-2 : goal.invariant_of-self-2
+invariant_of-self-2 c =
+    let i = c.self.inside in
+    known_again i.set.keys c.reserve-2.new.self.keys i.list.items c.reserve-2.ensures.keys c.self.invariant

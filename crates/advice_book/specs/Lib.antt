@@ -1,4 +1,0 @@
-pub mod Items
-pub mod Books
-pub mod Kept
-pub mod Whole

@@ -1,5 +1,0 @@
-use Rattle.advice_store.specs.Kept.{IsLooked, order}
-use Rattle.advice_store.proofs.wheel.find_in.Given as goal
-
-abbrev pub invariant-loop : goal.invariant-loop
-invariant-loop l = IsLooked l.wanted l.wheel.slots (order l.wheel) l.counter l.cursor
