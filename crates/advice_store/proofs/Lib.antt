@@ -1,2 +1,3 @@
 mod Nodes
+mod Stores
 mod Identities

@@ -1,24 +1,26 @@
 -- The items of a node, and what its books see of them.
-use Rattle.std.proofs.Common.{◌≡◌, ℕ, ◌&&◌, ◌||◌, not, Bool, true, false, bytes_eq, List, [], ◌∷◌, ◌++◌, map, filter, ◌<◌, ◌≤◌, ◌^◌, inl, inr, eqb, refl, sym, ap, ◌∙◌, subst}
+use Rattle.std.proofs.Common.{◌≡◌, ℕ, ◌&&◌, ◌||◌, not, Bool, true, false, bytes_eq, List, [], ◌∷◌, ◌++◌, map, filter, length, max, min, ◌+◌, ◌-◌, ◌<◌, ◌≤◌, ◌^◌, inl, inr, eqb, refl, sym, ap, ◌∙◌, subst}
 use Rattle.std.specs.List.{list_any}
 use Rattle.std.proofs.lemmas.Bool.{cases_Bool, cases_lt, eqb-true}
+use Rattle.std.proofs.lemmas.List.{length-map, map-append}
 use Rattle.std.specs.Cmp.Lexicographic.{same_text}
 use Rattle.message_keys.specs.Keys.{identity_of, identity_eq}
 use Rattle.message_keys.specs.declared.keys.AdviceId.{AdviceId}
 use Rattle.message_keys.proofs.Equality.{bytes_eq_refl}
 use Rattle.network_law.specs.Cards.{Bytes}
+use Rattle.network_law.specs.declared.grant.Grant.{Grant}
 use Rattle.network_law.specs.declared.grant.GrantPacket.{GrantPacket}
 use Rattle.network_law.specs.declared.grant.GrantPacket.TheVariants as packets
 use Rattle.node_machine.specs.Books.{Stored, Advised, Granted}
 use Rattle.node_machine.specs.Machine as machine
-use Rattle.advice_slots.specs.Items.{HasOwnId, HaveOwnIds, is_due, is_lent, is_lent_in, is_named, marked_by, name_eq, name_in, put_by, stored_in, stored_of, was_put, was_put_in}
+use Rattle.advice_slots.specs.Items.{HasOwnId, HaveOwnIds, is_due, is_lent, is_lent_in, is_named, marked_by, name_eq, name_in, name_of, put_by, stored_in, stored_of, was_put, was_put_in}
 use Rattle.advice_slots.specs.declared.item.Held.{Held}
 use Rattle.advice_slots.specs.declared.item.Item.{Item}
 use Rattle.advice_slots.specs.declared.item.Item.TheVariants as items
 use Rattle.advice_slots.specs.declared.item.ItemName.TheVariants as names
 use Rattle.advice_store.specs.Advices as advices
-use Rattle.advice_store.specs.Books.{Store, ticked}
-use Rattle.advice_store.specs.Nodes.{AreOwn, IsLentBy, lenders_with, may_lend}
+use Rattle.advice_store.specs.Books.{Store, noted, ticked}
+use Rattle.advice_store.specs.Nodes.{AreOwn, IsLentBy, NodeStore, lenders_with, may_lend}
 use Rattle.advice_store.specs.declared.lenders.Lenders.{Lenders}
 use Rattle.advice_store.specs.declared.lenders.Lenders.TheVariants as lenders
 
@@ -158,6 +160,10 @@ module _ (l : Lenders) (xs : List Held) (own : AreOwn l xs) where
   pub due_stored : (ticks now : ℕ) → map stored_of (filter (is_due ticks now) xs) ≡ filter (machine.is_due ticks now) (map stored_of xs)
   due_stored ticks now = stored_kept l (is_due ticks now) (machine.is_due ticks now) (λ x i b. due_is ticks now x.item x.count) xs own
 
+  -- as many are due, by their names too
+  pub due_counted : (ticks now : ℕ) → length (map name_of (filter (is_due ticks now) xs)) ≡ length (filter (machine.is_due ticks now) (map stored_of xs))
+  due_counted ticks now = length-map (filter (is_due ticks now) xs) name_of ∙ (sym (length-map (filter (is_due ticks now) xs) stored_of) ∙ ap length (due_stored ticks now))
+
   pub without_lent : (lender : Bytes) (number : ℕ) → map stored_of (filter (λ x. not (is_lent lender number x)) xs) ≡ filter (λ a. not (advices.packet_acked (packets.Ack lender number) a)) (map stored_of xs)
   without_lent lender number = stored_without l (is_lent lender number) (advices.packet_acked (packets.Ack lender number)) (λ x i b. lent_is lender number x.item x.count) xs own
 
@@ -175,7 +181,7 @@ pub without_none : (lender : Bytes) (number : ℕ) (xs : List Held) → AreOwn l
 without_none lender number xs own = kept_all (advices.packet_acked (packets.Ack lender number)) lenders.None (λ x i b. none_is lender number x.item x.count b) xs own
 
 -- no grant acknowledges another
-pub grant_acks : (g : _) (xs : List Stored) → filter (λ a. not (advices.packet_acked (packets.Grant g) a)) xs ≡ xs
+pub grant_acks : (g : Grant) (xs : List Stored) → filter (λ a. not (advices.packet_acked (packets.Grant g) a)) xs ≡ xs
 grant_acks g [] = refl
 grant_acks g (Advised a ∷ xs) = ap (λ ys. Advised a ∷ ys) (grant_acks g xs)
 grant_acks g (Granted x ∷ xs) = ap (λ ys. Granted x ∷ ys) (grant_acks g xs)
@@ -186,3 +192,20 @@ same_ticked v v' next last = elim (cases_lt v.count (2 ^ 63)) [
   | inl lt ↦ (let e = next lt in e ∙ ap (λ (w : Store). record v { count = w.count; visits = w.visits }) (sym e))
   | inr ge ↦ (let e = last ge in e ∙ ap (λ (w : Store). record v { count = w.count; visits = w.visits }) (sym e))
 ]
+
+-- ---- what a node's books see of a store
+
+abbrev pub seen : Store → NodeStore
+seen v = record { store = map stored_of v.items; known = v.known; room = v.room; ticks = v.ticks; count = v.count; visits = v.visits }
+
+-- an advice more
+pub advice_seen : (v v' : Store) (id : AdviceId) (x : Held) → v' ≡ record (noted v id) { items = v.items ++ x ∷ []; count = max v.count (min x.count (2 ^ 63)); visits = v'.visits } → seen v' ≡ record { store = map stored_of v.items ++ stored_of x ∷ []; known = v.known ++ id ∷ []; room = v.room - 1; ticks = v.ticks; count = max v.count (min x.count (2 ^ 63)); visits = v'.visits }
+advice_seen v v' id x e =
+    let F : List Stored → NodeStore = λ st. record { store = st; known = v.known ++ id ∷ []; room = v.room - 1; ticks = v.ticks; count = max v.count (min x.count (2 ^ 63)); visits = v'.visits } in
+    ap seen e ∙ ap F (map-append stored_of v.items (x ∷ []))
+
+-- a grant more
+pub grant_seen : (v v' : Store) (x : Held) → v' ≡ record v { items = v.items ++ x ∷ []; room = v.room - 1; count = max v.count (min x.count (2 ^ 63)); visits = v'.visits } → seen v' ≡ record { store = map stored_of v.items ++ stored_of x ∷ []; known = v.known; room = v.room - 1; ticks = v.ticks; count = max v.count (min x.count (2 ^ 63)); visits = v'.visits }
+grant_seen v v' x e =
+    let F : List Stored → NodeStore = λ st. record { store = st; known = v.known; room = v.room - 1; ticks = v.ticks; count = max v.count (min x.count (2 ^ 63)); visits = v'.visits } in
+    ap seen e ∙ ap F (map-append stored_of v.items (x ∷ []))

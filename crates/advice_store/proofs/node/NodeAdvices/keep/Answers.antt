@@ -1,19 +1,20 @@
-use Rattle.std.proofs.Common.{◌∷◌, [], ap, refl, ◌∙◌, List}
-use Rattle.std.proofs.lemmas.List.{map-append}
-use Rattle.node_machine.specs.Books.{Stored}
+use Rattle.std.proofs.Common.{◌≡◌, ◌-◌, ◌^◌, [], ◌∷◌, ◌++◌, map, max, min, ap, refl, subst, sym}
+use Rattle.message_keys.specs.declared.keys.AdviceId.{AdviceId}
 use Rattle.advice_slots.specs.Items.{stored_of}
+use Rattle.advice_slots.specs.declared.item.Held.{Held}
 use Rattle.advice_store.specs.Books.{Store}
-use Rattle.advice_store.specs.Nodes.{NodeStore}
-use Rattle.advice_store.proofs.Nodes.{own_more}
+use Rattle.advice_store.proofs.Nodes.{advice_seen, own_more, seen}
 use Rattle.advice_store.proofs.node.NodeAdvices.keep.Goals as goal
 
 pub invariant_of-self : goal.invariant_of-self
 invariant_of-self c =
     let i = c.self.inside in
-    rw (ap (λ (v : Store). v.items) c.keep.ensures, c.into_held.ensures) (own_more i.lenders i.store.items _ refl tt c.self.invariant)
+    rw (ap (λ (v : Store). v.items) c.keep.ensures) (own_more i.lenders i.store.items c.into_held.result (rw c.into_held.ensures refl) (rw c.into_held.ensures tt) c.self.invariant)
 
 pub returns : goal.returns
 returns c =
     let i = c.self.inside in
-    let F : List Stored → NodeStore = λ xs. record { store = xs; known = c.keep.new.self.known; room = c.keep.new.self.room; ticks = c.keep.new.self.ticks; count = c.keep.new.self.count; visits = c.keep.new.self.visits } in
-    rw (← c.self.view_is, c.keep.ensures, c.into_held.ensures, c.id-id.ensures) (ap F (map-append stored_of i.store.items _))
+    let n = c.keep.new.self in
+    let P : AdviceId → Held → Type 0 = λ id x. seen n ≡ record { store = map stored_of i.store.items ++ stored_of x ∷ []; known = i.store.known ++ id ∷ []; room = i.store.room - 1; ticks = i.store.ticks; count = max i.store.count (min x.count (2 ^ 63)); visits = n.visits } in
+    let id = c.id-id.result in
+    rw (← c.self.view_is) (subst (λ k. P k _) c.id-id.ensures (subst (P id) c.into_held.ensures (advice_seen i.store n id c.into_held.result c.keep.ensures)))

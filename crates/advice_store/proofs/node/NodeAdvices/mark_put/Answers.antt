@@ -1,8 +1,8 @@
 use Rattle.std.proofs.Common.{ap, ◌∙◌, List}
 use Rattle.node_machine.specs.Books.{Stored}
 use Rattle.advice_store.specs.Books.{Store}
-use Rattle.advice_store.specs.Nodes.{AreOwn, NodeStore}
-use Rattle.advice_store.proofs.Nodes.{marked_stored, own_marked}
+use Rattle.advice_store.specs.Nodes.{NodeStore}
+use Rattle.advice_store.proofs.Nodes.{marked_stored, own_marked, seen}
 use Rattle.advice_store.proofs.node.NodeAdvices.mark_put.Goals as goal
 
 pub invariant_of-self : goal.invariant_of-self
@@ -13,5 +13,5 @@ invariant_of-self c =
 pub returns : goal.returns
 returns c =
     let i = c.self.inside in
-    let F : List Stored → NodeStore = λ xs. record { store = xs; known = i.store.known; room = i.store.room; ticks = i.store.ticks; count = i.store.count; visits = i.store.visits } in
-    rw (← c.self.view_is, c.mark_put.ensures) (ap F (marked_stored i.lenders c.args.id i.store.items c.self.invariant))
+    let F : List Stored → NodeStore = λ st. record { store = st; known = i.store.known; room = i.store.room; ticks = i.store.ticks; count = i.store.count; visits = i.store.visits } in
+    rw (← c.self.view_is) (ap seen c.mark_put.ensures ∙ ap F (marked_stored i.lenders c.args.id i.store.items c.self.invariant))
