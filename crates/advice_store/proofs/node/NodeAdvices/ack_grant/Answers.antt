@@ -17,21 +17,21 @@ returns-in-None c =
     let F : List Stored → NodeStore = λ st. record { store = st; known = i.store.known; room = i.store.room; ticks = i.store.ticks; count = i.store.count; visits = i.store.visits } in
     rw (← c.self.view_is) (ap F (sym (without_none c.args.lender c.args.number i.store.items own)))
 
-pub invariant_of-self-then-own-eq-lender : goal.invariant_of-self-then-own-eq-lender
-invariant_of-self-then-own-eq-lender c =
+pub invariant_of-self : goal.invariant_of-self
+invariant_of-self c =
     let i = c.self.inside in
     rw (ap (λ (v : Store). v.items) c.ack_grant.ensures.items) (own_less i.lenders (λ x. not (is_named (names.Grant c.args.number) x)) i.store.items c.self.invariant)
 
-pub returns-then-own-eq-lender : goal.returns-then-own-eq-lender
-returns-then-own-eq-lender c =
+pub returns-then-eq : goal.returns-then-eq
+returns-then-eq c =
     let i = c.self.inside in
     let own : AreOwn (lenders.One c.in-One.own) i.store.items = subst (λ (l : Lenders). AreOwn l i.store.items) c.in-One.is c.self.invariant in
     let same : c.in-One.own ≡ c.args.lender = search rules in
     let F : List Stored → NodeStore = λ st. record { store = st; known = i.store.known; room = i.store.room; ticks = i.store.ticks; count = i.store.count; visits = i.store.visits } in
     rw (← c.self.view_is) (ap seen c.ack_grant.ensures.items ∙ ap F (without_number c.args.lender c.args.number i.store.items (subst (λ (b : Bytes). AreOwn (lenders.One b) i.store.items) same own)))
 
-pub returns-else-own-eq-lender : goal.returns-else-own-eq-lender
-returns-else-own-eq-lender c =
+pub returns-else-eq : goal.returns-else-eq
+returns-else-eq c =
     let i = c.self.inside in
     let own : AreOwn (lenders.One c.in-One.own) i.store.items = subst (λ (l : Lenders). AreOwn l i.store.items) c.in-One.is c.self.invariant in
     let other : bytes_eq c.in-One.own c.args.lender ≡ false = search rules in

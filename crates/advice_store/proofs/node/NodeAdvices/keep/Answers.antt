@@ -1,4 +1,5 @@
 use Rattle.std.proofs.Common.{◌≡◌, ◌-◌, ◌^◌, [], ◌∷◌, ◌++◌, map, max, min, ap, refl, subst, sym}
+use Rattle.message_keys.specs.Keys.{identity_of}
 use Rattle.message_keys.specs.declared.keys.AdviceId.{AdviceId}
 use Rattle.advice_slots.specs.Items.{stored_of}
 use Rattle.advice_slots.specs.declared.item.Held.{Held}
@@ -16,5 +17,6 @@ returns c =
     let i = c.self.inside in
     let n = c.keep.new.self in
     let P : AdviceId → Held → Type 0 = λ id x. seen n ≡ record { store = map stored_of i.store.items ++ stored_of x ∷ []; known = i.store.known ++ id ∷ []; room = i.store.room - 1; ticks = i.store.ticks; count = max i.store.count (min x.count (2 ^ 63)); visits = n.visits } in
-    let id = c.id-id.result in
-    rw (← c.self.view_is) (subst (λ k. P k _) c.id-id.ensures (subst (P id) c.into_held.ensures (advice_seen i.store n id c.into_held.result c.keep.ensures)))
+    let x = c.into_held.result in
+    let own = subst (λ (id : AdviceId). P id x) c.id-id.ensures (advice_seen i.store n c.id-id.result x c.keep.ensures) in
+    rw (← c.self.view_is) (subst (P (identity_of c.args.advice.message)) c.into_held.ensures own)

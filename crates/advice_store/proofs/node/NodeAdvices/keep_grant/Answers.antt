@@ -9,7 +9,7 @@ pub invariant_of-self : goal.invariant_of-self
 invariant_of-self c =
     let i = c.self.inside in
     let lender = c.args.grant.grant.lender in
-    rw (ap (λ (v : Store). v.items) c.keep_grant.ensures, c.with.ensures, c.grant.ensures) (own_more _ i.store.items c.into_held.result (rw c.into_held.ensures tt) (rw c.into_held.ensures (lent_now i.lenders lender)) (own_later i.lenders lender i.store.items c.self.invariant))
+    rw (ap (λ (v : Store). v.items) c.keep_grant.ensures, c.with-self-inside.ensures, c.grant.ensures) (own_more _ i.store.items c.into_held.result (rw c.into_held.ensures tt) (rw c.into_held.ensures (lent_now i.lenders lender)) (own_later i.lenders lender i.store.items c.self.invariant))
 
 pub returns : goal.returns
 returns c =
