@@ -1,15 +1,14 @@
 -- The items of a node, and what its books see of them.
-use Rattle.std.proofs.Common.{◌≡◌, ℕ, ◌&&◌, ◌||◌, not, Bool, true, false, bytes_eq, List, [], ◌∷◌, ◌++◌, map, filter, length, max, min, ◌+◌, ◌-◌, ◌<◌, ◌≤◌, ◌^◌, inl, inr, eqb, refl, sym, ap, ◌∙◌, subst}
+use Rattle.std.proofs.Common.{◌≡◌, ℕ, ◌&&◌, ◌||◌, not, Bool, true, false, bytes_eq, List, [], ◌∷◌, ◌++◌, map, filter, length, max, min, ◌-◌, ◌<◌, ◌≤◌, ◌^◌, inl, inr, eqb, refl, sym, ap, ◌∙◌}
 use Rattle.std.specs.List.{list_any}
 use Rattle.std.proofs.lemmas.Bool.{cases_Bool, cases_lt, eqb-true}
 use Rattle.std.proofs.lemmas.List.{length-map, map-append}
 use Rattle.std.specs.Cmp.Lexicographic.{same_text}
-use Rattle.message_keys.specs.Keys.{identity_of, identity_eq}
+use Rattle.message_keys.specs.Keys.{identity_eq}
 use Rattle.message_keys.specs.declared.keys.AdviceId.{AdviceId}
 use Rattle.message_keys.proofs.Equality.{bytes_eq_refl}
 use Rattle.network_law.specs.Cards.{Bytes}
 use Rattle.network_law.specs.declared.grant.Grant.{Grant}
-use Rattle.network_law.specs.declared.grant.GrantPacket.{GrantPacket}
 use Rattle.network_law.specs.declared.grant.GrantPacket.TheVariants as packets
 use Rattle.node_machine.specs.Books.{Stored, Advised, Granted}
 use Rattle.node_machine.specs.Machine as machine

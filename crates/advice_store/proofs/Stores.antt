@@ -1,5 +1,5 @@
 -- The store, call by call.
-use Rattle.std.proofs.Common.{◌≡◌, inl, inr, ℕ, zero, suc, ◌+◌, ◌-◌, ◌^◌, ◌<◌, ◌≤◌, Bool, true, false, Result, Ok, Err, arith, refl, ap, ◌∙◌}
+use Rattle.std.proofs.Common.{◌≡◌, inl, inr, ℕ, zero, suc, ◌+◌, ◌-◌, ◌^◌, ◌<◌, ◌≤◌, true, false, Result, Ok, Err, arith, refl, ap, ◌∙◌}
 use Rattle.std.specs.Prelude.{IsOk, OnOk, is_err}
 use Rattle.std.proofs.lemmas.Bool.{cases_lt}
 use Rattle.advice_slots.specs.Items.{SlotsView}

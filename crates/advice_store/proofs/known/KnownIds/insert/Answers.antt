@@ -1,4 +1,3 @@
-use Rattle.std.proofs.Common.{◌∙◌}
 use Rattle.advice_store.proofs.Identities.{known_more}
 use Rattle.advice_store.proofs.known.KnownIds.insert.Goals as goal
 

@@ -1,4 +1,4 @@
-use Rattle.std.proofs.Common.{◌≡◌, ◌-◌, ◌^◌, [], ◌∷◌, ◌++◌, map, max, min, ap, refl, subst, sym}
+use Rattle.std.proofs.Common.{◌≡◌, ◌-◌, ◌^◌, [], ◌∷◌, ◌++◌, map, max, min, ap, refl, subst}
 use Rattle.message_keys.specs.Keys.{identity_of}
 use Rattle.message_keys.specs.declared.keys.AdviceId.{AdviceId}
 use Rattle.advice_slots.specs.Items.{stored_of}

@@ -1,4 +1,4 @@
-use Rattle.std.proofs.Common.{◌≡◌, ◌-◌, ◌^◌, [], ◌∷◌, ◌++◌, map, max, min, ap, subst, sym}
+use Rattle.std.proofs.Common.{◌≡◌, ◌-◌, ◌^◌, [], ◌∷◌, ◌++◌, map, max, min, ap, subst}
 use Rattle.advice_slots.specs.Items.{stored_of}
 use Rattle.advice_slots.specs.declared.item.Held.{Held}
 use Rattle.advice_store.specs.Books.{Store}
