@@ -92,12 +92,26 @@ key_at [] place r lt e = absurd (omega arith)
 key_at (y ∷ ys) zero r lt e = ap (λ z. row_key z ∷ []) (sym e)
 key_at (y ∷ ys) (suc i) r lt e = key_at ys i r (omega arith) e
 
+view_opening : (t : Network) (n : ℕ) (x : Lists) (k : Key) → (view t n x).opening k ≡ option_map request_of (of_key k x.rows)
+view_opening t n x k = refl
+
+one_key : (t : Network) (n : ℕ) (b : Books) (rows : List Row) (place : ℕ) (k : Key) (d : Progress) → keys_at rows (place ∷ []) ≡ k ∷ [] → steps.fail t n b (b.opening k) d ≡ steps.fail_all t n b (keys_at rows (place ∷ [])) d
+one_key t n b rows place k d only = sym (ap (λ ks. steps.fail_all t n b ks d) only)
+
+one_request : (t : Network) (n : ℕ) (b : Books) (rows : List Row) (place : ℕ) (k : Key) (q : Option Request) (d : Progress) → b.opening k ≡ q → keys_at rows (place ∷ []) ≡ k ∷ [] → steps.fail t n b q d ≡ steps.fail_all t n b (keys_at rows (place ∷ [])) d
+one_request t n b rows place k q d is only = ap (λ z. steps.fail t n b z d) (sym is) ∙ one_key t n b rows place k d only
+
+then_is : {A E : Type 0} (w : Result A E) (d' p q : Progress) → p ≡ q → OnOk w (d' ≡ p) → OnOk w (d' ≡ q)
+then_is w d' p q e h = on_ok w (λ g. g ∙ e) h
+
 pub fails_at : {A E : Type 0} (t : Network) (n : ℕ) (x : Lists) (place : ℕ) (r : Row) (m : Fields) (src : Source) (d d' : Progress) (w : Result A E) → IsUnique x.rows → place < length x.rows → r ≡ get_or x.rows place r → m ≡ r.message → src ≡ r.source
     → OnOk w ((count : ℕ) → d' ≡ steps.fail t n (view t n x) (Some (record { message = m; source = src; count = count })) d)
     → OnOk w (d' ≡ steps.fail_all t n (view t n x) (keys_at x.rows (place ∷ [])) d)
 fails_at t n x place r m src d d' w unique lt is em es h =
     let found : Some r ≡ of_key (row_key r) x.rows = sym (one_row x.rows unique r (in_at x.rows place r lt is)) in
-    on_ok w (λ g. g ∙ ap (λ ks. steps.fail_all t n (view t n x) ks d) (sym (key_at x.rows place r lt is))) (fail_with t n x (row_key r) r m src d d' w found em es h)
+    then_is w d' (steps.fail t n (view t n x) (option_map request_of (of_key (row_key r) x.rows)) d) (steps.fail_all t n (view t n x) (keys_at x.rows (place ∷ [])) d)
+    (one_request t n (view t n x) x.rows place (row_key r) (option_map request_of (of_key (row_key r) x.rows)) d (view_opening t n x (row_key r)) (key_at x.rows place r lt is))
+    (fail_with t n x (row_key r) r m src d d' w found em es h)
 
 -- the requests at places, one after another
 

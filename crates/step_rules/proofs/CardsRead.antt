@@ -1,5 +1,5 @@
 -- The card and the settlement date of a message, as they are read.
-use Rattle.std.proofs.Common.{◌≡◌, ℕ, ◌||◌, ◌<◌, ◌≤◌, nat_lt, Bool, true, false, List, length, Some, None, IfSome, refl, inl, inr}
+use Rattle.std.proofs.Common.{◌≡◌, ℕ, ◌||◌, ◌<◌, ◌≤◌, nat_lt, true, false, List, length, Some, None, IfSome, refl, inl, inr}
 use Rattle.std.specs.Char.{is_ascii_digit}
 use Rattle.std.specs.List.{list_all}
 use Rattle.std.specs.Result.{result_ok}

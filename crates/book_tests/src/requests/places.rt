@@ -115,18 +115,21 @@ fn opened_and_put_again(rt: HostRuntime) -> Result<(), Fail> {
     Ok(())
 }
 
-/// Where a request waits for more than 4,000 ticks, all places are given.
+/// Where a request waits for more than 4,000 ticks, those that are due are given all the same.
 #[test]
 fn waits_too_long(rt: HostRuntime) -> Result<(), Fail> {
     const STEPS: &[Step] = &[
         Step::Open(1, Holder::First),
         Step::Open(2, Holder::First),
-        Step::Due(&[]),
         Step::Put(1, 1),
-        Step::Due(&[0, 1]),
+        Step::Put(2, 0),
+        Step::Due(&[]),
         Step::OnLink(1, &[0]),
+        Step::Tick,
+        Step::Tick,
+        Step::Due(&[1]),
         Step::Answer(1),
-        Step::Due(&[0, 1]),
+        Step::Due(&[1]),
     ];
     assert_eq!(rt; first_wrong(rt.alloc(), STEPS)?, None);
     Ok(())
