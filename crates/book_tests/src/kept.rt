@@ -3,7 +3,7 @@ ghost use Rattle.std.specs.Prelude.{◌≡◌, IfOk};
 
 use iso_message::{Message, decode, encode};
 use message_elements::Kind;
-use request_book::KeptMessage;
+use kept_messages::KeptMessage;
 use shared_bytes::SharedBytes;
 use std::alloc::{AllocError, Global};
 use std::test::*;

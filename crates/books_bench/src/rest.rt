@@ -1,8 +1,7 @@
 //! The books of nodes at which nothing has happened.
 use card_digits::DateLabel;
 use node_books::Books;
-use pending_book::PendingBook;
-use request_book::Waits;
+use pending_book::{PendingBook, Waits};
 use std::alloc::{AllocError, Global};
 use std::io;
 

@@ -10,7 +10,7 @@ use crate::advice_places::AdvicePlaces;
 use crate::link_moves::LinkMoves;
 use message_keys::AdviceId;
 use node_books::Effect;
-use request_book::{PreparedOutput, Way};
+use kept_messages::{PreparedOutput, Way};
 use std::alloc::{AllocError, Global};
 
 /// So many changes are gone through one by one; what those after them did is kept beside them.

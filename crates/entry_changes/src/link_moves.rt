@@ -5,7 +5,7 @@ ghost use Rattle.entry_changes.specs.Late.{move_at, move_step, put_once, set_up,
 
 use card_digits::LinkNo;
 use node_books::Effect;
-use request_book::Way;
+use kept_messages::Way;
 use std::alloc::{AllocError, Global};
 use std::collections::HashMap;
 

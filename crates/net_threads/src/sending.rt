@@ -4,7 +4,7 @@ ghost use Rattle.link_rings.specs.Rings.{Sends};
 ghost use Rattle.net_threads.specs.Station.{puts_of};
 
 use link_rings::{OutRings, Packet};
-use request_book::Way;
+use kept_messages::Way;
 use switch_node::Output;
 
 fn send_one(rings: &mut OutRings, output: &Output)

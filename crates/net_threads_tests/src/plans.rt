@@ -9,7 +9,7 @@ use net_operate::{Host, operate};
 use net_rows::Tables;
 use net_threads::{Ended, LineEnd, Network, SessionEnd, Station, Verdict};
 use rank_cert::Cert;
-use request_book::Way;
+use kept_messages::Way;
 use run_plan::{Plan, read_plan};
 use sample_networks::Sample;
 use std::alloc::{AllocError, Global};

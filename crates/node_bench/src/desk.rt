@@ -2,7 +2,7 @@
 use crate::words::Words;
 use card_digits::{LinkNo, NodeNo};
 use network_law::StepFault;
-use request_book::Way;
+use kept_messages::Way;
 use shared_bytes::SharedBytes;
 use std::alloc::Global;
 use std::io;

@@ -4,7 +4,7 @@ ghost use Rattle.plan_state.specs.Hearing.{who_hears};
 
 use card_digits::NodeNo;
 use net_rows::Tables;
-use request_book::Way;
+use kept_messages::Way;
 
 /// Who has to hear of an output.
 #[derive(Clone, Copy, Debug, PartialEq, Eq)]

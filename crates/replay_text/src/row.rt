@@ -8,7 +8,7 @@ use card_digits::put;
 use itoa::Buffer;
 use message_text::put_words;
 use net_rows::Tables;
-use request_book::Way;
+use kept_messages::Way;
 use switch_node::Output;
 
 /// So many bytes has a row: more than what stands in a line beside a message, with any name, of eight bytes at most, and any number.

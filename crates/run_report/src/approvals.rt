@@ -14,7 +14,7 @@ use iso_message::Message;
 use message_elements::response_codes;
 use message_keys::{code_of, key_of};
 use net_threads::Station;
-use request_book::Way;
+use kept_messages::Way;
 use std::alloc::{AllocError, Global};
 use switch_node::{Case, Entry, Input, Output};
 

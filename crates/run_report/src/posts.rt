@@ -6,7 +6,7 @@ ghost use Rattle.run_report.specs.Reports.{posts_total};
 ghost use Rattle.run_report.specs.Stations.{posts};
 
 use net_threads::Station;
-use request_book::Way;
+use kept_messages::Way;
 use switch_node::{Entry, Output};
 
 fn is_post(output: &Output) -> bool

@@ -24,7 +24,7 @@ use iso_message::{Message, encode_into};
 use message_elements::Code;
 use network_law::{GrantPacket, packet_bytes};
 use node_books::{Books, Effect, OwnApproval};
-use request_book::{KeptMessage, PreparedOutput, Way};
+use kept_messages::{KeptMessage, PreparedOutput, Way};
 use shared_bytes::SharedBytes;
 use std::alloc::{AllocError, Global};
 use std::marker::Model;

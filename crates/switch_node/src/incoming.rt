@@ -12,7 +12,7 @@ ghost use Rattle.network_law.specs.Traces.{ByLink, Enter, Take, is_ack, dated};
 ghost use Rattle.node_machine.specs.Lists.{LeftAsMarked, view};
 ghost use Rattle.node_machine.specs.Steps.{on_advice, on_answer, on_group, on_request, on_reversal, step};
 ghost use Rattle.node_books.specs.Effects.{progress};
-ghost use Rattle.request_book.specs.Values.{IsKeyOf, source_of};
+ghost use Rattle.pending_book.specs.Rows.{IsKeyOf, source_of};
 ghost use Rattle.step_draft.specs.Used.{IsQuiet};
 ghost use Rattle.switch_node.specs.Coming.{opened_start, is_complete};
 
@@ -25,7 +25,8 @@ use message_elements::{DecodeFault, Group, elements};
 use message_keys::{AdviceId, advice_id, code_of, key_of};
 use net_rows::Tables;
 use node_books::Effect;
-use request_book::{KeptMessage, Row};
+use kept_messages::KeptMessage;
+use pending_book::Row;
 use std::alloc::AllocError;
 use step_draft::Draft;
 use step_rules::{card_of, is_approval};

@@ -6,7 +6,7 @@ use net_rows::Tables;
 use net_tables::read_tables;
 use network_law::StepFault;
 use rank_cert::{Cert, read_cert};
-use request_book::Way;
+use kept_messages::Way;
 use sample_networks::Sample;
 use shared_bytes::SharedBytes;
 use std::alloc::Global;

@@ -30,7 +30,7 @@ use card_digits::{Amount, Card, DateLabel, LinkNo, NodeNo};
 use message_elements::{Code, DecodeFault};
 use net_rows::Tables;
 use network_law::StepFault;
-use request_book::Way;
+use kept_messages::Way;
 use std::alloc::Global;
 use std::test::Fail;
 use step_rules::Lending;

@@ -2,7 +2,7 @@
 use net_replay::{ReplayFault, Traces, replay};
 use net_tables::read_tables;
 use rank_cert::read_cert;
-use request_book::Way;
+use kept_messages::Way;
 use sample_networks::Sample;
 use std::alloc::{AllocError, Global};
 use std::test::Fail;
