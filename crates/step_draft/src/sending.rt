@@ -15,11 +15,11 @@ use crate::advice::Advice;
 use crate::draft::Draft;
 use card_digits::{Amount, Key, LinkNo, NodeNo};
 use iso_message::Message;
+use kept_messages::{KeptMessage, PreparedOutput, Way};
 use message_elements::Code;
 use message_keys::AdviceId;
 use net_rows::Tables;
 use node_books::{Effect, NewAdvice};
-use kept_messages::{KeptMessage, PreparedOutput, Way};
 use std::alloc::AllocError;
 use step_rules::{is_at_home, sent_kind};
 

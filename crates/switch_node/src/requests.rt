@@ -19,10 +19,10 @@ ghost use Rattle.step_draft.specs.Used.{IsQuiet};
 
 use card_digits::{Key, LinkNo, NodeNo};
 use iso_message::Message;
+use kept_messages::{KeptMessage, PreparedOutput, Way};
 use message_elements::{Code, Kind, response_codes};
 use message_keys::same_content;
 use net_rows::Tables;
-use kept_messages::{KeptMessage, PreparedOutput, Way};
 use pending_book::Row;
 use std::alloc::AllocError;
 use step_draft::Draft;

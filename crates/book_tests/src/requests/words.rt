@@ -3,8 +3,8 @@ ghost use Rattle.std.specs.Prelude.{◌≡◌, IfOk};
 
 use card_digits::LinkNo;
 use iso_message::{Message, decode, encode};
-use message_keys::{has_own_key, key_of};
 use kept_messages::{KeptMessage, PreparedOutput, Way};
+use message_keys::{has_own_key, key_of};
 use pending_book::{Row, Waits};
 use shared_bytes::SharedBytes;
 use std::alloc::{AllocError, Global};
