@@ -10,8 +10,7 @@ use Rattle.node_machine.specs.Machine.{marked}
 use Rattle.node_machine.specs.Lists.{Lists, after_output}
 use Rattle.kept_messages.specs.declared.output.Way.{Way}
 use Rattle.kept_messages.specs.declared.output.Way.TheVariants as ways
-use Rattle.kept_messages.specs.Ways.{message_of}
-use Rattle.kept_messages.specs.Ways.{output_of}
+use Rattle.kept_messages.specs.Ways.{message_of, output_of}
 use Rattle.node_books.specs.Ways.{mark_if, put_in, after_way}
 use Rattle.advice_store.specs.Advices.{marked_by}
 

@@ -5,7 +5,7 @@ ghost use Rattle.std.specs.Option.{option_and_then, option_copied};
 ghost use Rattle.node_books.specs.Effects.{applied_one, keep_in};
 ghost use Rattle.node_books.specs.Values.{AreFew, waits_in};
 ghost use Rattle.node_machine.specs.Counts.{PutsAreWithin};
-ghost use Rattle.kept_messages.specs.Ways.{message_of};
+ghost use Rattle.kept_messages.specs.Ways.{message_of, advice_of};
 ghost use Rattle.pending_book.specs.Rows.{IsUnique, places_where, waits_of, waits_on};
 ghost use Rattle.pending_book.specs.Waits.{is_over};
 ghost use Rattle.net_rows.specs.Network.{Network};
@@ -16,7 +16,6 @@ ghost use Rattle.node_books.specs.declared.effect.Effect.TheVariants.{Lent};
 ghost use Rattle.std.specs.List.{list_any};
 ghost use Rattle.advice_store.specs.Advices.{has_id};
 ghost use Rattle.standin_book.specs.Lending.{allowance};
-ghost use Rattle.kept_messages.specs.Ways.{advice_of};
 ghost use Rattle.node_books.specs.Ways.{asks_by, store_by};
 
 use crate::effect::{Effect, NewAdvice};
