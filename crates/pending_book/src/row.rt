@@ -1,9 +1,9 @@
 //! A request, open or answered.
 ghost use Rattle.std.specs.Prelude.{◌≡◌, true, false, None, is_none};
 ghost use Rattle.std.specs.Option.{option_copied};
-ghost use Rattle.message_keys.specs.Keys.{key_eq};
+ghost use Rattle.message_keys.specs.Keys.{key_eq, key_of};
 ghost use Rattle.node_machine.specs.Lists.{row_after};
-ghost use Rattle.kept_messages.specs.Ways.{output_key};
+ghost use Rattle.kept_messages.specs.Ways.{output_key, output_of};
 ghost use Rattle.pending_book.specs.Rows.{source_of, card_in, IsKeyOf, IsAnswerOf};
 
 use card_digits::{Card, Key, LinkNo};
@@ -135,7 +135,14 @@ impl Row {
         ensures { self.new ≡ row_after output self.old }
     {
         let way = output.way();
-        let message = output.into_message();
+        self.after_message(way, output.into_message());
+    }
+
+    /// The same of the output's message, which goes this way.
+    fn after_message(&mut self, way: Way, message: KeptMessage)
+        requires { key_eq (key_of message) (row_key self.old) ≡ true }
+        ensures { self.new ≡ row_after (output_of way message) self.old }
+    {
         match way {
             Way::Put(link, _) => {
                 if message.kind().is_request() {
