@@ -2,8 +2,8 @@
 ghost use Rattle.std.specs.Prelude.{◌≡◌, IfOk};
 
 use iso_message::{Message, decode, encode};
+use kept_messages::KeptMessage;
 use message_elements::Kind;
-use request_book::KeptMessage;
 use shared_bytes::SharedBytes;
 use std::alloc::{AllocError, Global};
 use std::test::*;

@@ -1,6 +1,6 @@
 //! Calls the books of a node over and over. Standard output has what was counted, and standard error how long that took. The first
 //! argument is the number of calls. `rest` in its place makes the books of as many nodes as the second argument says, and nothing else;
-//! `slots` the books of pending requests over slots and timers.
+//! `slots` the books of requests that have a call for each change.
 #![tactic(auto)]
 
 mod advices;

@@ -4,7 +4,8 @@ use crate::report::{report, start};
 use crate::requests::{answers, new_book, open, output_of, row_of, send};
 use card_digits::LinkNo;
 use iso_message::Message;
-use request_book::{PendingBook, PreparedOutput, Row, Way};
+use kept_messages::{PreparedOutput, Way};
+use pending_book::{NodeRequests, Row};
 use std::alloc::{AllocError, Global};
 use std::io;
 
@@ -47,13 +48,13 @@ fn all_forwarded(alloc: Global, first: u32, count: u32) -> Result<Vec<Forwarded>
     Ok(all)
 }
 
-fn forward(book: &mut PendingBook, forwarded: Forwarded) -> Result<(), AllocError> {
+fn forward(book: &mut NodeRequests, forwarded: Forwarded) -> Result<(), AllocError> {
     let Forwarded { row, put } = forwarded;
     open(book, row)?;
     send(book, put)
 }
 
-fn forward_all(book: &mut PendingBook, all: Vec<Forwarded>) -> Result<(), AllocError> {
+fn forward_all(book: &mut NodeRequests, all: Vec<Forwarded>) -> Result<(), AllocError> {
     for one in all {
         forward(book, one)?;
     }
@@ -61,7 +62,7 @@ fn forward_all(book: &mut PendingBook, all: Vec<Forwarded>) -> Result<(), AllocE
 }
 
 fn turn(
-    book: &mut PendingBook,
+    book: &mut NodeRequests,
     forwarded: Forwarded,
     answer: PreparedOutput,
 ) -> Result<(), AllocError> {
@@ -71,7 +72,7 @@ fn turn(
 
 /// Opens and puts a request and answers the oldest one, for each of these.
 fn turns(
-    book: &mut PendingBook,
+    book: &mut NodeRequests,
     all: Vec<Forwarded>,
     answers: Vec<PreparedOutput>,
 ) -> Result<(), AllocError> {
@@ -84,7 +85,7 @@ fn turns(
 /// The number of the requests that wait on the link in the end is printed.
 fn measure_turns(
     rt: &HostRuntime,
-    book: &mut PendingBook,
+    book: &mut NodeRequests,
     all: Vec<Forwarded>,
     answers: Vec<PreparedOutput>,
     calls: u32,
@@ -104,7 +105,7 @@ fn measure_turns(
 /// Fills the book, and makes the requests that are put beside those and their answers, all before the time is taken.
 fn measure_in(
     rt: &HostRuntime,
-    book: &mut PendingBook,
+    book: &mut NodeRequests,
     pending: u32,
     calls: u32,
 ) -> io::Result<()> {

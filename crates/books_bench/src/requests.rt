@@ -4,8 +4,9 @@ ghost use Rattle.std.specs.Prelude.{◌≡◌, IfOk};
 use crate::messages::{approval, request};
 use crate::report::{report, start};
 use iso_message::{Message, encode};
+use kept_messages::{KeptMessage, PreparedOutput, Way};
 use message_keys::{has_own_key, key_of};
-use request_book::{KeptMessage, PendingBook, PreparedOutput, Row, Waits, Way};
+use pending_book::{NodeRequests, Row, Waits};
 use shared_bytes::SharedBytes;
 use std::alloc::{AllocError, Global};
 use std::io;
@@ -52,10 +53,10 @@ pub(crate) fn output_of(
 }
 
 /// A book of a network with one link, on which requests wait as long as they may.
-pub(crate) fn new_book(alloc: Global) -> Result<PendingBook, AllocError> {
+pub(crate) fn new_book(alloc: Global) -> Result<NodeRequests, AllocError> {
     let mut links = Vec::new(alloc);
     links.push(MOST_TICKS)?;
-    PendingBook::new(alloc, Waits::new(links, MOST_TICKS))
+    NodeRequests::new(alloc, Waits::new(links, MOST_TICKS))
 }
 
 /// So many requests from a trace number on.
@@ -84,33 +85,33 @@ pub(crate) fn answers(alloc: Global, count: u32) -> Result<Vec<PreparedOutput>, 
     Ok(answers)
 }
 
-pub(crate) fn open(book: &mut PendingBook, row: Row) -> Result<(), AllocError> {
+pub(crate) fn open(book: &mut NodeRequests, row: Row) -> Result<(), AllocError> {
     book.reserve(1)?;
     book.open(row);
     Ok(())
 }
 
-pub(crate) fn send(book: &mut PendingBook, output: PreparedOutput) -> Result<(), AllocError> {
+pub(crate) fn send(book: &mut NodeRequests, output: PreparedOutput) -> Result<(), AllocError> {
     book.reserve(1)?;
     book.after(output);
     Ok(())
 }
 
-fn open_all(book: &mut PendingBook, rows: Vec<Row>) -> Result<(), AllocError> {
+fn open_all(book: &mut NodeRequests, rows: Vec<Row>) -> Result<(), AllocError> {
     for row in rows {
         open(book, row)?;
     }
     Ok(())
 }
 
-fn pair(book: &mut PendingBook, row: Row, answer: PreparedOutput) -> Result<(), AllocError> {
+fn pair(book: &mut NodeRequests, row: Row, answer: PreparedOutput) -> Result<(), AllocError> {
     open(book, row)?;
     send(book, answer)
 }
 
 /// Opens a request and closes the oldest one, for each of these.
 fn pairs(
-    book: &mut PendingBook,
+    book: &mut NodeRequests,
     rows: Vec<Row>,
     answers: Vec<PreparedOutput>,
 ) -> Result<(), AllocError> {
@@ -120,7 +121,7 @@ fn pairs(
     Ok(())
 }
 
-fn fill(alloc: Global, book: &mut PendingBook, count: u32) -> Result<(), AllocError> {
+fn fill(alloc: Global, book: &mut NodeRequests, count: u32) -> Result<(), AllocError> {
     let rows = rows(alloc, 0, count)?;
     open_all(book, rows)
 }
@@ -128,7 +129,7 @@ fn fill(alloc: Global, book: &mut PendingBook, count: u32) -> Result<(), AllocEr
 /// The number of the requests that are pending in the end is printed.
 fn measure_pairs(
     rt: &HostRuntime,
-    book: &mut PendingBook,
+    book: &mut NodeRequests,
     rows: Vec<Row>,
     answers: Vec<PreparedOutput>,
     calls: u32,
@@ -147,7 +148,7 @@ fn measure_pairs(
 /// Fills the book, and makes the requests that are opened beside those and their answers, all before the time is taken.
 fn measure_in(
     rt: &HostRuntime,
-    book: &mut PendingBook,
+    book: &mut NodeRequests,
     pending: u32,
     calls: u32,
 ) -> io::Result<()> {

@@ -1,8 +1,7 @@
 //! The books of nodes at which nothing has happened.
 use card_digits::DateLabel;
 use node_books::Books;
-use pending_book::PendingBook;
-use request_book::Waits;
+use pending_book::{PendingBook, Waits};
 use std::alloc::{AllocError, Global};
 use std::io;
 
@@ -50,7 +49,7 @@ fn fill_slots(alloc: Global, held: &mut Vec<PendingBook>, nodes: u32) -> Result<
     Ok(())
 }
 
-/// The same of the books of pending requests over slots and timers.
+/// The same of the books of requests that have a call for each change.
 pub(crate) fn hold_slots(rt: &HostRuntime, nodes: u32) -> io::Result<()> {
     let alloc = rt.alloc();
     let mut held = Vec::new(alloc);

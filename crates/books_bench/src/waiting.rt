@@ -1,4 +1,4 @@
-//! The book of pending requests over slots and timers.
+//! The book of requests that has a call for each change.
 ghost use Rattle.std.specs.Prelude.{◌≡◌, false, IsTrue};
 ghost use Rattle.pending_book.specs.Requests.{is_open, IsPending};
 

@@ -8,7 +8,7 @@ use Rattle.network_law.specs.Traces.{is_put_of}
 use Rattle.node_machine.specs.Lists.{LinkState}
 use Rattle.node_books.specs.declared.effect.Effect.{Effect}
 use Rattle.node_books.specs.declared.effect.Effect.TheVariants as effects
-use Rattle.request_book.specs.Ways.{is_put}
+use Rattle.kept_messages.specs.Ways.{is_put}
 use Rattle.message_keys.proofs.Equality.{identity_eq_is}
 use Rattle.book_index.specs.Found.{found, joined, holds_at, Tells}
 use Rattle.book_index.specs.declared.index.Place.{Place}

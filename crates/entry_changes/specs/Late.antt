@@ -8,7 +8,7 @@ use Rattle.network_law.specs.Traces.{is_put_of}
 use Rattle.node_machine.specs.Lists.{LinkState}
 use Rattle.node_books.specs.declared.effect.Effect.{Effect}
 use Rattle.node_books.specs.declared.effect.Effect.TheVariants as effects
-use Rattle.request_book.specs.Ways.{is_put}
+use Rattle.kept_messages.specs.Ways.{is_put}
 use Rattle.entry_changes.specs.declared.advice_places.AdvicePlaces.{AdvicePlaces}
 use Rattle.book_index.specs.Found.{found, holds_at, Tells}
 use Rattle.entry_changes.specs.SoFar.{link_from, forward_from, count_from}

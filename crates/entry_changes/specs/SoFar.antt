@@ -11,7 +11,7 @@ use Rattle.node_machine.specs.Lists.{Row, LinkState, Lists, of_key, row_key, row
 use Rattle.node_books.specs.declared.effect.Effect.{Effect}
 use Rattle.node_books.specs.declared.effect.Effect.TheVariants as effects
 use Rattle.advice_store.specs.Advices.{has_id}
-use Rattle.request_book.specs.Ways.{is_put}
+use Rattle.kept_messages.specs.Ways.{is_put}
 use Rattle.entry_changes.specs.declared.so_far.AdviceState.{AdviceState}
 use Rattle.entry_changes.specs.declared.so_far.Forwarding.{Forwarding}
 

@@ -8,9 +8,9 @@ ghost use Rattle.entry_changes.specs.Late.{ArePlain, AreLate, AreTold, few, move
 
 use crate::advice_places::AdvicePlaces;
 use crate::link_moves::LinkMoves;
+use kept_messages::{PreparedOutput, Way};
 use message_keys::AdviceId;
 use node_books::Effect;
-use request_book::{PreparedOutput, Way};
 use std::alloc::{AllocError, Global};
 
 /// So many changes are gone through one by one; what those after them did is kept beside them.

@@ -4,8 +4,8 @@ ghost use Rattle.std.specs.HashMap.{spare};
 ghost use Rattle.entry_changes.specs.Late.{move_at, move_step, put_once, set_up, unmoved};
 
 use card_digits::LinkNo;
+use kept_messages::Way;
 use node_books::Effect;
-use request_book::Way;
 use std::alloc::{AllocError, Global};
 use std::collections::HashMap;
 

@@ -4,7 +4,7 @@ ghost use Rattle.std.specs.Option.{option_copied};
 ghost use Rattle.net_replay.specs.Packets.{bytes_at, place_of, put_at, put_all};
 
 use card_digits::LinkNo;
-use request_book::Way;
+use kept_messages::Way;
 use shared_bytes::SharedBytes;
 use std::alloc::{AllocError, Global};
 use std::marker::Model;

@@ -5,7 +5,7 @@ ghost use Rattle.net_threads.specs.Found.{is_put, is_answer, entry_puts, entry_a
 
 use crate::byte_hash::hash_of;
 use card_digits::LinkNo;
-use request_book::Way;
+use kept_messages::Way;
 use std::alloc::{AllocError, Global};
 use switch_node::{Entry, Output};
 

@@ -3,8 +3,8 @@ ghost use Rattle.std.specs.Prelude.{◌≡◌, ◌∷◌, []};
 ghost use Rattle.link_rings.specs.Rings.{Sends};
 ghost use Rattle.net_threads.specs.Station.{puts_of};
 
+use kept_messages::Way;
 use link_rings::{OutRings, Packet};
-use request_book::Way;
 use switch_node::Output;
 
 fn send_one(rings: &mut OutRings, output: &Output)

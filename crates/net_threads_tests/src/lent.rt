@@ -2,12 +2,12 @@
 use crate::network::{pump, ranks, step, tables};
 use card_digits::LinkNo;
 use iso_message::Message;
+use kept_messages::Way;
 use message_elements::Code;
 use net_operate::{Host, operate};
 use net_rows::Tables;
 use net_threads::{Network, Verdict};
 use rank_cert::Cert;
-use request_book::Way;
 use run_plan::{Plan, read_plan};
 use sample_networks::Sample;
 use shared_bytes::SharedBytes;

@@ -1,8 +1,8 @@
 //! A node, and the count of what it does. Nothing is promised of these functions.
 use crate::words::Words;
 use card_digits::{LinkNo, NodeNo};
+use kept_messages::Way;
 use network_law::StepFault;
-use request_book::Way;
 use shared_bytes::SharedBytes;
 use std::alloc::Global;
 use std::io;

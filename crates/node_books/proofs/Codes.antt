@@ -8,10 +8,9 @@ use Rattle.network_law.specs.Traces.{ReadOutput, Put, Answer, Ask, Post, PutPack
 use Rattle.node_machine.specs.Books.{Stored, Advised, Granted}
 use Rattle.node_machine.specs.Machine.{marked}
 use Rattle.node_machine.specs.Lists.{Lists, after_output}
-use Rattle.request_book.specs.declared.output.Way.{Way}
-use Rattle.request_book.specs.declared.output.Way.TheVariants as ways
-use Rattle.request_book.specs.Values.{message_of}
-use Rattle.request_book.specs.Ways.{output_of}
+use Rattle.kept_messages.specs.declared.output.Way.{Way}
+use Rattle.kept_messages.specs.declared.output.Way.TheVariants as ways
+use Rattle.kept_messages.specs.Ways.{message_of, output_of}
 use Rattle.node_books.specs.Ways.{mark_if, put_in, after_way}
 use Rattle.advice_store.specs.Advices.{marked_by}
 

@@ -1,8 +1,7 @@
 -- Neither the puts on a link nor the ticks ever get fewer.
 use Rattle.std.proofs.Common.{◌≡◌, ◌≤◌, ◌^◌, ◌++◌, ℕ, suc, List, [], ◌∷◌, Bool, true, false, cond, not, ◌&&◌, refl, subst, ap, arith}
-use Rattle.request_book.specs.declared.output.Way.{Way}
-use Rattle.request_book.specs.Values.{message_of}
-use Rattle.request_book.specs.Ways.{output_of}
+use Rattle.kept_messages.specs.declared.output.Way.{Way}
+use Rattle.kept_messages.specs.Ways.{message_of, output_of}
 use Rattle.network_law.specs.Traces.{ReadOutput, Put, Answer, Ask, Post, PutPacket}
 use Rattle.node_machine.specs.Counts.{PutsAreWithin}
 use Rattle.node_machine.specs.Lists.{Lists, after_output, is_among, give_back_to, leaves}

@@ -10,7 +10,7 @@ use Rattle.node_machine.specs.Machine as machine
 use Rattle.node_machine.specs.Lists as lists
 use Rattle.node_machine.specs.Lists.{Row, Lists, of_key, row_key, view}
 use Rattle.node_machine.proofs.Readings as readings
-use Rattle.request_book.specs.Values.{IsUnique}
+use Rattle.pending_book.specs.Rows.{IsUnique}
 
 pub one_row : (rows : List Row) → IsUnique rows → (r : Row) → IsIn r rows → of_key (row_key r) rows ≡ Some r
 one_row [] u r m = absurd m

@@ -4,7 +4,7 @@ use Rattle.network_law.specs.declared.grant.GrantPacket.{GrantPacket}
 use Rattle.network_law.specs.Traces.{PutPacket}
 use Rattle.node_machine.specs.Lists.{Row, Lists, row_after, with_put, after_output}
 use Rattle.node_books.proofs.Codes.{marks_put}
-use Rattle.request_book.proofs.Unique.{or_none, or_false}
+use Rattle.pending_book.proofs.Unique.{or_none, or_false}
 
 rows_quiet : (l s : ℕ) (p : GrantPacket) (rows : List Row) → map (row_after (PutPacket l s p)) rows ≡ rows
 rows_quiet l s p [] = refl

@@ -2,7 +2,7 @@
 use Rattle.std.proofs.Common.{◌≡◌, ℕ, suc, ◌<◌, List, [], ◌∷◌, length, map, Some, refl, sym, ◌∙◌, arith}
 use Rattle.std.specs.Prelude.{slice_get}
 use Rattle.net_rows.specs.declared.row.Link.{Link}
-use Rattle.request_book.specs.Waits.{WaitsView}
+use Rattle.pending_book.specs.Waits.{WaitsView}
 use Rattle.node_books.specs.Values.{waits_in}
 
 -- numbers that agree with each link are those of all

@@ -9,7 +9,7 @@ use Rattle.node_machine.specs.Lists.{Lists, Row, Take, LinkState, is_among, with
 use Rattle.node_machine.specs.Machine.{packet_borrowed}
 use Rattle.node_machine.specs.Steps.{Progress}
 use Rattle.advice_store.specs.Advices.{has_id, packet_acked}
-use Rattle.request_book.specs.Values.{opened}
+use Rattle.pending_book.specs.Rows.{opened}
 use Rattle.node_books.specs.Values.{NewAdvice}
 use Rattle.node_books.specs.declared.effect.Effect.{Effect}
 use Rattle.node_books.specs.declared.effect.Effect.TheVariants as effects

@@ -7,7 +7,7 @@ use Rattle.message_keys.specs.Keys.{key_of, key_eq}
 use Rattle.node_machine.specs.Counts.{PutsAreWithin}
 use Rattle.net_rows.specs.declared.row.Link.{Link}
 use Rattle.node_machine.specs.Lists.{Lists, leaves}
-use Rattle.request_book.specs.Waits.{WaitsView}
+use Rattle.pending_book.specs.Waits.{WaitsView}
 
 -- an advice that was made here, or accepted; whether this node is the home of its card, and whether it was put
 pub record NewAdvice : Type 0 where

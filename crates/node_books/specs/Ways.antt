@@ -5,11 +5,10 @@ use Rattle.node_machine.specs.Books.{Stored}
 use Rattle.advice_store.specs.Advices.{marked_by}
 use Rattle.card_digits.specs.declared.key.Key.{Key}
 use Rattle.node_machine.specs.Lists.{LinkState, Lists, with_put, row_after}
-use Rattle.request_book.specs.Values.{message_of, output_key}
+use Rattle.kept_messages.specs.Ways.{message_of, output_key, advice_of}
 use Rattle.network_law.specs.Traces.{ReadOutput, Put}
-use Rattle.request_book.specs.declared.output.Way.{Way}
-use Rattle.request_book.specs.declared.output.Way.TheVariants as ways
-use Rattle.request_book.specs.Ways.{advice_of}
+use Rattle.kept_messages.specs.declared.output.Way.{Way}
+use Rattle.kept_messages.specs.declared.output.Way.TheVariants as ways
 
 abbrev pub mark_if : Option AdviceId → List Stored → List Stored
 mark_if None store = store

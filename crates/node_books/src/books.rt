@@ -5,8 +5,9 @@ ghost use Rattle.std.specs.Option.{option_and_then, option_copied};
 ghost use Rattle.node_books.specs.Effects.{applied_one, keep_in};
 ghost use Rattle.node_books.specs.Values.{AreFew, waits_in};
 ghost use Rattle.node_machine.specs.Counts.{PutsAreWithin};
-ghost use Rattle.request_book.specs.Values.{IsUnique, message_of, places_where, waits_of, waits_on};
-ghost use Rattle.request_book.specs.Waits.{is_over};
+ghost use Rattle.kept_messages.specs.Ways.{message_of, advice_of};
+ghost use Rattle.pending_book.specs.Rows.{IsUnique, places_where, waits_of, waits_on};
+ghost use Rattle.pending_book.specs.Waits.{is_over};
 ghost use Rattle.net_rows.specs.Network.{Network};
 ghost use Rattle.node_machine.specs.Machine.{borrowed_for, is_due, lent_for, load, was_put};
 ghost use Rattle.node_machine.specs.Lists as lists;
@@ -15,7 +16,6 @@ ghost use Rattle.node_books.specs.declared.effect.Effect.TheVariants.{Lent};
 ghost use Rattle.std.specs.List.{list_any};
 ghost use Rattle.advice_store.specs.Advices.{has_id};
 ghost use Rattle.standin_book.specs.Lending.{allowance};
-ghost use Rattle.request_book.specs.Ways.{advice_of};
 ghost use Rattle.node_books.specs.Ways.{asks_by, store_by};
 
 use crate::effect::{Effect, NewAdvice};
@@ -23,10 +23,11 @@ use crate::links::{LinkState, Links};
 use crate::waits::{are_waits_in, waits_in};
 use advice_store::{KeptAdvice, KeptGrant, NodeAdvices, StoredItem};
 use card_digits::{Amount, Card, DateLabel, Key, LinkNo};
+use kept_messages::{PreparedOutput, Way};
 use message_keys::AdviceId;
 use net_rows::Link;
 use network_law::GrantPacket;
-use request_book::{Mark, PendingBook, PreparedOutput, Row, Waits, Way};
+use pending_book::{Mark, NodeRequests, Row, Waits};
 use standin_book::{Borrowed, CardDay, LendingBook, Loan, OwnApproval, StandInBook};
 use std::alloc::{AllocError, Global};
 use std::marker::Model;
@@ -38,7 +39,7 @@ const ROOM: usize = 64;
 /// The books, and how many changes more need no memory.
 #[derive(Drop)]
 pub struct Books {
-    pub(crate) pending: PendingBook,
+    pub(crate) pending: NodeRequests,
     pub(crate) standin: StandInBook,
     pub(crate) advices: NodeAdvices,
     pub(crate) lending: LendingBook,
@@ -96,7 +97,7 @@ impl Books {
     {
         let links = Links::new(alloc, links)?;
         Ok(Books {
-            pending: PendingBook::new(alloc, waits)?,
+            pending: NodeRequests::new(alloc, waits)?,
             standin: StandInBook::new(alloc),
             advices: NodeAdvices::new(alloc, ticks)?,
             lending: LendingBook::new(alloc),
@@ -380,7 +381,7 @@ impl Books {
     }
 
     /// An advice was made or accepted.
-    #[tactic(auto, using(request_book::proofs::Codes::id_key))]
+    #[tactic(auto, using(kept_messages::proofs::Codes::id_key))]
     fn keep(&mut self, advice: NewAdvice)
         requires { 0 < self.old.room }
         ensures { self.new ≡ record { lists = keep_in advice self.old.lists; room = self.old.room - 1 } }

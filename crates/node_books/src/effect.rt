@@ -7,9 +7,10 @@ ghost use Rattle.node_books.specs.Values.{leaves_of};
 use advice_store::KeptGrant;
 use card_digits::{Amount, DateLabel, Key, LinkNo};
 use iso_message::Message;
+use kept_messages::PreparedOutput;
 use message_keys::{AdviceId, same_key};
 use network_law::GrantPacket;
-use request_book::{PreparedOutput, Row};
+use pending_book::Row;
 use standin_book::OwnApproval;
 use std::marker::Model;
 
@@ -110,7 +111,7 @@ impl NewAdvice {
     }
 
     /// The actual amount of a reversal of this key that was accepted.
-    #[tactic(auto, using(request_book::proofs::Codes::id_key))]
+    #[tactic(auto, using(kept_messages::proofs::Codes::id_key))]
     pub fn leaves(&self, key: Key) -> Option<Amount>
         ensures { result ≡ leaves_of key self.now }
     {

@@ -5,7 +5,7 @@ ghost use Rattle.node_machine.specs.Lists.{link_at, with_up, with_put, fresh};
 ghost use Rattle.node_books.specs.Ways.{links_by};
 
 use card_digits::LinkNo;
-use request_book::Way;
+use kept_messages::Way;
 use std::alloc::{AllocError, Global};
 use std::marker::Model;
 

@@ -3,7 +3,7 @@ ghost use Rattle.std.specs.Prelude.{◌≡◌, ◌↔◌, IfOk, IsTrue};
 ghost use Rattle.node_books.specs.Values.{waits_in};
 
 use net_rows::Link;
-use request_book::Waits;
+use pending_book::Waits;
 use std::alloc::{AllocError, Global};
 
 /// How long requests wait in a network with these links and this wait for the host.

@@ -9,7 +9,7 @@ ghost use Rattle.node_calls.specs.declared.output.NodeOutput.{NodeOutput};
 ghost use Rattle.node_calls.specs.Outputs.{told};
 
 use buffer_front::put_front;
-use request_book::Way;
+use kept_messages::Way;
 use switch_node::{Output, OwnedNode};
 use thiserror::Error;
 

@@ -1,8 +1,8 @@
 -- Who has to hear of an output.
 use Rattle.std.specs.Prelude.{ℕ}
 use Rattle.net_rows.specs.Network.{Network, other_end}
-use Rattle.request_book.specs.declared.output.Way.{Way}
-use Rattle.request_book.specs.declared.output.Way.TheVariants.{Put, Answer, Ask, Post}
+use Rattle.kept_messages.specs.declared.output.Way.{Way}
+use Rattle.kept_messages.specs.declared.output.Way.TheVariants.{Put, Answer, Ask, Post}
 use Rattle.plan_state.specs.declared.hearing.Hearer.{Hearer}
 use Rattle.plan_state.specs.declared.hearing.Hearer.TheVariants.{PumpOf, Host, Sessions, Nobody}
 

@@ -3,8 +3,8 @@ ghost use Rattle.std.specs.Prelude.{◌≡◌};
 ghost use Rattle.plan_state.specs.Hearing.{who_hears};
 
 use card_digits::NodeNo;
+use kept_messages::Way;
 use net_rows::Tables;
-use request_book::Way;
 
 /// Who has to hear of an output.
 #[derive(Clone, Copy, Debug, PartialEq, Eq)]

@@ -2,7 +2,7 @@
 ghost use Rattle.std.specs.Prelude.{◌≡◌, ◌+◌, nat_lt, if◌then◌else◌};
 ghost use Rattle.plan_state.specs.Cursors.{skipped};
 
-use request_book::Way;
+use kept_messages::Way;
 use shared_bytes::SharedBytes;
 use std::alloc::Global;
 use switch_node::Entry;

@@ -6,9 +6,9 @@ ghost use Rattle.replay_text.specs.Lines.{way_text};
 use bundle_text::link_name;
 use card_digits::put;
 use itoa::Buffer;
+use kept_messages::Way;
 use message_text::put_words;
 use net_rows::Tables;
-use request_book::Way;
 use switch_node::Output;
 
 /// So many bytes has a row: more than what stands in a line beside a message, with any name, of eight bytes at most, and any number.

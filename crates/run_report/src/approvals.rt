@@ -11,10 +11,10 @@ use crate::answered::Answered;
 use crate::messages::read_message;
 use crate::tally::Tally;
 use iso_message::Message;
+use kept_messages::Way;
 use message_elements::response_codes;
 use message_keys::{code_of, key_of};
 use net_threads::Station;
-use request_book::Way;
 use std::alloc::{AllocError, Global};
 use switch_node::{Case, Entry, Input, Output};
 

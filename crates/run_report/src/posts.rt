@@ -5,8 +5,8 @@ ghost use Rattle.run_report.specs.Own.{is_post, posts_of};
 ghost use Rattle.run_report.specs.Reports.{posts_total};
 ghost use Rattle.run_report.specs.Stations.{posts};
 
+use kept_messages::Way;
 use net_threads::Station;
-use request_book::Way;
 use switch_node::{Entry, Output};
 
 fn is_post(output: &Output) -> bool

@@ -18,14 +18,13 @@ use Rattle.std.proofs.lemmas.Grind.{get_or-set_at}
 use Rattle.std.proofs.lemmas.List.{get_or-set_other, get_or_default, reverse-append}
 use Rattle.std.proofs.Math.ListN.{length-set}
 use Rattle.network_law.specs.Traces as messages
-use Rattle.request_book.specs.Values.{message_of}
+use Rattle.kept_messages.specs.Ways.{message_of, output_of}
 use Rattle.node_machine.specs.Steps as steps
 use Rattle.node_machine.specs.Steps.{Progress}
-use Rattle.request_book.specs.declared.output.Way.{Way}
-use Rattle.request_book.specs.declared.output.Way.TheVariants as ways
+use Rattle.kept_messages.specs.declared.output.Way.{Way}
+use Rattle.kept_messages.specs.declared.output.Way.TheVariants as ways
 use Rattle.node_books.specs.declared.effect.Effect.{Effect}
 use Rattle.node_books.specs.declared.effect.Effect.TheVariants as effects
-use Rattle.request_book.specs.Ways.{output_of}
 use Rattle.node_books.specs.Effects.{Drafted, progress, with_effect, applied, applied_one, sent_in}
 use Rattle.step_draft.specs.Outputs.{put_out, spelled_in}
 use Rattle.entry_changes.specs.SoFar.{link_step, link_from}

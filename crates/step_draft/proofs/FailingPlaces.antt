@@ -11,9 +11,9 @@ use Rattle.node_machine.specs.Machine as machine
 use Rattle.node_machine.specs.Steps as steps
 use Rattle.node_machine.specs.Steps.{Progress}
 use Rattle.node_machine.proofs.Readings.{failing_is}
-use Rattle.request_book.specs.Values.{IsUnique, places_where}
-use Rattle.request_book.specs.Waits.{is_over, waits_by}
-use Rattle.request_book.proofs.Found.{keys_found, places_same, places_there}
+use Rattle.pending_book.specs.Rows.{IsUnique, places_where}
+use Rattle.pending_book.specs.Waits.{is_over, waits_by}
+use Rattle.pending_book.proofs.Found.{keys_found, places_same, places_there}
 use Rattle.node_books.specs.Values.{waits_in}
 use Rattle.node_books.proofs.Loads.{one_row}
 use Rattle.step_draft.specs.Failures.{keys_at}

@@ -21,7 +21,7 @@ use Rattle.network_law.proofs.Node.{response_is_of_kind}
 use Rattle.network_law.proofs.Origins.{reversal_maker, stand_in_maker}
 use Rattle.network_law.proofs.Elements.{own_key_response, el_response, made_reversal_key, reversal_kind}
 use Rattle.network_law.proofs.AdviceMarks.{made_stand_in_key, as_kind_identity, kept_alike, reversal_reverses, stand_in_stands, identity_key}
-use Rattle.request_book.specs.Values.{IsKeyOf}
+use Rattle.pending_book.specs.Rows.{IsKeyOf}
 
 -- responses
 

@@ -23,7 +23,7 @@ use Rattle.node_machine.specs.Steps.{Progress}
 use Rattle.node_books.specs.Effects.{Drafted, progress, with_effect}
 use Rattle.node_machine.proofs.Readings.{failing_is}
 use Rattle.node_books.proofs.Loads.{one_row}
-use Rattle.request_book.specs.Values.{IsUnique}
+use Rattle.pending_book.specs.Rows.{IsUnique}
 use Rattle.node_books.specs.Values.{NewAdvice}
 use Rattle.node_books.specs.declared.effect.Effect.TheVariants as effects
 use Rattle.step_draft.specs.Failures.{keys_at}

@@ -18,7 +18,7 @@ use Rattle.node_machine.proofs.Views.{found_after, found_more}
 use Rattle.node_books.specs.declared.effect.Effect.{Effect}
 use Rattle.node_books.specs.declared.effect.Effect.TheVariants as effects
 use Rattle.advice_store.specs.Advices.{has_id, packet_acked}
-use Rattle.request_book.specs.Values.{opened}
+use Rattle.pending_book.specs.Rows.{opened}
 use Rattle.node_books.specs.Values.{NewAdvice}
 use Rattle.node_books.specs.Effects.{applied, applied_one, keep_in}
 use Rattle.entry_changes.specs.SoFar.{forwarding, forward_step, forward_from, advice_state, advice_step, advice_from, count_step, count_from}

@@ -2,8 +2,8 @@
 use Rattle.std.specs.Prelude.{List, map}
 use Rattle.network_law.specs.Cards.{Bytes}
 use Rattle.network_law.specs.Entries.{Output, Put, Answer, Ask, Post, spelled}
-use Rattle.request_book.specs.declared.output.Way.{Way}
-use Rattle.request_book.specs.declared.output.Way.TheVariants as ways
+use Rattle.kept_messages.specs.declared.output.Way.{Way}
+use Rattle.kept_messages.specs.declared.output.Way.TheVariants as ways
 use Rattle.node_books.specs.declared.effect.Effect.{Effect}
 use Rattle.node_books.specs.Effects.{sent_in}
 

@@ -6,7 +6,7 @@ ghost use Rattle.message_keys.specs.Keys.{identity_of};
 ghost use Rattle.iso_message.specs.Made.{made_reversal, made_stand_in};
 ghost use Rattle.network_law.specs.Tables.{node_id};
 ghost use Rattle.network_law.specs.Traces.{as_kept};
-ghost use Rattle.request_book.specs.Values.{IsKeyOf};
+ghost use Rattle.pending_book.specs.Rows.{IsKeyOf};
 
 use card_digits::{Key, NodeNo};
 use iso_message::Message;

@@ -1,7 +1,7 @@
 //! Where the requests stand that fail.
 ghost use Rattle.std.specs.Prelude.{◌≡◌, IfOk};
 ghost use Rattle.node_machine.specs.Lists.{row_fails};
-ghost use Rattle.request_book.specs.Values.{places_where};
+ghost use Rattle.pending_book.specs.Rows.{places_where};
 ghost use Rattle.step_draft.specs.Failures.{cause_of};
 
 use crate::draft::Draft;

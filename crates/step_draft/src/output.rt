@@ -1,7 +1,7 @@
 //! Outputs with their bytes.
 ghost use Rattle.std.specs.Prelude.{◌≡◌, IfOk};
 
-use request_book::Way;
+use kept_messages::Way;
 use shared_bytes::SharedBytes;
 use std::alloc::AllocError;
 use std::marker::Model;

@@ -9,17 +9,17 @@ ghost use Rattle.node_machine.specs.Lists.{view, leaves};
 ghost use Rattle.node_machine.specs.Machine.{own_way};
 ghost use Rattle.node_machine.specs.Steps.{emit, keep, is_sent, put_on, reply, send, store};
 ghost use Rattle.node_books.specs.Effects.{progress};
-ghost use Rattle.request_book.specs.Values.{source_of};
+ghost use Rattle.pending_book.specs.Rows.{source_of};
 
 use crate::advice::Advice;
 use crate::draft::Draft;
 use card_digits::{Amount, Key, LinkNo, NodeNo};
 use iso_message::Message;
+use kept_messages::{KeptMessage, PreparedOutput, Way};
 use message_elements::Code;
 use message_keys::AdviceId;
 use net_rows::Tables;
 use node_books::{Effect, NewAdvice};
-use request_book::{KeptMessage, PreparedOutput, Way};
 use std::alloc::AllocError;
 use step_rules::{is_at_home, sent_kind};
 

@@ -4,7 +4,7 @@ ghost use Rattle.message_keys.specs.Keys.{key_of};
 ghost use Rattle.node_machine.specs.Lists.{LeftAsMarked, view};
 ghost use Rattle.node_machine.specs.Steps.{fail, standin, standin_by, take};
 ghost use Rattle.node_books.specs.Effects.{progress};
-ghost use Rattle.request_book.specs.Values.{IsKeyOf, source_of};
+ghost use Rattle.pending_book.specs.Rows.{IsKeyOf, source_of};
 ghost use Rattle.step_draft.specs.Used.{IsQuiet};
 
 use crate::advice::Advice;

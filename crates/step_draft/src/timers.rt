@@ -7,7 +7,7 @@ ghost use Rattle.node_machine.specs.Steps.{fail_all, send_all, send_due, send_gr
 ghost use Rattle.node_books.specs.Effects.{progress};
 ghost use Rattle.step_draft.specs.Used.{IsQuiet};
 ghost use Rattle.step_draft.specs.Failures.{cause_of, keys_at};
-ghost use Rattle.request_book.specs.Values.{IsUnique};
+ghost use Rattle.pending_book.specs.Rows.{IsUnique};
 
 use crate::draft::Draft;
 use card_digits::{LinkNo, NodeNo};

@@ -2,7 +2,7 @@
 ghost use Rattle.std.specs.Prelude.{◌≡◌, IfOk};
 ghost use Rattle.network_law.specs.Decision.{same_source};
 ghost use Rattle.network_law.specs.Traces.{code_is_not_00};
-ghost use Rattle.request_book.specs.Values.{source_of};
+ghost use Rattle.pending_book.specs.Rows.{source_of};
 ghost use Rattle.node_machine.specs.Lists.{own_reversal, view};
 ghost use Rattle.node_machine.specs.Machine.{comes_late, other_content};
 ghost use Rattle.step_refusals.specs.Keyed.{is_pending_at, request_at};
@@ -13,7 +13,7 @@ use message_elements::response_codes;
 use message_keys::{AdviceId, AdviceKind, same_content};
 use net_rows::Tables;
 use node_books::Books;
-use request_book::Row;
+use pending_book::Row;
 use std::alloc::AllocError;
 use step_rules::padded_node_id;
 

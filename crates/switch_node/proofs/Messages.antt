@@ -13,7 +13,7 @@ use Rattle.network_law.specs.Traces.{as_kept}
 use Rattle.message_keys.specs.Amounts.{actual_amount}
 use Rattle.node_machine.specs.Lists.{leaves}
 use Rattle.network_law.proofs.Provenance.{as_kind_key}
-use Rattle.request_book.specs.Values.{IsKeyOf}
+use Rattle.pending_book.specs.Rows.{IsKeyOf}
 
 pub kept_leaves : (m : Fields) → leaves (as_kept m) ≡ leaves m
 unfolding actual_amount get

@@ -5,7 +5,7 @@ ghost use Rattle.network_law.specs.Tables.{node_id};
 ghost use Rattle.node_machine.specs.Lists.{view};
 ghost use Rattle.node_machine.specs.Steps.{keep, on_host, store};
 ghost use Rattle.node_books.specs.Effects.{progress};
-ghost use Rattle.request_book.specs.Values.{IsKeyOf};
+ghost use Rattle.pending_book.specs.Rows.{IsKeyOf};
 ghost use Rattle.switch_node.specs.Coming.{counts_by, for_duplicate, on_code_by};
 
 use card_digits::{Key, LinkNo, NodeNo};
@@ -13,7 +13,7 @@ use iso_message::Message;
 use message_elements::{Code, response_codes};
 use message_keys::code_of;
 use net_rows::Tables;
-use request_book::Row;
+use pending_book::Row;
 use std::alloc::AllocError;
 use step_draft::{Advice, Draft};
 use step_refusals::comes_late;

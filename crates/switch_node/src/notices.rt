@@ -7,7 +7,7 @@ ghost use Rattle.node_machine.specs.Lists.{leaves, view};
 ghost use Rattle.node_machine.specs.Machine.{is_pending};
 ghost use Rattle.node_machine.specs.Steps.{accept, answer_pending, on_advice, on_reversal};
 ghost use Rattle.node_books.specs.Effects.{progress};
-ghost use Rattle.request_book.specs.Values.{source_of};
+ghost use Rattle.pending_book.specs.Rows.{source_of};
 ghost use Rattle.switch_node.specs.Coming.{refusal_code};
 
 use card_digits::{Amount, Key, LinkNo, NodeNo};

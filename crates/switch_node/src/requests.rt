@@ -14,15 +14,16 @@ ghost use Rattle.message_elements.specs.Codes.{code_94};
 ghost use Rattle.network_law.specs.Decision.{same_source};
 ghost use Rattle.iso_message.specs.Made.{response};
 ghost use Rattle.node_books.specs.Effects.{progress};
-ghost use Rattle.request_book.specs.Values.{IsAnswerOf, IsKeyOf, source_of};
+ghost use Rattle.pending_book.specs.Rows.{IsAnswerOf, IsKeyOf, source_of};
 ghost use Rattle.step_draft.specs.Used.{IsQuiet};
 
 use card_digits::{Key, LinkNo, NodeNo};
 use iso_message::Message;
+use kept_messages::{KeptMessage, PreparedOutput, Way};
 use message_elements::{Code, Kind, response_codes};
 use message_keys::same_content;
 use net_rows::Tables;
-use request_book::{KeptMessage, PreparedOutput, Row, Way};
+use pending_book::Row;
 use std::alloc::AllocError;
 use step_draft::Draft;
 use step_refusals::{PLACES, same_source};

@@ -1,12 +1,12 @@
 //! A node and the steps of the tests. Nothing is promised of these functions, so that they are proved fast.
 use crate::lines::{Given, Line, Step, read_steps};
 use card_digits::{DateLabel, LinkNo, NodeNo};
+use kept_messages::Way;
 use message_elements::Code;
 use net_rows::Tables;
 use net_tables::read_tables;
 use network_law::StepFault;
 use rank_cert::{Cert, read_cert};
-use request_book::Way;
 use sample_networks::Sample;
 use shared_bytes::SharedBytes;
 use std::alloc::Global;

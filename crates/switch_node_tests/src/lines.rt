@@ -27,10 +27,10 @@
 use crate::messages::Purchase;
 use crate::words::{joined, words};
 use card_digits::{Amount, Card, DateLabel, LinkNo, NodeNo};
+use kept_messages::Way;
 use message_elements::{Code, DecodeFault};
 use net_rows::Tables;
 use network_law::StepFault;
-use request_book::Way;
 use std::alloc::Global;
 use std::test::Fail;
 use step_rules::Lending;

@@ -1,7 +1,8 @@
 //! A pending book, and what the tests do with it. Nothing is promised of these functions.
 use crate::requests::words::{Holder, answered, digits, put, row, sent, waits};
 use card_digits::{Card, LinkNo};
-use request_book::{PendingBook, PreparedOutput, Row, Way};
+use kept_messages::{PreparedOutput, Way};
+use pending_book::{NodeRequests, Row};
 use std::alloc::{AllocError, Global};
 
 /// A line of a test. A request is named by its trace number, and has the place at which it was opened.
@@ -25,7 +26,7 @@ pub(crate) enum Step {
 #[derive(Drop)]
 struct Desk {
     alloc: Global,
-    book: PendingBook,
+    book: NodeRequests,
 }
 
 pub(crate) fn link(number: u8) -> LinkNo {
@@ -107,7 +108,7 @@ fn first_wrong_in(desk: &mut Desk, steps: &[Step]) -> Result<Option<usize>, Allo
 
 /// The first step that goes otherwise, in a new book.
 pub(crate) fn first_wrong(alloc: Global, steps: &[Step]) -> Result<Option<usize>, AllocError> {
-    let book = PendingBook::new(alloc, waits(alloc)?)?;
+    let book = NodeRequests::new(alloc, waits(alloc)?)?;
     let mut desk = Desk { alloc, book };
     first_wrong_in(&mut desk, steps)
 }

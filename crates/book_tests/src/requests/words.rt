@@ -3,8 +3,9 @@ ghost use Rattle.std.specs.Prelude.{◌≡◌, IfOk};
 
 use card_digits::LinkNo;
 use iso_message::{Message, decode, encode};
+use kept_messages::{KeptMessage, PreparedOutput, Way};
 use message_keys::{has_own_key, key_of};
-use request_book::{KeptMessage, PreparedOutput, Row, Waits, Way};
+use pending_book::{Row, Waits};
 use shared_bytes::SharedBytes;
 use std::alloc::{AllocError, Global};
 use step_rules::card_of;

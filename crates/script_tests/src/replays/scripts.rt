@@ -1,8 +1,8 @@
 //! A network of two nodes and a link, and scripts on it. Nothing is promised of these functions, so that a test is proved fast.
+use kept_messages::Way;
 use net_replay::{ReplayFault, Traces, replay};
 use net_tables::read_tables;
 use rank_cert::read_cert;
-use request_book::Way;
 use sample_networks::Sample;
 use std::alloc::{AllocError, Global};
 use std::test::Fail;

@@ -1,6 +1,6 @@
 use Rattle.std.proofs.Common.{sym, ◌∙◌}
 use Rattle.node_books.specs.Effects.{progress}
-use Rattle.request_book.proofs.Codes.{found_code}
+use Rattle.kept_messages.proofs.Codes.{found_code}
 use Rattle.switch_node.proofs.Messages.{known_key}
 use Rattle.step_draft.proofs.Parts.{on_ok}
 use Rattle.switch_node.proofs.Coming.{answer_coded}

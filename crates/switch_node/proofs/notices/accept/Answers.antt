@@ -4,7 +4,7 @@ use Rattle.iso_message.specs.Made.{response}
 use Rattle.node_machine.specs.Lists.{Lists, view}
 use Rattle.node_machine.specs.Steps as steps
 use Rattle.node_books.specs.Effects.{progress}
-use Rattle.request_book.specs.Values.{source_of}
+use Rattle.pending_book.specs.Rows.{source_of}
 use Rattle.step_draft.proofs.Parts.{on_ok}
 use Rattle.switch_node.proofs.Requested.{accept_steps}
 use Rattle.switch_node.proofs.notices.accept.Goals as goal

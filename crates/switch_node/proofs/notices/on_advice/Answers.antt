@@ -1,7 +1,7 @@
 use Rattle.std.proofs.Common.{ap, ◌∙◌}
 use Rattle.node_machine.specs.Lists.{Lists, view, is_among}
 use Rattle.node_books.specs.Effects.{progress}
-use Rattle.request_book.specs.Values.{source_of}
+use Rattle.pending_book.specs.Rows.{source_of}
 use Rattle.step_draft.proofs.Parts.{on_ok}
 use Rattle.switch_node.proofs.Requested.{advice_refused, advice_kept}
 use Rattle.switch_node.proofs.notices.on_advice.Goals as goal

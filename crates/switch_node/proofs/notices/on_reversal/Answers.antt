@@ -2,7 +2,7 @@ use Rattle.std.proofs.Common.{ap, ◌∙◌}
 use Rattle.node_machine.specs.Machine as machine
 use Rattle.node_machine.specs.Lists.{Lists, view, is_among}
 use Rattle.node_books.specs.Effects.{progress}
-use Rattle.request_book.specs.Values.{source_of}
+use Rattle.pending_book.specs.Rows.{source_of}
 use Rattle.step_refusals.specs.Keyed.{request_at}
 use Rattle.step_draft.proofs.Messages.{advice_key}
 use Rattle.step_draft.proofs.Parts.{on_ok}

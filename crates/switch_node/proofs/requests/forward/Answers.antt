@@ -1,7 +1,7 @@
 use Rattle.std.proofs.Common.{refl, ◌∙◌}
 use Rattle.node_machine.specs.Lists.{view}
 use Rattle.node_books.specs.Effects.{progress}
-use Rattle.request_book.specs.Values.{source_of}
+use Rattle.pending_book.specs.Rows.{source_of}
 use Rattle.node_machine.specs.Steps as steps
 use Rattle.step_draft.proofs.Parts.{on_ok, of_kept}
 use Rattle.switch_node.proofs.Requested.{forward_some, forward_none}

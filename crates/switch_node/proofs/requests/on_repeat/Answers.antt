@@ -1,7 +1,7 @@
 use Rattle.std.proofs.Common.{ap, sym, ◌∙◌}
 use Rattle.node_machine.specs.Lists.{Lists, of_key}
 use Rattle.node_books.specs.Effects.{progress}
-use Rattle.request_book.specs.Values.{source_of}
+use Rattle.pending_book.specs.Rows.{source_of}
 use Rattle.step_draft.proofs.SoFar.{found_key}
 use Rattle.switch_node.proofs.Parts.{both_ok}
 use Rattle.switch_node.proofs.Requested.{repeat_steps}

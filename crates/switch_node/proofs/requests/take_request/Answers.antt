@@ -3,7 +3,7 @@ use Rattle.iso_message.specs.Made.{response}
 use Rattle.node_machine.specs.Lists.{view}
 use Rattle.node_machine.specs.Steps as steps
 use Rattle.node_books.specs.Effects.{progress}
-use Rattle.request_book.specs.Values.{source_of}
+use Rattle.pending_book.specs.Rows.{source_of}
 use Rattle.step_draft.proofs.Parts.{on_ok}
 use Rattle.switch_node.proofs.Requested.{issuer_full, issuer_home, issuer_away}
 use Rattle.switch_node.proofs.requests.take_request.Goals as goal

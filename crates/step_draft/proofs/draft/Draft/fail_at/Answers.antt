@@ -1,7 +1,7 @@
 use Rattle.std.proofs.Common.{◌≡◌, ◌∙◌, ap, subst, get_or}
 use Rattle.node_machine.specs.Lists.{Lists}
 use Rattle.node_books.specs.Effects.{Drafted, progress}
-use Rattle.request_book.specs.Values.{IsUnique, source_of}
+use Rattle.pending_book.specs.Rows.{IsUnique, source_of}
 use Rattle.step_draft.proofs.Parts.{fails_at}
 use Rattle.step_draft.proofs.draft.Draft.fail_at.Goals as goal
 

@@ -5,7 +5,7 @@ use Rattle.network_law.specs.Tables.{node_id}
 use Rattle.node_machine.specs.Lists.{Lists, view}
 use Rattle.node_machine.specs.Steps as steps
 use Rattle.node_books.specs.Effects.{progress}
-use Rattle.request_book.specs.Values.{source_of}
+use Rattle.pending_book.specs.Rows.{source_of}
 use Rattle.step_draft.proofs.Parts.{on_ok, fail_steps}
 use Rattle.step_draft.proofs.draft.Draft.fail_request.Goals as goal
 

@@ -1,6 +1,6 @@
 use Rattle.std.proofs.Common.{ap}
 use Rattle.node_books.specs.Effects.{Drafted}
-use Rattle.request_book.proofs.Found.{if_same}
+use Rattle.pending_book.proofs.Found.{if_same}
 use Rattle.step_draft.proofs.FailingPlaces.{over_same}
 use Rattle.step_draft.proofs.draft.Draft.failing_places.Goals as goal
 

@@ -1,6 +1,6 @@
 use Rattle.std.proofs.Common.{◌∙◌}
 use Rattle.node_machine.specs.Steps as steps
-use Rattle.request_book.specs.Values.{source_of}
+use Rattle.pending_book.specs.Rows.{source_of}
 use Rattle.step_draft.proofs.Parts.{on_ok, of_kept}
 use Rattle.step_draft.proofs.draft.Draft.reply.Goals as goal
 

@@ -1,9 +1,0 @@
-use Rattle.std.proofs.Common.{◌≡◌, ◌+◌, false, slice_get}
-use Rattle.std.specs.Prelude.{filter}
-use Rattle.std.specs.List.{range_with_len}
-use Rattle.std.specs.Option.{option_map_or}
-use Rattle.request_book.specs.Waits.{is_over}
-use Rattle.request_book.proofs.pending.PendingBook.over.Given as goal
-
-abbrev pub invariant-loop-place : goal.invariant-loop-place
-invariant-loop-place l = l.places.items ≡ filter (λ k. option_map_or (is_over l.waits (l.count + 1)) (slice_get l.self.rows k) false) (range_with_len 0 l.place)

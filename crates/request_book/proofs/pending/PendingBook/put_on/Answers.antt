@@ -1,7 +1,0 @@
-use Rattle.request_book.proofs.Found.{if_same, link_found}
-use Rattle.request_book.proofs.pending.PendingBook.put_on.Goals as goal
-
-pub returns : goal.returns
-returns c =
-    let i = c.self.inside in
-    rw (← c.self.view_is) (record { exact = if_same (λ v. v.items) c.on_link.result (link_found i.waits i.waiting.count i.is_timely i.rows.items i.waiting.waits c.self.invariant.0.waiting c.args.link) c.on_link.ensures.exact })
