@@ -191,6 +191,7 @@ impl HeldItems {
     }
 
     /// A tick was made. What was due at it is due again later.
+    #[inline]
     pub fn tick(&mut self)
         ensures turn { self.new.turn ≡ (self.old.turn + 1) % self.old.ticks }
         ensures visits { self.new.visits ≡ length (filter (λ x. x.count % self.old.ticks == self.old.turn) (items_of self.old)) + 1 }

@@ -99,6 +99,7 @@ impl<K: Hash + Ord + Copy + Drop, V: Copy + Drop> HashedTree<K, V> {
         }
     }
 
+    /// Whether no key has a value.
     pub fn is_empty(&self) -> bool
         ensures { IsTrue result → self.now ≡ [] }
     {

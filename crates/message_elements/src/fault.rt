@@ -6,6 +6,7 @@ ghost use Rattle.message_elements.specs.declared.fault.DecodeFault.TheVariants.{
 use std::alloc::{AllocError, AllocFailed};
 use thiserror::Error;
 
+/// The first fault of bytes that are no message of ISO 8583:1987.
 #[derive(Clone, Copy, Debug, PartialEq, Eq, Error)]
 pub enum DecodeFault {
     /// The bytes end too early.

@@ -17,6 +17,7 @@ pub struct Settings {
     pub advice_ticks: u16,
 }
 
+/// A switch node: its name in our formats, and its institution number (elements 32 and 33).
 #[derive(Clone, Copy, Debug)]
 pub struct Node {
     pub name: Name,
@@ -32,12 +33,15 @@ pub struct Link {
     pub ticks: u16,
 }
 
+/// An acquirer (element 32), and the node at whose gate it enters requests.
 #[derive(Clone, Copy, Debug)]
 pub struct Acquirer {
     pub id: Id,
     pub node: NodeNo,
 }
 
+/// An issuer of the cards with a prefix: its home node, the nodes that it names to approve by themselves, and the most that these approve
+/// together for a card and a settlement date, in minor units.
 #[derive(Debug, Drop)]
 pub struct Issuer {
     pub name: Name,
@@ -47,6 +51,7 @@ pub struct Issuer {
     pub ceiling: Amount,
 }
 
+/// The links on which a node forwards requests of the cards with a prefix, the preferred one first.
 #[derive(Debug, Drop)]
 pub struct Route {
     pub node: NodeNo,
@@ -54,6 +59,7 @@ pub struct Route {
     pub links: Links,
 }
 
+/// What a node may approve by itself for a card with a prefix: for a settlement date, and in one amount, in minor units.
 #[derive(Clone, Copy, Debug)]
 pub struct StandIn {
     pub node: NodeNo,

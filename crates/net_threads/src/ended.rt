@@ -20,6 +20,7 @@ pub struct SessionEnd {
     pub lines: Vec<LineEnd>,
 }
 
+/// What became of all sessions of a plan, in its order.
 #[derive(Drop)]
 pub struct Ended {
     pub sessions: Vec<SessionEnd>,

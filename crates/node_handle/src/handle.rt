@@ -14,6 +14,7 @@ use std::mem::replace;
 use std::ptr::null_mut;
 use switch_node::OwnedNode;
 
+/// A node that a program knows by a pointer: none where the pointer is null.
 #[repr(C)]
 pub struct NodeHandle {
     at: *mut u8,

@@ -5,6 +5,7 @@ ghost use Rattle.std_alloc.specs.Box.Ownership.{box_owns};
 use std::alloc::Allocator;
 use std::marker::Model;
 
+/// What a box holds, as its pointer, and the allocator that its memory comes from.
 pub struct Loose<T, A: Allocator> {
     pub at: *mut T,
     pub alloc: A,

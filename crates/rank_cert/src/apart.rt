@@ -53,6 +53,7 @@ impl ApartRows {
         Ok(apart)
     }
 
+    /// The rows, in the order in which they were added.
     pub fn rows(&self) -> &[Rank]
         ensures { result.now ≡ self.now }
     {

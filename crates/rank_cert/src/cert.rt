@@ -39,6 +39,7 @@ impl Model for Cert {
 }
 
 impl Cert {
+    /// A certificate without rows.
     pub fn new(alloc: Global) -> Cert
         ensures { result ≡ [] }
     {

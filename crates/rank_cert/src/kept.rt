@@ -19,6 +19,7 @@ pub(crate) enum Kept {
 }
 
 impl Kept {
+    /// No rows.
     pub fn new(alloc: Global) -> Kept
         ensures { rows_of result ≡ [] }
     {
@@ -32,6 +33,7 @@ impl Kept {
         Ok(Kept::Together(Runs::with_room(alloc, rows)?))
     }
 
+    /// The rows, in the order in which they were added.
     pub fn rows(&self) -> &[Rank]
         ensures { result.now ≡ rows_of self.now }
     {
@@ -41,6 +43,7 @@ impl Kept {
         }
     }
 
+    /// The rank of a node at a prefix, none where no row has it.
     pub fn rank(&self, node: &Name, prefix: &Prefix) -> Option<u16>
         ensures { result ≡ rank_of (rows_of self.now) node.now prefix.now }
     {

@@ -23,18 +23,21 @@ impl Model for Marks {
 }
 
 impl Marks {
+    /// No place has a mark.
     pub fn none() -> Marks {
         Marks {
             marked: [false; PLACES],
         }
     }
 
+    /// Whether a place has a mark.
     pub fn has(&self, place: u8) -> bool
         ensures { result ≡ is_marked self.now place }
     {
         self.marked[place as usize]
     }
 
+    /// A place has a mark from now on.
     #[tactic(auto, using(crate::proofs::Marked::stays))]
     pub fn mark(&mut self, place: u8)
         ensures marked { is_marked self.new place ≡ true }

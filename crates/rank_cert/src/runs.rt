@@ -57,6 +57,7 @@ pub(crate) enum Added {
 }
 
 impl Runs {
+    /// No rows.
     pub fn new(alloc: Global) -> Runs
         ensures { result ≡ [] }
     {
@@ -82,6 +83,7 @@ impl Runs {
         })
     }
 
+    /// The rows, in the order in which they were added.
     pub fn rows(&self) -> &[Rank]
         ensures { result.now ≡ self.now }
     {

@@ -29,6 +29,7 @@ pub struct Loan {
     pub order: Lending,
 }
 
+/// A line of a script: what a node is told.
 #[derive(Clone, Copy, Debug, PartialEq, Eq)]
 pub struct ScriptLine<'a> {
     pub node: NodeNo,

@@ -4,9 +4,9 @@ ghost use Rattle.rows_in_force.specs.InForce.{AreKnown, slot_at};
 ghost use Rattle.rows_in_force.specs.Own.{IsChained};
 ghost use Rattle.rows_in_force.specs.Kept.{AreFronts, AreAllWithin, nowhere};
 
-use crate::own::{MOST_NODES, OwnRows, Places};
+use crate::own::{OwnRows, Places};
 use crate::placed::Placed;
-use card_digits::Prefix;
+use card_digits::{MOST_NODES, Prefix};
 use std::alloc::{AllocError, Global};
 
 const MOST_DIGITS: usize = 12;

@@ -34,6 +34,7 @@ impl<'t, R: Placed> Model for InForce<'t, R> {
 }
 
 impl<'t, R: Placed> InForce<'t, R> {
+    /// The rows in force at the empty class, of these rows.
     pub fn new(alloc: Global, rows: &'t [R]) -> Result<InForce<'t, R>, AllocError>
         ensures { IfOk result (λ r. r ≡ record { rows = rows.entry.now; class = [] }) }
     {

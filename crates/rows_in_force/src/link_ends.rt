@@ -3,11 +3,9 @@ ghost use Rattle.std.specs.Prelude.{◌≡◌, ◌==◌, ◌≤◌, length, if�
 ghost use Rattle.net_rows.specs.Network.{Network, other_end};
 ghost use Rattle.rows_in_force.specs.LinkEnds.{ends_of, AreEnds};
 
-use card_digits::{LinkNo, NodeNo};
+use card_digits::{LinkNo, MOST_LINKS, NodeNo};
 use net_rows::{Link, Tables};
 use std::marker::Model;
-
-const MOST_LINKS: usize = 256;
 
 /// The ends of a link.
 #[derive(Clone, Copy, Debug)]
@@ -57,6 +55,7 @@ impl Ends {
 }
 
 impl LinkEnds {
+    /// The ends of the tables' links.
     pub fn new(tables: &Tables) -> LinkEnds
         ensures { AreEnds tables.now result }
     {

@@ -8,11 +8,9 @@ ghost use Rattle.rows_in_force.specs.InForce.{row_at};
 ghost use Rattle.rows_in_force.specs.Kept.{AreWithin};
 
 use crate::placed::Placed;
-use card_digits::Prefix;
+use card_digits::{MOST_NODES, Prefix};
 use prefix_map::PrefixMap;
 use std::alloc::{AllocError, Global};
-
-pub(crate) const MOST_NODES: usize = 64;
 
 /// The places of rows, by node.
 pub(crate) type Places = [Option<usize>; MOST_NODES];
