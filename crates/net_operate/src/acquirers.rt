@@ -2,8 +2,8 @@
 
 use crate::running::Host;
 use crate::worker::Worker;
-use iso_message::decode;
-use message_elements::elements;
+use iso_message::{Message, decode};
+use message_elements::{DecodeFault, elements};
 use message_keys::key_of;
 use net_threads::{LineEnd, StationFault};
 use plan_state::{Awaited, Awaiting, Search, SessionState, Wanted, is_answer_to, next_answer};
@@ -59,6 +59,13 @@ enum Line {
     Awaits(Awaiting),
 }
 
+/// What the answer to a line has, where the line's message has a time and a trace number.
+fn wanted_in(line: &[u8], message: &Message) -> Option<Wanted> {
+    let time = message.get(elements::TRANSMISSION_TIME)?;
+    let trace = message.get(elements::TRACE_AUDIT_NUMBER)?;
+    Wanted::new(line, time, trace)
+}
+
 /// The session at a place of the plan, for a thread that goes on with it: its own, or that of another session.
 #[derive(Clone, Copy)]
 pub(crate) struct Acquirer<'s, 't, 'p> {
@@ -81,19 +88,21 @@ impl<'s, 't, 'p> Acquirer<'s, 't, 'p> {
     }
 
     /// What is looked for once a line was entered, and whether the session is told of it. Called before it is entered.
-    fn sought(&self, line: &[u8]) -> Option<(Wanted, bool)> {
-        let message = decode(self.worker.alloc, line).ok()?;
-        let wanted = Wanted::new(
-            line,
-            message.get(elements::TRANSMISSION_TIME)?,
-            message.get(elements::TRACE_AUDIT_NUMBER)?,
-        )?;
+    fn await_answer(&self, line: &[u8]) -> Result<Option<(Wanted, bool)>, AllocError> {
+        let message = match decode(self.worker.alloc, line) {
+            Ok(message) => message,
+            Err(DecodeFault::Memory) => return Err(AllocError),
+            Err(_) => return Ok(None),
+        };
+        let Some(wanted) = wanted_in(line, &message) else {
+            return Ok(None);
+        };
         match key_of(&message) {
             Some(key) => {
                 self.awaited.begin(&key);
-                Some((wanted, true))
+                Ok(Some((wanted, true)))
             }
-            None => Some((wanted, false)),
+            None => Ok(Some((wanted, false))),
         }
     }
 
@@ -122,14 +131,14 @@ impl<'s, 't, 'p> Acquirer<'s, 't, 'p> {
     ) -> Result<Line, AllocError> {
         let worker = &self.worker;
         let bytes = SharedBytes::from_slice(worker.alloc, line)?;
-        let sought = self.sought(line);
+        let wanted = self.await_answer(line)?;
         let (search, entered) = self.apply(rt, bytes, calls);
         worker.leave_station(calls);
         worker.carry_on(rt, hosts, calls);
         if let Err(fault) = entered {
             return Ok(Line::Ended(LineEnd::Refused(fault)));
         }
-        let Some((wanted, is_told)) = sought else {
+        let Some((wanted, is_told)) = wanted else {
             return Ok(Line::Ended(LineEnd::Nothing));
         };
         let awaiting = Awaiting {
@@ -138,7 +147,7 @@ impl<'s, 't, 'p> Acquirer<'s, 't, 'p> {
             search,
             turns: ClockTurns::new(worker.plan.turns, worker.shared.clock().turns()),
         };
-        Ok(self.hear(rt, hosts, line, awaiting, calls))
+        self.hear(rt, hosts, line, awaiting, calls)
     }
 
     /// Whether the session was told of another answer than it has seen.
@@ -177,7 +186,7 @@ impl<'s, 't, 'p> Acquirer<'s, 't, 'p> {
         line: &[u8],
         awaiting: Awaiting,
         calls: &mut Calls,
-    ) -> Line {
+    ) -> Result<Line, AllocError> {
         let mut awaiting = awaiting;
         for _ in 0..self.worker.plan.turns {
             if awaiting.turns.are_over() {
@@ -193,19 +202,19 @@ impl<'s, 't, 'p> Acquirer<'s, 't, 'p> {
             }
             match found {
                 Some(bytes) => {
-                    if is_answer_to(self.worker.alloc, line, bytes.as_slice()) {
-                        return Line::Ended(LineEnd::Answer(bytes));
+                    if is_answer_to(self.worker.alloc, line, bytes.as_slice())? {
+                        return Ok(Line::Ended(LineEnd::Answer(bytes)));
                     }
                 }
                 None => {
                     if last {
                         break;
                     }
-                    return Line::Awaits(awaiting);
+                    return Ok(Line::Awaits(awaiting));
                 }
             }
         }
-        Line::Ended(LineEnd::Nothing)
+        Ok(Line::Ended(LineEnd::Nothing))
     }
 
     /// Looks for the answer that the session waits for, where there is something to do. Where there is nothing, no turn is counted.
@@ -216,13 +225,13 @@ impl<'s, 't, 'p> Acquirer<'s, 't, 'p> {
         line: &[u8],
         awaiting: Awaiting,
         calls: &mut Calls,
-    ) -> Line {
+    ) -> Result<Line, AllocError> {
         let mut awaiting = awaiting;
         awaiting.turns.catch_up(self.worker.shared.clock().turns());
         if awaiting.turns.are_over() || self.has_news(&awaiting) || self.is_last() {
             self.hear(rt, hosts, line, awaiting, calls)
         } else {
-            Line::Awaits(awaiting)
+            Ok(Line::Awaits(awaiting))
         }
     }
 
@@ -240,7 +249,7 @@ impl<'s, 't, 'p> Acquirer<'s, 't, 'p> {
             };
             let line = match state.awaiting.take() {
                 None => self.enter(rt, hosts, line, calls),
-                Some(awaiting) => Ok(self.hear_more(rt, hosts, line, awaiting, calls)),
+                Some(awaiting) => self.hear_more(rt, hosts, line, awaiting, calls),
             };
             match line {
                 Ok(Line::Ended(end)) => state.end_line(Ok(end)),

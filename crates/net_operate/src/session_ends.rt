@@ -8,19 +8,19 @@ use plan_state::is_answer_to;
 use run_plan::Session;
 use std::alloc::{AllocError, Global};
 
-fn fitted_line(alloc: Global, line: &[u8], end: LineEnd) -> LineEnd
-    ensures { LineFits line.now result }
+fn fitted_line(alloc: Global, line: &[u8], end: LineEnd) -> Result<LineEnd, AllocError>
+    ensures { IfOk result (λ e. LineFits line.now e) }
 {
     match end {
         LineEnd::Answer(bytes) => {
-            if is_answer_to(alloc, line, bytes.as_slice()) {
-                LineEnd::Answer(bytes)
+            if is_answer_to(alloc, line, bytes.as_slice())? {
+                Ok(LineEnd::Answer(bytes))
             } else {
-                LineEnd::Nothing
+                Ok(LineEnd::Nothing)
             }
         }
-        LineEnd::Nothing => LineEnd::Nothing,
-        LineEnd::Refused(fault) => LineEnd::Refused(fault),
+        LineEnd::Nothing => Ok(LineEnd::Nothing),
+        LineEnd::Refused(fault) => Ok(LineEnd::Refused(fault)),
     }
 }
 
@@ -46,7 +46,7 @@ fn fitted_lines(
             Some(end) => end,
             None => LineEnd::Nothing,
         };
-        all.push(fitted_line(alloc, line, end))?;
+        all.push(fitted_line(alloc, line, end)?)?;
     }
     Ok(all)
 }

@@ -1,5 +1,5 @@
 //! How far a session has come.
-ghost use Rattle.std.specs.Prelude.{◌≡◌, ◌++◌, ◌∷◌, [], true, false, None, not, IfOk, OnErr, IsTrue};
+ghost use Rattle.std.specs.Prelude.{◌≡◌, ◌++◌, ◌∷◌, [], true, false, None, not, IfOk, OnErr, length, slice_get};
 
 use crate::search::Search;
 use crate::trace_search::Wanted;
@@ -49,7 +49,8 @@ impl SessionState {
 
     /// The line that comes next, or whose answer is awaited: none where all have ended, or there was no memory.
     pub fn next_line<'l>(&self, lines: &[&'l [u8]]) -> Option<&'l [u8]>
-        ensures { IsTrue self.now.has_failed → result ≡ None }
+        ensures failed { self.now.has_failed ≡ true → result ≡ None }
+        ensures next { self.now.has_failed ≡ false → result ≡ slice_get lines.now (length self.now.ends.items) }
     {
         if self.has_failed {
             return None;
@@ -62,6 +63,7 @@ impl SessionState {
     pub fn end_line(&mut self, end: Result<LineEnd, AllocError>)
         ensures ended { IfOk end (λ e. self.new.has_failed ≡ self.old.has_failed → self.old.has_failed ≡ false → self.new.ends.items ≡ self.old.ends.items ++ e ∷ []) }
         ensures failed { OnErr end (self.new.has_failed ≡ true) }
+        ensures kept { self.old.has_failed ≡ false → self.new.has_failed ≡ true → self.new.ends.items ≡ self.old.ends.items }
         ensures awaiting { self.new.awaiting ≡ self.old.awaiting }
         ensures over { self.new.is_over ≡ self.old.is_over }
     {

@@ -413,8 +413,8 @@ impl PlanState {
             return;
         }
         let hash = match key_in(alloc, bytes) {
-            Some(key) => Some(key_hash(&key)),
-            None => None,
+            Ok(Some(key)) => Some(key_hash(&key)),
+            _ => None,
         };
         for session in node.sessions.iter() {
             match self.awaited(*session) {

@@ -6,4 +6,4 @@ use Rattle.net_operate.proofs.session_ends.fitted_lines.Goals as goal
 pub loop-k-preserved : goal.loop-k-preserved
 loop-k-preserved c =
     rw c.in_ok-push.ensures.items
-    (zip_at (λ x. LineFits x.now) c.args.lines.now c.loop-k.all.items c.loop-k.k c.fitted_line.result (omega arith) (λ d. subst (λ z. LineFits z c.fitted_line.result) (c.line_at-line.ensures d) c.fitted_line.ensures) c.loop-k.invariant)
+    (zip_at (λ x. LineFits x.now) c.args.lines.now c.loop-k.all.items c.loop-k.k c.in_ok-fitted_line.field-0 (omega arith) (λ d. subst (λ z. LineFits z c.in_ok-fitted_line.field-0) (c.line_at-line.ensures d) c.in_ok-fitted_line.ensures) c.loop-k.invariant)
