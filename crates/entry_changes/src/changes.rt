@@ -110,6 +110,7 @@ impl Changes {
     }
 
     /// One change more.
+    #[inline]
     pub fn push(&mut self, effect: Effect) -> Result<(), AllocError>
         ensures ok { OnOk result (self.new ≡ self.old ++ effect ∷ []) }
         ensures err { OnErr result (self.new ≡ self.old) }

@@ -91,7 +91,8 @@ impl LateChanges {
         }
     }
 
-    /// One change more, behind as many as `place`.
+    /// One change more, behind as many as `place`. It is called where it stands, so that a change of the first few is moved once.
+    #[inline(never)]
     fn note(&mut self, effect: &Effect, place: usize) -> Result<(), AllocError>
         requires { (l : ℕ) → (move_at l self.old.moves.moves.entries).puts < 2 ^ 63 }
         ensures ok { OnOk result ((es : List Effect) → length es ≡ place → AreLate es self.old → AreLate (es ++ effect.now ∷ []) self.new) }
@@ -106,6 +107,7 @@ impl LateChanges {
     }
 
     /// One change more, behind as many of the entry as `place`, the first few among them.
+    #[inline]
     pub fn note_behind(&mut self, effect: &Effect, place: usize) -> Result<(), AllocError>
         requires { (l : ℕ) → (move_at l self.old.moves.moves.entries).puts < 2 ^ 63 }
         ensures ok { OnOk result ((es : List Effect) → length es ≡ place → AreLate (drop few es) self.old → AreLate (drop few (es ++ effect.now ∷ [])) self.new) }

@@ -366,6 +366,7 @@ impl Books {
     }
 
     /// An output went out.
+    #[inline(never)]
     #[tactic(auto, using(crate::proofs::Codes::after_is, crate::proofs::Few::sent_few))]
     fn send(&mut self, output: PreparedOutput)
         requires room { 0 < self.old.room }
@@ -381,6 +382,7 @@ impl Books {
     }
 
     /// An advice was made or accepted.
+    #[inline(never)]
     #[tactic(auto, using(kept_messages::proofs::Codes::id_key))]
     fn keep(&mut self, advice: NewAdvice)
         requires { 0 < self.old.room }
@@ -411,6 +413,7 @@ impl Books {
     }
 
     /// The node lent to another.
+    #[inline(never)]
     fn lend(&mut self, grant: KeptGrant)
         requires { 0 < self.old.room }
         ensures { self.new ≡ record { lists = applied_one (Lent grant) self.old.lists; room = self.old.room - 1 } }
@@ -423,6 +426,7 @@ impl Books {
     }
 
     /// A packet was put on a link, with this serial.
+    #[inline(never)]
     #[tactic(auto, using(crate::proofs::Packets::packet_quiet))]
     fn send_packet(&mut self, link: LinkNo, serial: u64, packet: GrantPacket)
         requires room { 0 < self.old.room }
@@ -433,7 +437,7 @@ impl Books {
         self.room -= 1;
     }
 
-    /// A change is made.
+    /// A change is made. What each kind does is called, and not written here, or all kinds would be taken apart for each change.
     pub fn apply(&mut self, effect: Effect)
         requires room { 0 < self.old.room }
         requires few { AreFew (applied_one effect self.old.lists) }

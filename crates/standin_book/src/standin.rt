@@ -213,6 +213,7 @@ impl StandInBook {
     }
 
     /// The node approved by itself.
+    #[inline(never)]
     pub fn take(&mut self, approval: OwnApproval)
         requires { 0 < self.old.room }
         ensures { self.new ≡ record { takes = self.old.takes ++ approval ∷ []; room = self.old.room - 1 } }
