@@ -1,3 +1,4 @@
 pub mod Cursors
+pub mod Found
 pub mod Hearing
 pub mod Keys

@@ -1,11 +1,12 @@
 //! What hosts and sessions wait for in a trace.
-ghost use Rattle.std.specs.Prelude.{◌≡◌, ◌+◌, nat_lt, if◌then◌else◌};
+ghost use Rattle.std.specs.Prelude.{◌≡◌, ◌+◌, ◌<◌, ◌^◌, ◌∷◌, ◌==◌, ◌&&◌, [], None, IfSome, is_some, nat_le, drop, filter_map, length};
 ghost use Rattle.plan_state.specs.Cursors.{skipped};
+ghost use Rattle.plan_state.specs.Found.{answer_of, answers_from, ask_of, asks_from, behind, EndsWith};
 
 use kept_messages::Way;
 use shared_bytes::SharedBytes;
 use std::alloc::Global;
-use switch_node::Entry;
+use switch_node::{Entry, Output};
 
 /// How the answer to a line begins, and what stands in it: its type, and the time and trace number of the line's own message.
 #[derive(Clone, Copy)]
@@ -19,8 +20,10 @@ fn contains(bytes: &[u8], stamp: &[u8; 16]) -> bool {
 }
 
 impl Wanted {
-    /// What the answer to a message of this type with these elements 7 and 11 has.
-    pub fn new(line: &[u8], time: &[u8], trace: &[u8]) -> Option<Wanted> {
+    /// What the answer to a message of this type with these elements 7 and 11 has, none where these have other lengths.
+    pub fn new(line: &[u8], time: &[u8], trace: &[u8]) -> Option<Wanted>
+        ensures { is_some result ≡ (nat_le 4 (length line.now) && ((length time.now == 10) && (length trace.now == 6))) }
+    {
         if line.len() < 4 || time.len() != 10 || trace.len() != 6 {
             return None;
         }
@@ -61,12 +64,18 @@ impl Cursor {
     }
 
     /// Behind an output of an entry that has so many.
-    fn behind(entry: usize, output: usize, count: usize) -> Cursor {
-        let output = output.saturating_add(1);
-        if output < count {
-            Cursor { entry, output }
+    fn behind(entry: usize, output: usize, count: usize) -> Cursor
+        requires entry { entry < 2 ^ 63 }
+        requires output { output < count }
+        ensures { result ≡ behind entry output count }
+    {
+        if output + 1 < count {
+            Cursor {
+                entry,
+                output: output + 1,
+            }
         } else {
-            Cursor::at(entry.saturating_add(1))
+            Cursor::at(entry + 1)
         }
     }
 }
@@ -78,35 +87,73 @@ pub struct Ask {
     pub bytes: SharedBytes,
 }
 
-/// The first request to the host among an entry's outputs from a place on, and its place.
-fn asked(entry: &Entry, from: usize) -> Option<(usize, u64, &SharedBytes)> {
-    for (place, output) in entry.outputs().as_slice().iter().enumerate().skip(from) {
-        if let Way::Ask(ask) = output.way() {
-            return Some((place, ask, output.shared_bytes()));
+/// A request to the host among outputs, and its place.
+#[derive(Clone, Copy)]
+struct AskAt<'o> {
+    place: usize,
+    number: u64,
+    bytes: &'o SharedBytes,
+}
+
+/// The first request to the host among outputs from a place on.
+fn asked(outputs: &[Output], from: usize) -> Option<AskAt<'_>>
+    ensures found { IfSome result (λ a. (a.place < length outputs.now) × (filter_map ask_of (drop from outputs.now) ≡ (a.number, a.bytes.now) ∷ filter_map ask_of (drop (a.place + 1) outputs.now))) }
+    ensures none { result ≡ None → filter_map ask_of (drop from outputs.now) ≡ [] }
+{
+    for place in from..outputs.len() {
+        let output = &outputs[place];
+        if let Way::Ask(number) = output.way() {
+            return Some(AskAt {
+                place,
+                number,
+                bytes: output.shared_bytes(),
+            });
         }
     }
     None
 }
 
-/// The first answer among an entry's outputs from a place on that may be the wanted one, and its place.
-fn answered<'e>(entry: &'e Entry, from: usize, wanted: &Wanted) -> Option<(usize, &'e [u8])> {
-    for (place, output) in entry.outputs().as_slice().iter().enumerate().skip(from) {
+/// An answer among outputs, and its place.
+#[derive(Clone, Copy)]
+struct AnswerAt<'o> {
+    place: usize,
+    bytes: &'o [u8],
+}
+
+/// The first answer among outputs from a place on that may be the wanted one.
+fn answered<'o>(outputs: &'o [Output], from: usize, wanted: &Wanted) -> Option<AnswerAt<'o>>
+    ensures { IfSome result (λ a. (a.place < length outputs.now) × EndsWith (filter_map answer_of (drop from outputs.now)) (a.bytes.now ∷ filter_map answer_of (drop (a.place + 1) outputs.now))) }
+{
+    for place in from..outputs.len() {
+        let output = &outputs[place];
         if let Way::Answer = output.way() {
             if wanted.may_be(output.bytes()) {
-                return Some((place, output.bytes()));
+                return Some(AnswerAt {
+                    place,
+                    bytes: output.bytes(),
+                });
             }
         }
     }
     None
 }
 
-/// The next request to the host in a trace. The cursor moves behind it; where its bytes have too many owners, it stays before it.
-pub fn next_ask(trace: &[Entry], cursor: &mut Cursor) -> Option<Ask> {
+/// The next request to the host in a trace. None is passed over: the cursor moves behind the first, and where that one's bytes have too many
+/// owners, it stays before it.
+pub fn next_ask(trace: &[Entry], cursor: &mut Cursor) -> Option<Ask>
+    ensures found { IfSome result (λ a. asks_from trace.now cursor.old ≡ (a.number, a.bytes) ∷ asks_from trace.now cursor.new) }
+    ensures none { result ≡ None → asks_from trace.now cursor.new ≡ asks_from trace.now cursor.old }
+{
     for k in cursor.entry..trace.len() {
-        if let Some((place, number, bytes)) = asked(&trace[k], cursor.output) {
-            let bytes = bytes.share().ok()?;
-            *cursor = Cursor::behind(k, place, trace[k].outputs().as_slice().len());
-            return Some(Ask { number, bytes });
+        if let Some(ask) = asked(trace[k].outputs().as_slice(), cursor.output) {
+            let Ok(bytes) = ask.bytes.share() else {
+                return None;
+            };
+            *cursor = Cursor::behind(k, ask.place, trace[k].outputs().as_slice().len());
+            return Some(Ask {
+                number: ask.number,
+                bytes,
+            });
         }
         *cursor = Cursor::at(k + 1);
     }
@@ -120,11 +167,16 @@ pub fn next_answer(
     trace: &[Entry],
     cursor: &mut Cursor,
     wanted: &Wanted,
-) -> Option<Vec<u8>> {
+) -> Option<Vec<u8>>
+    ensures found { IfSome result (λ v. EndsWith (answers_from trace.now cursor.old) (v.items ∷ answers_from trace.now cursor.new)) }
+    ensures none { result ≡ None → EndsWith (answers_from trace.now cursor.old) (answers_from trace.now cursor.new) }
+{
     for k in cursor.entry..trace.len() {
-        if let Some((place, bytes)) = answered(&trace[k], cursor.output, wanted) {
-            let copy = Vec::from_slice(alloc, bytes).ok()?;
-            *cursor = Cursor::behind(k, place, trace[k].outputs().as_slice().len());
+        if let Some(answer) = answered(trace[k].outputs().as_slice(), cursor.output, wanted) {
+            let Ok(copy) = Vec::from_slice(alloc, answer.bytes) else {
+                return None;
+            };
+            *cursor = Cursor::behind(k, answer.place, trace[k].outputs().as_slice().len());
             return Some(copy);
         }
         *cursor = Cursor::at(k + 1);

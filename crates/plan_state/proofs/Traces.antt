@@ -1,0 +1,97 @@
+-- Where a trace goes on from a cursor.
+use Rattle.std.proofs.Common.{◌≡◌, subst, ℕ, suc, ◌+◌, ◌<◌, List, [], ◌∷◌, ◌++◌, length, get_or, drop, filter_map, Option, refl, sym, ap, ◌∙◌, arith, add-one, inl, inr}
+use Rattle.std.specs.List.{flat_map}
+use Rattle.std.proofs.Math.Seq.{drop-cons}
+use Rattle.std.proofs.lemmas.Bool.{cases_lt, lt-ltb, le-ltb}
+use Rattle.std.proofs.lemmas.List.{append-nil, append_assoc, drop_all, get_or_default}
+use Rattle.std.proofs.lemmas.List.Elements.{filter_map-append}
+use Rattle.network_law.specs.Cards.{Bytes}
+use Rattle.network_law.specs.Entries.{Entry, Output, Put, Answer, Ask, Post}
+use Rattle.plan_state.specs.declared.trace_search.Cursor.{Cursor}
+use Rattle.plan_state.specs.Found.{answer_of, answers_from, ask_of, asks_from, behind, found_from, outputs_after, EndsWith}
+
+-- what is looked for in the entries behind one
+abbrev pub later : {X : Type 0} → (Output → Option X) → List Entry → ℕ → List X
+later looked trace k = filter_map looked (flat_map (λ x. x.outputs) (drop (suc k) trace))
+
+found_here : {X : Type 0} (looked : Output → Option X) (trace : List Entry) (k j : ℕ) (d : Entry) → k < length trace → found_from looked trace (record { entry = k; output = j }) ≡ filter_map looked (drop j (get_or trace k d).outputs) ++ later looked trace k
+found_here looked trace k j d h =
+    ap (λ es. filter_map looked (outputs_after j es)) (drop-cons trace k d h)
+    ∙ filter_map-append looked (drop j (get_or trace k d).outputs) (flat_map (λ x. x.outputs) (drop (suc k) trace))
+
+all_outputs : (es : List Entry) → outputs_after 0 es ≡ flat_map (λ x. x.outputs) es
+all_outputs [] = refl
+all_outputs (e ∷ es) = refl
+
+found_past : {X : Type 0} (looked : Output → Option X) (trace : List Entry) (k : ℕ) → found_from looked trace (record { entry = k + 1; output = 0 }) ≡ later looked trace k
+found_past looked trace k = ap (λ i. found_from looked trace (record { entry = i; output = 0 })) (add-one k) ∙ ap (filter_map looked) (all_outputs (drop (suc k) trace))
+
+found_behind : {X : Type 0} (looked : Output → Option X) (trace : List Entry) (k j : ℕ) (d : Entry) → k < length trace → found_from looked trace (behind k j (length (get_or trace k d).outputs)) ≡ filter_map looked (drop (j + 1) (get_or trace k d).outputs) ++ later looked trace k
+found_behind looked trace k j d h =
+    let outputs = (get_or trace k d).outputs in
+    elim (cases_lt (j + 1) (length outputs)) [
+      | inl more ↦ rw (lt-ltb (j + 1) (length outputs) more) (found_here looked trace k (j + 1) d h)
+      | inr last ↦ rw (le-ltb (j + 1) (length outputs) last, drop_all (j + 1) outputs last) (found_past looked trace k)
+    ]
+
+-- the same where the cursor has come to an entry with these outputs
+found_at : {X : Type 0} (looked : Output → Option X) (trace : List Entry) (c : Cursor) (k : ℕ) (e : Entry) (outs : List Output) → k < length trace → c.entry ≡ k → e ≡ get_or trace k e → outs ≡ e.outputs → found_from looked trace c ≡ filter_map looked (drop c.output outs) ++ later looked trace k
+found_at looked trace c k e outs within at is same =
+    ap (λ i. found_from looked trace (record { entry = i; output = c.output })) at
+    ∙ found_here looked trace k c.output e within
+    ∙ ap (λ os. filter_map looked (drop c.output os) ++ later looked trace k) (sym (same ∙ ap (λ x. x.outputs) is))
+
+found_next : {X : Type 0} (looked : Output → Option X) (trace : List Entry) (new : Cursor) (k place count : ℕ) (e : Entry) (outs : List Output) → k < length trace → e ≡ get_or trace k e → outs ≡ e.outputs → count ≡ length outs → new ≡ behind k place count → found_from looked trace new ≡ filter_map looked (drop (place + 1) outs) ++ later looked trace k
+found_next looked trace new k place count e outs within is same counted next =
+    let all : outs ≡ (get_or trace k e).outputs = same ∙ ap (λ x. x.outputs) is in
+    ap (found_from looked trace) (next ∙ ap (behind k place) (counted ∙ ap length all)) ∙ found_behind looked trace k place e within ∙ ap (λ os. filter_map looked (drop (place + 1) os) ++ later looked trace k) (sym all)
+
+-- an entry that is read twice has as many outputs both times
+pub one_entry : (trace : List Entry) (k : ℕ) (e f : Entry) (outs others : List Output) → k < length trace → e ≡ get_or trace k e → f ≡ get_or trace k f → outs ≡ e.outputs → others ≡ f.outputs → length others ≡ length outs
+one_entry trace k e f outs others within is is_f same same_f =
+    let one : f ≡ e = is_f ∙ get_or_default trace k f e within ∙ sym is in
+    ap length (same_f ∙ ap (λ x. x.outputs) one ∙ sym same)
+
+-- a request to the host is the first among the outputs that are left of the entry that the cursor has come to
+pub next_asked : (trace : List Entry) (c start new : Cursor) (k place number count : ℕ) (bytes : Bytes) (e : Entry) (outs : List Output) → k < length trace → c.entry ≡ k → asks_from trace c ≡ asks_from trace start → e ≡ get_or trace k e → outs ≡ e.outputs → filter_map ask_of (drop c.output outs) ≡ (number, bytes) ∷ filter_map ask_of (drop (place + 1) outs) → count ≡ length outs → new ≡ behind k place count → asks_from trace start ≡ (number, bytes) ∷ asks_from trace new
+next_asked trace c start new k place number count bytes e outs within at before is same found counted next =
+    sym before ∙ found_at ask_of trace c k e outs within at is same ∙ ap (λ xs. xs ++ later ask_of trace k) found
+    ∙ ap (λ xs. (number, bytes) ∷ xs) (sym (found_next ask_of trace new k place count e outs within is same counted next))
+
+-- there is none among the outputs that are left of that entry
+pub none_asked : (trace : List Entry) (c start : Cursor) (k : ℕ) (e : Entry) (outs : List Output) → k < length trace → c.entry ≡ k → asks_from trace c ≡ asks_from trace start → e ≡ get_or trace k e → outs ≡ e.outputs → filter_map ask_of (drop c.output outs) ≡ [] → asks_from trace (record { entry = k + 1; output = 0 }) ≡ asks_from trace start
+none_asked trace c start k e outs within at before is same none =
+    found_past ask_of trace k ∙ sym (sym before ∙ found_at ask_of trace c k e outs within at is same ∙ ap (λ xs. xs ++ later ask_of trace k) none)
+
+-- one more was passed over
+pub ends_behind : {X : Type 0} (xs : List X) (x : X) (ys zs : List X) → EndsWith xs ys → ys ≡ x ∷ zs → EndsWith xs zs
+ends_behind xs x ys zs end is = (end.0 ++ x ∷ [], end.1 ∙ ap (λ s. end.0 ++ s) is ∙ sym (append_assoc end.0 (x ∷ []) zs))
+
+-- an output is passed over, whatever it is
+one_passed : (xs : List Bytes) (o : Output) (os : List Output) → EndsWith xs (filter_map answer_of (o ∷ os)) → EndsWith xs (filter_map answer_of os)
+one_passed xs (Put l s bytes) os end = end
+one_passed xs (Answer bytes) os end = ends_behind xs bytes (bytes ∷ filter_map answer_of os) (filter_map answer_of os) end refl
+one_passed xs (Ask number bytes) os end = end
+one_passed xs (Post bytes) os end = end
+
+pub passed_over : (xs : List Bytes) (outs : List Output) (place : ℕ) (o : Output) → place < length outs → EndsWith xs (filter_map answer_of (drop place outs)) → EndsWith xs (filter_map answer_of (drop (place + 1) outs))
+passed_over xs outs place o within end =
+    rw add-one (one_passed xs (get_or outs place o) (drop (suc place) outs) (subst (λ os. EndsWith xs (filter_map answer_of os)) (drop-cons outs place o within) end))
+
+ends_joined : {X : Type 0} (xs ys us vs ls : List X) → EndsWith xs ys → ys ≡ us ++ ls → EndsWith us vs → EndsWith xs (vs ++ ls)
+ends_joined xs ys us vs ls end joined inner =
+    (end.0 ++ inner.0, end.1 ∙ ap (λ s. end.0 ++ s) (joined ∙ ap (λ s. s ++ ls) inner.1 ∙ append_assoc inner.0 vs ls) ∙ sym (append_assoc end.0 inner.0 (vs ++ ls)))
+
+-- an answer stands behind those that were passed over among the outputs that are left of that entry
+pub next_answered : (trace : List Entry) (c start new : Cursor) (k place count : ℕ) (bytes : Bytes) (e : Entry) (outs : List Output) → k < length trace → c.entry ≡ k → EndsWith (answers_from trace start) (answers_from trace c) → e ≡ get_or trace k e → outs ≡ e.outputs → EndsWith (filter_map answer_of (drop c.output outs)) (bytes ∷ filter_map answer_of (drop (place + 1) outs)) → count ≡ length outs → new ≡ behind k place count → EndsWith (answers_from trace start) (bytes ∷ answers_from trace new)
+next_answered trace c start new k place count bytes e outs within at before is same found counted next =
+    let end : EndsWith (answers_from trace start) (bytes ∷ (filter_map answer_of (drop (place + 1) outs) ++ later answer_of trace k)) =
+    ends_joined (answers_from trace start) (answers_from trace c) (filter_map answer_of (drop c.output outs)) (bytes ∷ filter_map answer_of (drop (place + 1) outs)) (later answer_of trace k) before (found_at answer_of trace c k e outs within at is same) found in
+    subst (λ ys. EndsWith (answers_from trace start) (bytes ∷ ys)) (sym (found_next answer_of trace new k place count e outs within is same counted next)) end
+
+-- all that are left of that entry are passed over
+pub all_passed : (trace : List Entry) (c start new : Cursor) (k : ℕ) (e : Entry) (outs : List Output) → k < length trace → c.entry ≡ k → EndsWith (answers_from trace start) (answers_from trace c) → e ≡ get_or trace k e → outs ≡ e.outputs → new ≡ record { entry = k + 1; output = 0 } → EndsWith (answers_from trace start) (answers_from trace new)
+all_passed trace c start new k e outs within at before is same next =
+    let end : EndsWith (answers_from trace start) ([] ++ later answer_of trace k) =
+    ends_joined (answers_from trace start) (answers_from trace c) (filter_map answer_of (drop c.output outs)) [] (later answer_of trace k) before (found_at answer_of trace c k e outs within at is same) (filter_map answer_of (drop c.output outs), sym (append-nil _)) in
+    subst (EndsWith (answers_from trace start)) (sym (ap (answers_from trace) next ∙ found_past answer_of trace k)) end
