@@ -1,5 +1,5 @@
 -- Advices and grants in the order of their storing.
-use Rattle.std.specs.Prelude.{◌≡◌, ◌<◌, ℕ, Bool, true, false, ◌==◌, ◌&&◌, ◌||◌, bytes_eq, List, [], ◌∷◌, find, unwrap_or, Option, Some, None, ⊤}
+use Rattle.std.specs.Prelude.{◌≡◌, ◌<◌, ℕ, Bool, false, ◌==◌, ◌&&◌, ◌||◌, bytes_eq, List, [], ◌∷◌, find, unwrap_or, Option, Some, None, ⊤}
 use Rattle.std.specs.List.{list_any}
 use Rattle.message_keys.specs.Keys.{identity_of, identity_eq}
 use Rattle.message_keys.specs.declared.keys.AdviceId.{AdviceId}

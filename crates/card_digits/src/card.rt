@@ -46,6 +46,15 @@ impl Card {
         Ok(Card { digits })
     }
 
+    /// The same of bytes that are known to be digits, and aren't looked at for that.
+    pub fn read_known(text: &[u8]) -> Result<Card, DigitFault>
+        requires { list_all is_ascii_digit text.now ≡ true }
+        ensures { result ≡ read_digits 8 19 text.now }
+    {
+        let digits = read_known(text, 8)?;
+        Ok(Card { digits })
+    }
+
     /// The digits in order, as numbers.
     pub fn digits(&self) -> &[u8]
         ensures digits { result.now ≡ self.now }
@@ -68,9 +77,24 @@ pub(crate) fn read<const N: usize>(text: &[u8], least: usize) -> Result<ShortByt
     ensures value { result ≡ read_digits least N text.now }
     ensures within { IfOk result (AreDigitsWithin least N) }
 {
-    if !all_digits(text) {
-        return Err(DigitFault::NotDigit);
+    if all_digits(text) {
+        read_known(text, least)
+    } else {
+        Err(DigitFault::NotDigit)
     }
+}
+
+/// The same of bytes that are known to be digits.
+#[tactic(auto, using(crate::proofs::Within::digits_within))]
+pub(crate) fn read_known<const N: usize>(
+    text: &[u8],
+    least: usize,
+) -> Result<ShortBytes<N>, DigitFault>
+    requires short { N < 256 }
+    requires digits { list_all is_ascii_digit text.now ≡ true }
+    ensures value { result ≡ read_digits least N text.now }
+    ensures within { IfOk result (AreDigitsWithin least N) }
+{
     if text.len() < least || text.len() > N {
         return Err(DigitFault::Length);
     }

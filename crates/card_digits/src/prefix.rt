@@ -1,7 +1,9 @@
 //! Prefixes of card numbers.
-ghost use Rattle.std.specs.Prelude.{◌≡◌, ◌<◌, ◌≤◌, length, take, All, Some};
+ghost use Rattle.std.specs.Prelude.{◌≡◌, ◌<◌, ◌≤◌, length, take, true, All, Some};
+ghost use Rattle.std.specs.Char.{is_ascii_digit};
+ghost use Rattle.std.specs.List.{list_all};
 
-use crate::card::{Card, DigitFault, read};
+use crate::card::{Card, DigitFault, read, read_known};
 use crate::printed::write_ascii;
 use crate::short_bytes::ShortBytes;
 use std::fmt;
@@ -35,6 +37,15 @@ impl Prefix {
         ensures { result ≡ read_digits 1 12 text.now }
     {
         let digits = read(text, 1)?;
+        Ok(Prefix { digits })
+    }
+
+    /// The same of bytes that are known to be digits, and aren't looked at for that.
+    pub fn read_known(text: &[u8]) -> Result<Prefix, DigitFault>
+        requires { list_all is_ascii_digit text.now ≡ true }
+        ensures { result ≡ read_digits 1 12 text.now }
+    {
+        let digits = read_known(text, 1)?;
         Ok(Prefix { digits })
     }
 

@@ -74,7 +74,7 @@ impl<R: Prefixed + Drop> Rows<R> {
         ensures { option_copied result ≡ longest R.prefix_of (filter (λ r. option_eq ◌==◌ (R.node_of r) node) self.now) (digits_of number.now) }
     {
         let _ = &self.rows;
-        match Prefix::read(&number[..number.len().min(12)]) {
+        match Prefix::read_known(&number[..number.len().min(12)]) {
             Ok(prefix) => self.for_class(RowKey { node, prefix }),
             Err(_) => None,
         }

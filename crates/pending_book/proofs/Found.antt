@@ -1,11 +1,10 @@
 -- The places that are found are those of the requests that pass, in opening order.
-use Rattle.std.proofs.Common.{◌≡◌, ◌⊎◌, inl, inr, ℕ, suc, zero, ◌+◌, ◌<◌, ◌≤◌, Bool, true, false, ◌&&◌, ◌||◌, List, [], ◌∷◌, ◌++◌, length, map, filter_map, get_or, Option, Some, None, refl, sym, ap, ◌∙◌, subst, arith, slice_get, eqb, eq-eqb}
+use Rattle.std.proofs.Common.{◌≡◌, inl, inr, ℕ, suc, zero, ◌+◌, ◌<◌, ◌≤◌, Bool, true, false, ◌&&◌, ◌||◌, List, [], ◌∷◌, ◌++◌, length, map, filter_map, get_or, Option, Some, None, refl, sym, ap, ◌∙◌, arith, slice_get, eqb, eq-eqb}
 use Rattle.std.specs.Prelude.{cond, filter, is_some, IfOk, Result, Ok, Err, ◌==◌}
 use Rattle.std.specs.List.{AllByRecursion, range_with_len}
 use Rattle.std.specs.Option.{option_map, option_map_or}
 use Rattle.std.specs.Cmp.Lexicographic.{pointwise}
-use Rattle.std.proofs.Common.{append-nil}
-use Rattle.std.proofs.lemmas.Bool.{cases_Bool, cases_lt, eqb-true}
+use Rattle.std.proofs.lemmas.Bool.{cases_Bool, eqb-true}
 use Rattle.network_law.specs.Traces.{is_link}
 use Rattle.node_machine.specs.Lists.{Row, row_key, row_pending}
 use Rattle.request_slots.specs.declared.wait.Wait.{Wait}

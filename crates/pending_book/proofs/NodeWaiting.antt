@@ -2,16 +2,14 @@
 use Rattle.std.proofs.Common.{◌≡◌, ◌≢◌, inl, inr, ℕ, suc, zero, ◌+◌, ◌<◌, ◌≤◌, Bool, true, false, ◌&&◌, ◌||◌, List, [], ◌∷◌, ◌++◌, length, map, get_or, Option, Some, None, refl, sym, ap, ◌∙◌, subst, arith, slice_get, eqb, eq-eqb, length-append}
 use Rattle.std.proofs.lemmas.List.{length-map}
 use Rattle.std.proofs.lemmas.List.Sums.{sum_by-append}
-use Rattle.std.specs.Prelude.{is_some, cond, count_by, IfOk, Result, Ok, Err}
+use Rattle.std.specs.Prelude.{is_some, cond, count_by}
 use Rattle.std.specs.Map.{lookup}
 use Rattle.std.specs.Option.{option_map_or}
-use Rattle.std.specs.List.{Contains}
-use Rattle.std.specs.Cmp.Lexicographic.{pointwise}
 use Rattle.std.proofs.lemmas.Bool.{cases_Bool, cases_eq, eqb-true}
 use Rattle.card_digits.specs.declared.key.Key.{Key}
 use Rattle.message_keys.specs.Keys.{key_eq}
 use Rattle.message_keys.proofs.Equality.{key_eq_flip, key_eq_is}
-use Rattle.network_law.specs.Traces.{ReadOutput, is_link}
+use Rattle.network_law.specs.Traces.{ReadOutput}
 use Rattle.node_machine.specs.Lists.{Row, row_after, row_has, row_key, row_pending}
 use Rattle.request_slots.specs.declared.wait.Wait.{Wait}
 use Rattle.request_slots.specs.Waits.{SlotsView, count_due, is_due, wait_at, with_wait}

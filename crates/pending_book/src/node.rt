@@ -271,6 +271,7 @@ impl NodeRequests {
     }
 
     /// Opens a request, where its key has none.
+    #[inline(never)]
     pub fn open(&mut self, row: Row)
         requires { 0 < self.old.room }
         ensures { self.new ≡ record self.old { rows = opened row self.old.rows; room = self.old.room - 1 } }

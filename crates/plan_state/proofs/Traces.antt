@@ -5,10 +5,9 @@ use Rattle.std.proofs.Math.Seq.{drop-cons}
 use Rattle.std.proofs.lemmas.Bool.{cases_lt, lt-ltb, le-ltb}
 use Rattle.std.proofs.lemmas.List.{append-nil, append_assoc, drop_all, get_or_default}
 use Rattle.std.proofs.lemmas.List.Elements.{filter_map-append}
-use Rattle.network_law.specs.Cards.{Bytes}
-use Rattle.network_law.specs.Entries.{Entry, Output, Put, Answer, Ask, Post}
+use Rattle.network_law.specs.Entries.{Entry, Output}
 use Rattle.plan_state.specs.declared.trace_search.Cursor.{Cursor}
-use Rattle.plan_state.specs.Found.{answer_of, answers_from, ask_of, asks_from, behind, found_from, outputs_after, EndsWith}
+use Rattle.plan_state.specs.Found.{behind, found_from, outputs_after}
 
 -- what is looked for in the entries behind one
 abbrev pub later : {X : Type 0} → (Output → Option X) → List Entry → ℕ → List X
@@ -52,46 +51,13 @@ one_entry trace k e f outs others within is is_f same same_f =
     let one : f ≡ e = is_f ∙ get_or_default trace k f e within ∙ sym is in
     ap length (same_f ∙ ap (λ x. x.outputs) one ∙ sym same)
 
--- a request to the host is the first among the outputs that are left of the entry that the cursor has come to
-pub next_asked : (trace : List Entry) (c start new : Cursor) (k place number count : ℕ) (bytes : Bytes) (e : Entry) (outs : List Output) → k < length trace → c.entry ≡ k → asks_from trace c ≡ asks_from trace start → e ≡ get_or trace k e → outs ≡ e.outputs → filter_map ask_of (drop c.output outs) ≡ (number, bytes) ∷ filter_map ask_of (drop (place + 1) outs) → count ≡ length outs → new ≡ behind k place count → asks_from trace start ≡ (number, bytes) ∷ asks_from trace new
-next_asked trace c start new k place number count bytes e outs within at before is same found counted next =
-    sym before ∙ found_at ask_of trace c k e outs within at is same ∙ ap (λ xs. xs ++ later ask_of trace k) found
-    ∙ ap (λ xs. (number, bytes) ∷ xs) (sym (found_next ask_of trace new k place count e outs within is same counted next))
+-- what is found is the first among the outputs that are left of the entry that the cursor has come to
+pub next_found : {X : Type 0} (looked : Output → Option X) (trace : List Entry) (c start new : Cursor) (k place count : ℕ) (x : X) (e : Entry) (outs : List Output) → k < length trace → c.entry ≡ k → found_from looked trace c ≡ found_from looked trace start → e ≡ get_or trace k e → outs ≡ e.outputs → filter_map looked (drop c.output outs) ≡ x ∷ filter_map looked (drop (place + 1) outs) → count ≡ length outs → new ≡ behind k place count → found_from looked trace start ≡ x ∷ found_from looked trace new
+next_found looked trace c start new k place count x e outs within at before is same found counted next =
+    sym before ∙ found_at looked trace c k e outs within at is same ∙ ap (λ xs. xs ++ later looked trace k) found
+    ∙ ap (λ xs. x ∷ xs) (sym (found_next looked trace new k place count e outs within is same counted next))
 
 -- there is none among the outputs that are left of that entry
-pub none_asked : (trace : List Entry) (c start : Cursor) (k : ℕ) (e : Entry) (outs : List Output) → k < length trace → c.entry ≡ k → asks_from trace c ≡ asks_from trace start → e ≡ get_or trace k e → outs ≡ e.outputs → filter_map ask_of (drop c.output outs) ≡ [] → asks_from trace (record { entry = k + 1; output = 0 }) ≡ asks_from trace start
-none_asked trace c start k e outs within at before is same none =
-    found_past ask_of trace k ∙ sym (sym before ∙ found_at ask_of trace c k e outs within at is same ∙ ap (λ xs. xs ++ later ask_of trace k) none)
-
--- one more was passed over
-pub ends_behind : {X : Type 0} (xs : List X) (x : X) (ys zs : List X) → EndsWith xs ys → ys ≡ x ∷ zs → EndsWith xs zs
-ends_behind xs x ys zs end is = (end.0 ++ x ∷ [], end.1 ∙ ap (λ s. end.0 ++ s) is ∙ sym (append_assoc end.0 (x ∷ []) zs))
-
--- an output is passed over, whatever it is
-one_passed : (xs : List Bytes) (o : Output) (os : List Output) → EndsWith xs (filter_map answer_of (o ∷ os)) → EndsWith xs (filter_map answer_of os)
-one_passed xs (Put l s bytes) os end = end
-one_passed xs (Answer bytes) os end = ends_behind xs bytes (bytes ∷ filter_map answer_of os) (filter_map answer_of os) end refl
-one_passed xs (Ask number bytes) os end = end
-one_passed xs (Post bytes) os end = end
-
-pub passed_over : (xs : List Bytes) (outs : List Output) (place : ℕ) (o : Output) → place < length outs → EndsWith xs (filter_map answer_of (drop place outs)) → EndsWith xs (filter_map answer_of (drop (place + 1) outs))
-passed_over xs outs place o within end =
-    rw add-one (one_passed xs (get_or outs place o) (drop (suc place) outs) (subst (λ os. EndsWith xs (filter_map answer_of os)) (drop-cons outs place o within) end))
-
-ends_joined : {X : Type 0} (xs ys us vs ls : List X) → EndsWith xs ys → ys ≡ us ++ ls → EndsWith us vs → EndsWith xs (vs ++ ls)
-ends_joined xs ys us vs ls end joined inner =
-    (end.0 ++ inner.0, end.1 ∙ ap (λ s. end.0 ++ s) (joined ∙ ap (λ s. s ++ ls) inner.1 ∙ append_assoc inner.0 vs ls) ∙ sym (append_assoc end.0 inner.0 (vs ++ ls)))
-
--- an answer stands behind those that were passed over among the outputs that are left of that entry
-pub next_answered : (trace : List Entry) (c start new : Cursor) (k place count : ℕ) (bytes : Bytes) (e : Entry) (outs : List Output) → k < length trace → c.entry ≡ k → EndsWith (answers_from trace start) (answers_from trace c) → e ≡ get_or trace k e → outs ≡ e.outputs → EndsWith (filter_map answer_of (drop c.output outs)) (bytes ∷ filter_map answer_of (drop (place + 1) outs)) → count ≡ length outs → new ≡ behind k place count → EndsWith (answers_from trace start) (bytes ∷ answers_from trace new)
-next_answered trace c start new k place count bytes e outs within at before is same found counted next =
-    let end : EndsWith (answers_from trace start) (bytes ∷ (filter_map answer_of (drop (place + 1) outs) ++ later answer_of trace k)) =
-    ends_joined (answers_from trace start) (answers_from trace c) (filter_map answer_of (drop c.output outs)) (bytes ∷ filter_map answer_of (drop (place + 1) outs)) (later answer_of trace k) before (found_at answer_of trace c k e outs within at is same) found in
-    subst (λ ys. EndsWith (answers_from trace start) (bytes ∷ ys)) (sym (found_next answer_of trace new k place count e outs within is same counted next)) end
-
--- all that are left of that entry are passed over
-pub all_passed : (trace : List Entry) (c start new : Cursor) (k : ℕ) (e : Entry) (outs : List Output) → k < length trace → c.entry ≡ k → EndsWith (answers_from trace start) (answers_from trace c) → e ≡ get_or trace k e → outs ≡ e.outputs → new ≡ record { entry = k + 1; output = 0 } → EndsWith (answers_from trace start) (answers_from trace new)
-all_passed trace c start new k e outs within at before is same next =
-    let end : EndsWith (answers_from trace start) ([] ++ later answer_of trace k) =
-    ends_joined (answers_from trace start) (answers_from trace c) (filter_map answer_of (drop c.output outs)) [] (later answer_of trace k) before (found_at answer_of trace c k e outs within at is same) (filter_map answer_of (drop c.output outs), sym (append-nil _)) in
-    subst (EndsWith (answers_from trace start)) (sym (ap (answers_from trace) next ∙ found_past answer_of trace k)) end
+pub none_found : {X : Type 0} (looked : Output → Option X) (trace : List Entry) (c start : Cursor) (k : ℕ) (e : Entry) (outs : List Output) → k < length trace → c.entry ≡ k → found_from looked trace c ≡ found_from looked trace start → e ≡ get_or trace k e → outs ≡ e.outputs → filter_map looked (drop c.output outs) ≡ [] → found_from looked trace (record { entry = k + 1; output = 0 }) ≡ found_from looked trace start
+none_found looked trace c start k e outs within at before is same none =
+    found_past looked trace k ∙ sym (sym before ∙ found_at looked trace c k e outs within at is same ∙ ap (λ xs. xs ++ later looked trace k) none)

@@ -1,9 +1,11 @@
 -- What somebody who reads a trace comes to, from where he has come on.
-use Rattle.std.specs.Prelude.{◌≡◌, ℕ, ◌+◌, nat_lt, if◌then◌else◌, List, [], ◌∷◌, ◌++◌, drop, Option, Some, None, filter_map}
+use Rattle.std.specs.Prelude.{ℕ, ◌+◌, nat_lt, if◌then◌else◌, List, [], ◌∷◌, ◌++◌, drop, Option, Some, None, filter_map}
 use Rattle.std.specs.List.{flat_map}
 use Rattle.network_law.specs.Cards.{Bytes}
-use Rattle.network_law.specs.Entries.{Entry, Output, Put, Answer, Ask, Post}
+use Rattle.network_law.specs.Entries.{Entry, Output, Ask}
 use Rattle.plan_state.specs.declared.trace_search.Cursor.{Cursor}
+use Rattle.plan_state.specs.declared.wanted.Wanted.{Wanted}
+use Rattle.plan_state.specs.Wanted.{answer_to}
 
 -- the outputs of entries, of the first from a place on
 abbrev pub outputs_after : ℕ → List Entry → List Output
@@ -19,20 +21,12 @@ abbrev pub ask_of : Output → Option (ℕ × Bytes)
 ask_of (Ask number bytes) = Some (number, bytes)
 ask_of _ = None
 
--- an answer to an acquirer
-abbrev pub answer_of : Output → Option Bytes
-answer_of (Answer bytes) = Some bytes
-answer_of _ = None
-
 abbrev pub asks_from : List Entry → Cursor → List (ℕ × Bytes)
 asks_from trace c = found_from ask_of trace c
 
-abbrev pub answers_from : List Entry → Cursor → List Bytes
-answers_from trace c = found_from answer_of trace c
-
--- the second list is the end of the first
-abbrev pub EndsWith : {X : Type 0} → List X → List X → Type 0
-EndsWith xs ys = (passed : List _) × (xs ≡ passed ++ ys)
+-- the answers that may be the wanted one
+abbrev pub answers_from : Wanted → List Entry → Cursor → List Bytes
+answers_from w trace c = found_from (answer_to w) trace c
 
 -- behind an output of an entry that has so many
 abbrev pub behind : ℕ → ℕ → ℕ → Cursor

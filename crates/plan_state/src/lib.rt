@@ -10,6 +10,7 @@ mod service;
 mod session_state;
 mod state;
 mod trace_search;
+mod wanted;
 
 pub use awaited::Awaited;
 pub use hearing::{Hearer, who_hears};
@@ -18,4 +19,5 @@ pub use search::Search;
 pub use service::Service;
 pub use session_state::{Awaiting, SessionState};
 pub use state::PlanState;
-pub use trace_search::{Ask, Cursor, Wanted, next_answer, next_ask};
+pub use trace_search::{Ask, Cursor, next_answer, next_ask};
+pub use wanted::Wanted;

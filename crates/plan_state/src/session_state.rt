@@ -2,7 +2,7 @@
 ghost use Rattle.std.specs.Prelude.{◌≡◌, ◌++◌, ◌∷◌, [], true, false, None, not, IfOk, OnErr, length, slice_get};
 
 use crate::search::Search;
-use crate::trace_search::Wanted;
+use crate::wanted::Wanted;
 use net_threads::LineEnd;
 use plan_threads::ClockTurns;
 use std::alloc::{AllocError, Global};

@@ -1,43 +1,14 @@
 //! What hosts and sessions wait for in a trace.
-ghost use Rattle.std.specs.Prelude.{◌≡◌, ◌+◌, ◌<◌, ◌^◌, ◌∷◌, ◌==◌, ◌&&◌, [], None, IfSome, is_some, nat_le, drop, filter_map, length};
+ghost use Rattle.std.specs.Prelude.{◌≡◌, ◌+◌, ◌<◌, ◌^◌, ◌∷◌, [], None, IfSome, drop, filter_map, length};
 ghost use Rattle.plan_state.specs.Cursors.{skipped};
-ghost use Rattle.plan_state.specs.Found.{answer_of, answers_from, ask_of, asks_from, behind, EndsWith};
+ghost use Rattle.plan_state.specs.Found.{answers_from, ask_of, asks_from, behind};
+ghost use Rattle.plan_state.specs.Wanted.{answer_to};
 
+use crate::wanted::Wanted;
 use kept_messages::Way;
 use shared_bytes::SharedBytes;
 use std::alloc::Global;
 use switch_node::{Entry, Output};
-
-/// How the answer to a line begins, and what stands in it: its type, and the time and trace number of the line's own message.
-#[derive(Clone, Copy)]
-pub struct Wanted {
-    kind: [u8; 4],
-    stamp: [u8; 16],
-}
-
-fn contains(bytes: &[u8], stamp: &[u8; 16]) -> bool {
-    bytes.windows(16).any(|window| window == stamp.as_slice())
-}
-
-impl Wanted {
-    /// What the answer to a message of this type with these elements 7 and 11 has, none where these have other lengths.
-    pub fn new(line: &[u8], time: &[u8], trace: &[u8]) -> Option<Wanted>
-        ensures { is_some result ≡ (nat_le 4 (length line.now) && ((length time.now == 10) && (length trace.now == 6))) }
-    {
-        if line.len() < 4 || time.len() != 10 || trace.len() != 6 {
-            return None;
-        }
-        let mut stamp = [0u8; 16];
-        stamp[..10].copy_from_slice(time);
-        stamp[10..].copy_from_slice(trace);
-        let kind = [line[0], line[1], line[2].wrapping_add(1), b'0'];
-        Some(Wanted { kind, stamp })
-    }
-
-    fn may_be(&self, bytes: &[u8]) -> bool {
-        bytes.starts_with(self.kind.as_slice()) && contains(bytes, &self.stamp)
-    }
-}
 
 /// Where somebody who reads a trace has come: to an output of an entry, or to an entry that has not been made.
 #[derive(Clone, Copy)]
@@ -122,7 +93,8 @@ struct AnswerAt<'o> {
 
 /// The first answer among outputs from a place on that may be the wanted one.
 fn answered<'o>(outputs: &'o [Output], from: usize, wanted: &Wanted) -> Option<AnswerAt<'o>>
-    ensures { IfSome result (λ a. (a.place < length outputs.now) × EndsWith (filter_map answer_of (drop from outputs.now)) (a.bytes.now ∷ filter_map answer_of (drop (a.place + 1) outputs.now))) }
+    ensures found { IfSome result (λ a. (a.place < length outputs.now) × (filter_map (answer_to wanted.now) (drop from outputs.now) ≡ a.bytes.now ∷ filter_map (answer_to wanted.now) (drop (a.place + 1) outputs.now))) }
+    ensures none { result ≡ None → filter_map (answer_to wanted.now) (drop from outputs.now) ≡ [] }
 {
     for place in from..outputs.len() {
         let output = &outputs[place];
@@ -160,16 +132,16 @@ pub fn next_ask(trace: &[Entry], cursor: &mut Cursor) -> Option<Ask>
     None
 }
 
-/// The next answer in a trace that may be the wanted one. The cursor moves behind it; where there is no memory for a copy, it stays before
-/// it. One entry may answer several requests.
+/// The next answer in a trace that may be the wanted one. None is passed over: the cursor moves behind the first, and where there is no memory
+/// for a copy, it stays before it. One entry may answer several requests.
 pub fn next_answer(
     alloc: Global,
     trace: &[Entry],
     cursor: &mut Cursor,
     wanted: &Wanted,
 ) -> Option<Vec<u8>>
-    ensures found { IfSome result (λ v. EndsWith (answers_from trace.now cursor.old) (v.items ∷ answers_from trace.now cursor.new)) }
-    ensures none { result ≡ None → EndsWith (answers_from trace.now cursor.old) (answers_from trace.now cursor.new) }
+    ensures found { IfSome result (λ v. answers_from wanted.now trace.now cursor.old ≡ v.items ∷ answers_from wanted.now trace.now cursor.new) }
+    ensures none { result ≡ None → answers_from wanted.now trace.now cursor.new ≡ answers_from wanted.now trace.now cursor.old }
 {
     for k in cursor.entry..trace.len() {
         if let Some(answer) = answered(trace[k].outputs().as_slice(), cursor.output, wanted) {

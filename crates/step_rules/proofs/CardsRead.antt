@@ -1,5 +1,5 @@
 -- The card and the settlement date of a message, as they are read.
-use Rattle.std.proofs.Common.{◌≡◌, ℕ, ◌||◌, ◌<◌, ◌≤◌, nat_lt, true, false, List, length, Some, None, IfSome, refl, inl, inr}
+use Rattle.std.proofs.Common.{◌≡◌, ℕ, ◌||◌, ◌<◌, ◌≤◌, nat_lt, true, false, List, length, Option, Some, None, IfSome, refl, inl, inr}
 use Rattle.std.specs.Char.{is_ascii_digit}
 use Rattle.std.specs.List.{list_all}
 use Rattle.std.specs.Result.{result_ok}
@@ -35,6 +35,15 @@ number_good m v g e = let good = good_found m 2 v g e in (good.0, good.2)
 
 pub number_digits : (m : Fields) (v : List ℕ) → IsMessage m → get m 2 ≡ Some v → list_all is_ascii_digit v ≡ true
 number_digits m v g e = (number_good m v g e).1
+
+digits_at : (m : Fields) (o : Option (List ℕ)) → IsMessage m → get m 2 ≡ o → list_all is_ascii_digit (el m 2) ≡ true
+unfolding el
+digits_at m None g e = rw e refl
+digits_at m (Some v) g e = rw (el_some m 2 v e) (number_digits m v g e)
+
+-- where the message has no card number, there are no digits
+pub known_digits : (m : Fields) → IsMessage m → list_all is_ascii_digit (el m 2) ≡ true
+known_digits m g = digits_at m (get m 2) g refl
 
 pub number_few : (m : Fields) (v : List ℕ) → IsMessage m → get m 2 ≡ Some v → length v ≤ 19
 number_few m v g e = (number_good m v g e).0

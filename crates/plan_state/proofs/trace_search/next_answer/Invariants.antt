@@ -1,6 +1,6 @@
 use Rattle.std.proofs.Common.{◌≡◌}
-use Rattle.plan_state.specs.Found.{answers_from, EndsWith}
+use Rattle.plan_state.specs.Found.{answers_from}
 use Rattle.plan_state.proofs.trace_search.next_answer.Given as goal
 
 abbrev pub invariant-loop-k : goal.invariant-loop-k
-invariant-loop-k l = (l.cursor.entry ≡ l.k) × EndsWith (answers_from l.trace l.fn.cursor) (answers_from l.trace l.cursor)
+invariant-loop-k l = (l.cursor.entry ≡ l.k) × (answers_from l.wanted l.trace l.cursor ≡ answers_from l.wanted l.trace l.fn.cursor)

@@ -1,4 +1,4 @@
-use Rattle.std.proofs.Common.{◌≡◌, subst, sym}
+use Rattle.std.proofs.Common.{subst, sym}
 use Rattle.advice_slots.specs.Items.{HaveOwnIds}
 use Rattle.advice_slots.specs.Kept.{HeldView, items_of}
 use Rattle.advice_slots.proofs.Owned.{own_at}

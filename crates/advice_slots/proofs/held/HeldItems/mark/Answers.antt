@@ -1,4 +1,4 @@
-use Rattle.std.proofs.Common.{◌⊎◌, inl, inr, ap, ◌∙◌, length}
+use Rattle.std.proofs.Common.{inl, inr, ap, ◌∙◌, length}
 use Rattle.advice_slots.specs.Kept.{HasClasses}
 use Rattle.tick_wheel.specs.Wheel.{WheelView}
 use Rattle.advice_slots.specs.declared.item.Held.{Held}

@@ -1,8 +1,6 @@
-use Rattle.std.proofs.Common.{◌≡◌, ◌⊎◌, inl, inr, ap, ◌∙◌, length, subst, sym}
-use Rattle.slab.specs.Slab.{Slab}
+use Rattle.std.proofs.Common.{◌≡◌, inl, ap, ◌∙◌, length}
 use Rattle.tick_wheel.specs.Wheel.{WheelView}
 use Rattle.advice_slots.specs.declared.item.Held.{Held}
-use Rattle.advice_slots.specs.Kept.{IsTurning, AreListed, HasClasses}
 use Rattle.advice_slots.proofs.Standing.{grown_length, grown_listed, grown_turning, same_listed, same_turning}
 use Rattle.advice_slots.proofs.held.HeldItems.reserve.Goals as goal
 

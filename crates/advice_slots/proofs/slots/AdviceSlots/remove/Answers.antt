@@ -1,4 +1,4 @@
-use Rattle.std.proofs.Common.{rules, ◌≡◌, List, Some, None, not, filter, ap, sym, ◌∙◌}
+use Rattle.std.proofs.Common.{rules, ◌≡◌, List, Some, None, not, ap, sym, ◌∙◌}
 use Rattle.chain_links.specs.Lists.{without}
 use Rattle.crowded_map.specs.Values.{spare}
 use Rattle.advice_slots.specs.Items.{SlotsView, is_named}

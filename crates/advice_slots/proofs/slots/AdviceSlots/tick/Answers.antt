@@ -1,4 +1,4 @@
-use Rattle.std.proofs.Common.{rules, arith, ◌≡◌, ◌<◌, ◌+◌, ◌^◌, ℕ, ap, sym, ◌∙◌, length}
+use Rattle.std.proofs.Common.{rules, arith, ◌<◌, ◌+◌, ◌^◌, ℕ, ap, sym, ◌∙◌, length}
 use Rattle.crowded_map.specs.Values.{spare}
 use Rattle.advice_slots.specs.Items.{SlotsView}
 use Rattle.advice_slots.specs.Kept.{HeldView, items_of, room_in}
