@@ -1,5 +1,5 @@
 //! The items that are held, each in a slot.
-ghost use Rattle.std.specs.Prelude.{◌≡◌, ℕ, ◌<◌, ◌+◌, ◌≤◌, ◌%◌, ◌==◌, ◌∷◌, ◌++◌, [], false, not, length, map, find, filter, Some, None, IfOk, OnOk, OnErr};
+ghost use Rattle.std.specs.Prelude.{◌≡◌, ℕ, ◌<◌, ◌+◌, ◌≤◌, ◌%◌, ◌==◌, ◌∷◌, ◌++◌, [], false, not, length, map, find, filter, Some, None, IfOk, OnOk, OnErr, IfSome};
 ghost use Rattle.std.specs.List.{list_any};
 ghost use Rattle.std.specs.Option.{option_and_then, option_copied, option_map};
 ghost use Rattle.slab.specs.Slab.{get, slab_len, HasRoomFor, Updates, SameValues};
@@ -222,5 +222,3 @@ impl HeldItems {
         self.wheel.visits()
     }
 }
-
-ghost use Rattle.std.specs.Prelude.{IfSome};

@@ -4,16 +4,16 @@ ghost use Rattle.network_law.specs.Decision.{is_due_again};
 ghost use Rattle.advice_slots.specs.Items.{is_due, is_lent_in, marked_by, name_in, name_of, put_by, was_put_in};
 
 use card_digits::NodeNo;
-use iso_message::Message;
+use kept_messages::KeptMessage;
 use message_keys::{AdviceId, same_identity};
 use network_law::Grant;
 use step_rules::is_due_again;
 
 /// An advice that waits for its acknowledgement.
-#[derive(Debug, Drop)]
+#[derive(Drop)]
 pub struct Advice {
     pub id: AdviceId,
-    pub message: Message,
+    pub message: KeptMessage,
     /// Whether it was put on a link.
     pub put: bool,
 }

@@ -6,7 +6,7 @@ ghost use Rattle.advice_slots.specs.declared.item.Item.TheVariants as items;
 
 use crate::item::{Advice, Held, Item, LentGrant};
 use card_digits::NodeNo;
-use iso_message::Message;
+use kept_messages::KeptMessage;
 use message_keys::AdviceId;
 use network_law::Grant;
 use std::alloc::AllocError;
@@ -16,7 +16,7 @@ use std::marker::Model;
 #[derive(Drop)]
 pub struct KeptAdvice {
     id: AdviceId,
-    message: Message,
+    message: KeptMessage,
     count: u64,
     put: bool,
 }
@@ -35,7 +35,7 @@ impl Model for KeptAdvice {
 
 impl KeptAdvice {
     /// An advice that was stored at this count of ticks, and whether it was put on a link yet.
-    pub fn new(id: AdviceId, message: Message, count: u64, put: bool) -> KeptAdvice
+    pub fn new(id: AdviceId, message: KeptMessage, count: u64, put: bool) -> KeptAdvice
         requires { id ≡ identity_of message }
         ensures { result ≡ record { message = message; count = count; put = put } }
     {
@@ -55,17 +55,10 @@ impl KeptAdvice {
     }
 
     /// The advice, as the node keeps it.
-    pub fn message(&self) -> &Message
+    pub fn message(&self) -> &KeptMessage
         ensures { result.now ≡ self.now.message }
     {
         &self.message
-    }
-
-    /// The message, to be used up.
-    pub fn into_message(self) -> Message
-        ensures { result ≡ self.message }
-    {
-        self.message
     }
 
     /// The count at which it was stored.
@@ -206,14 +199,14 @@ impl StoredItem {
 }
 
 impl Held {
-    /// A copy, with the message's bytes, for a node. A grant whose borrower wasn't told goes to node 0.
+    /// The same for a node, with no copy of the message's bytes. A grant whose borrower wasn't told goes to node 0.
     pub(crate) fn to_stored(&self) -> Result<StoredItem, AllocError>
         requires { HasOwnId self.now.item }
         ensures { IfOk result (λ i. i ≡ stored_of self.now) }
     {
         let case = match &self.item {
             Item::Advice(advice) => {
-                let message = advice.message.copy()?;
+                let message = advice.message.share()?;
                 StoredCase::Advice(KeptAdvice::new(advice.id, message, self.count, advice.put))
             }
             Item::Grant(lent) => {

@@ -12,7 +12,8 @@ use std::test::*;
 const APPROVAL: &[u8] =
     b"01107222000102008000164111111111111111000000000000001000031409153000000103140640000100840";
 
-fn kept(alloc: Global, message: &Message) -> Result<KeptMessage, AllocError>
+/// A message as books keep it.
+pub(crate) fn kept(alloc: Global, message: &Message) -> Result<KeptMessage, AllocError>
     ensures { IfOk result (λ k. k ≡ message.now) }
 {
     let bytes = encode(alloc, message)?;
@@ -55,6 +56,37 @@ fn kept_message_is_read_again(rt: HostRuntime) -> Result<(), Fail> {
     kept.decode_into(&mut room)?;
     assert!(rt; room.kind() == Kind::K0110);
     assert!(rt; room.get(11) == Some(b"000001".as_slice()));
+    Ok(())
+}
+
+/// A stand-in advice of the same card.
+const ADVICE: &[u8] =
+    b"01207222000182008000164111111111111111000000000000001000031409153000000103140640000104100100840";
+
+#[test]
+fn kept_message_under_another_type(rt: HostRuntime) -> Result<(), Fail> {
+    let Ok(message) = decode(rt.alloc(), ADVICE) else {
+        return Err("no message".into());
+    };
+    let kept = kept(rt.alloc(), &message)?;
+    let mut bytes = Vec::new(rt.alloc());
+    kept.push_as(Kind::K0121, &mut bytes)?;
+    assert!(rt; bytes.starts_with(b"0121".as_slice()) && bytes.ends_with(&ADVICE[4..]));
+    let shared = SharedBytes::from_vec(rt.alloc(), bytes)?;
+    let again = kept.as_kind(Kind::K0121, shared);
+    assert!(rt; again.kind() == Kind::K0121 && again.has_code(b"00"));
+    assert!(rt; again.card_number() == b"4111111111111111".as_slice());
+    Ok(())
+}
+
+#[test]
+fn card_number_stands_behind_the_maps(rt: HostRuntime) -> Result<(), Fail> {
+    let mut message = Message::new(rt.alloc(), Kind::K0420);
+    assert!(rt; kept(rt.alloc(), &message)?.card_number().is_empty());
+    assert!(rt; message.set(90, &[b'0'; 42]).is_ok());
+    assert!(rt; kept(rt.alloc(), &message)?.card_number().is_empty());
+    assert!(rt; message.set(2, b"4111111111111111").is_ok());
+    assert!(rt; kept(rt.alloc(), &message)?.card_number() == b"4111111111111111".as_slice());
     Ok(())
 }
 

@@ -1,8 +1,12 @@
 //! The store of advices.
+ghost use Rattle.std.specs.Prelude.{◌≡◌};
+
 use crate::messages::advice;
 use crate::report::{report, start};
+use crate::requests::kept;
 use advice_store::{KeptAdvice, NodeAdvices};
 use iso_message::Message;
+use kept_messages::KeptMessage;
 use message_keys::advice_id;
 use std::alloc::{AllocError, Global};
 use std::io;
@@ -12,9 +16,11 @@ const TICKS: u16 = 100;
 
 /// An advice that was stored before the first tick.
 #[tactic(auto, using(crate::proofs::Keys::known_identity))]
-fn kept(message: Message) -> Option<KeptAdvice> {
-    let id = advice_id(&message)?;
-    Some(KeptAdvice::new(id, message, 0, false))
+fn stored(message: &Message, kept: KeptMessage) -> Option<KeptAdvice>
+    requires { kept ≡ message.now }
+{
+    let id = advice_id(message)?;
+    Some(KeptAdvice::new(id, kept, 0, false))
 }
 
 fn store(store: &mut NodeAdvices, advice: KeptAdvice) -> Result<(), AllocError> {
@@ -26,8 +32,9 @@ fn store(store: &mut NodeAdvices, advice: KeptAdvice) -> Result<(), AllocError> 
 fn store_all(alloc: Global, into: &mut NodeAdvices, count: u32) -> Result<(), AllocError> {
     for trace in 0..count {
         if let Some(message) = advice(alloc, trace)? {
-            if let Some(kept) = kept(message) {
-                store(into, kept)?;
+            let kept = kept(alloc, &message)?;
+            if let Some(advice) = stored(&message, kept) {
+                store(into, advice)?;
             }
         }
     }

@@ -16,7 +16,7 @@ use step_rules::card_of;
 const MOST_TICKS: u16 = 4_000;
 
 /// A message as the book keeps it.
-fn kept(alloc: Global, message: &Message) -> Result<KeptMessage, AllocError>
+pub(crate) fn kept(alloc: Global, message: &Message) -> Result<KeptMessage, AllocError>
     ensures { IfOk result (λ k. k ≡ message.now) }
 {
     let bytes = encode(alloc, message)?;

@@ -1,8 +1,9 @@
 //! The answer of `check`.
-ghost use Rattle.std.specs.Prelude.{◌≡◌, IfOk, map, Ok, Some};
-ghost use Rattle.bundle_text.specs.Answers.{Said, Answers, check_parts, check_memory, check_read, check_said, fault, verdict};
+ghost use Rattle.std.specs.Prelude.{◌≡◌, IfOk, map, Ok, Some, string_bytes};
+ghost use Rattle.bundle_text.specs.Answers.{Said, Answers, check_parts, check_memory, check_read, check_said, fault, verdict, parts_fault};
 ghost use Rattle.net_tables.specs.Reading.{tables_in};
 ghost use Rattle.rank_cert.specs.Reading.{cert_in};
+ghost use Rattle.table_checker.specs.Rules.{first_refusal};
 
 use crate::answer::{Answer, Status};
 use crate::faults::{cert_fault_line, table_fault_line};
@@ -12,7 +13,7 @@ use net_rows::Tables;
 use net_tables::read_tables;
 use rank_cert::{Cert, read_cert};
 use std::alloc::{AllocError, Global};
-use table_checker::check;
+use table_checker::{Refusal, check};
 
 /// The answer of a fault's line.
 pub fn fault_answer(line: String) -> Answer
@@ -20,8 +21,6 @@ pub fn fault_answer(line: String) -> Answer
 {
     Answer::new(line.into_bytes(), Status::Fault)
 }
-
-ghost use Rattle.std.specs.Prelude.{string_bytes};
 
 /// The answer where memory was refused while tables were checked.
 pub fn check_memory_answer(alloc: Global) -> Result<Answer, AllocError>
@@ -57,10 +56,6 @@ fn verdict(alloc: Global, tables: &Tables, cert: &Cert) -> Result<Answer, AllocE
     }
 }
 
-ghost use Rattle.table_checker.specs.Rules.{first_refusal};
-
-use table_checker::Refusal;
-
 /// Another number of parts than the job takes.
 pub fn parts_fault(alloc: Global) -> Result<Answer, AllocError>
     ensures { IfOk result (λ a. a ≡ parts_fault) }
@@ -68,8 +63,6 @@ pub fn parts_fault(alloc: Global) -> Result<Answer, AllocError>
     let line = String::from_str(alloc, "fault bundle 1 parts\n")?;
     Ok(fault_answer(line))
 }
-
-ghost use Rattle.bundle_text.specs.Answers.{parts_fault};
 
 /// The first fault of the ranks, or the verdict on the tables.
 fn check_ranks(alloc: Global, tables: &Tables, ranks: &[u8]) -> Result<Answer, AllocError>

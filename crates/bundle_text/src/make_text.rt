@@ -1,5 +1,5 @@
 //! The answer of `make`.
-ghost use Rattle.std.specs.Prelude.{◌≡◌, ℕ, List, [], IfOk, map, string_bytes};
+ghost use Rattle.std.specs.Prelude.{◌≡◌, ℕ, List, [], IfOk, map, string_bytes, codes, ◌⊎◌};
 ghost use Rattle.net_tables.specs.Reading.{tables_in};
 ghost use Rattle.rank_maker.specs.Circle.{IsCircle};
 ghost use Rattle.bundle_text.specs.Lines.{circle_line};
@@ -35,8 +35,6 @@ fn gave_up(alloc: Global) -> Result<Answer, AllocError>
     let line = String::from_str(alloc, "gave up\n")?;
     Ok(Answer::new(line.into_bytes(), Status::Refused))
 }
-
-ghost use Rattle.std.specs.Prelude.{codes};
 
 /// The line of a circle, where it is one.
 fn circle(
@@ -80,8 +78,6 @@ fn make_one(alloc: Global, text: &[u8]) -> Result<Answer, AllocError>
     };
     made(alloc, &tables)
 }
-
-ghost use Rattle.std.specs.Prelude.{◌⊎◌};
 
 #[tactic(auto, using(crate::proofs::Pairs::made_of_others, crate::proofs::Pairs::one))]
 fn make_of(alloc: Global, parts: &[&[u8]]) -> Result<Answer, AllocError>

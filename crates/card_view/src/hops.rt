@@ -1,6 +1,6 @@
 //! The links of a route by their names.
 ghost use Rattle.std.specs.Prelude.{Some};
-ghost use Rattle.card_view.specs.View.{hop_text, hops_text};
+ghost use Rattle.card_view.specs.View.{hop_text, hops_text, fallbacks_text};
 
 use bundle_text::{NamedLink, NamedNode};
 use card_digits::{LinkNo, NodeNo};
@@ -69,8 +69,6 @@ struct Fallbacks<'t> {
     node: NodeNo,
     links: &'t [LinkNo],
 }
-
-ghost use Rattle.card_view.specs.View.{fallbacks_text};
 
 impl fmt::Display for Fallbacks<'_> {
     ghost output = { λ hops. Some (fallbacks_text hops.tables.now hops.node hops.links.now) };

@@ -1,5 +1,6 @@
 -- What is kept of later changes is what they did.
-use Rattle.std.proofs.Common.{Result, Ok, Err, OnOk, OnErr, ◌≡◌, ◌≤◌, ◌<◌, ◌+◌, ◌==◌, ℕ, zero, suc, Bool, true, false, cond, ◌&&◌, ◌||◌, List, [], ◌∷◌, ◌++◌, length, get_or, drop, refl, sym, ap, subst, ◌∙◌, inl, inr, arith, eqb}
+use Rattle.std.proofs.Common.{Result, Ok, Err, OnOk, OnErr, ◌≡◌, ◌≤◌, ◌<◌, ◌+◌, ◌==◌, ℕ, zero, suc, Bool, true, false, cond, ◌&&◌, ◌||◌, List, [], ◌∷◌, ◌++◌, length, get_or, take, drop, refl, sym, ap, subst, ◌∙◌, inl, inr, arith, eqb}
+use Rattle.std.specs.List.{list_any}
 use Rattle.std.proofs.lemmas.Bool.{cases_Bool}
 use Rattle.std.proofs.lemmas.List.{drop_all, drop-append-le}
 use Rattle.message_keys.specs.declared.keys.AdviceId.{AdviceId}
@@ -20,7 +21,7 @@ use Rattle.entry_changes.specs.Late.{unmoved, move_at, move_step, moved, put_onc
 use Rattle.entry_changes.specs.declared.so_far.AdviceState.{AdviceState}
 use Rattle.entry_changes.specs.declared.link_moves.LinkMove.{LinkMove}
 use Rattle.entry_changes.specs.declared.late.LateChanges.{LateChanges}
-use Rattle.entry_changes.proofs.Folds.{link_append, forward_append, count_append}
+use Rattle.entry_changes.proofs.Folds.{advice_parts, link_append, forward_append, count_append}
 
 -- identities, however they are compared
 
@@ -112,6 +113,20 @@ untouched id (effects.PacketTaken p) s f = refl
 pub none_touched : (id : AdviceId) (es : List Effect) (s : AdviceState) → ((i : ℕ) → holds_at (touches id) es i ≡ false) → advice_from id es s ≡ s
 none_touched id [] s h = refl
 none_touched id (e ∷ es) s h = ap (advice_from id es) (untouched id e s (h 0)) ∙ none_touched id es s (λ i. h (suc i))
+
+-- none of these changes says something of the advice
+pub unspoken : (id : AdviceId) (es : List Effect) (s : AdviceState) → list_any (touches id) es ≡ false → advice_from id es s ≡ s
+unspoken id [] s none = refl
+unspoken id (e ∷ es) s none = go (touches id e) refl none (unspoken id es s)
+  where
+    go : (b : Bool) → touches id e ≡ b → (b || list_any (touches id) es) ≡ false → (list_any (touches id) es ≡ false → advice_from id es s ≡ s) → advice_from id (e ∷ es) s ≡ s
+    go true t wrong others = absurd cc
+    go false t rest others = ap (advice_from id es) (untouched id e s t) ∙ others rest
+
+-- neither of the first few nor of those after them
+pub neither : (id : AdviceId) (n : ℕ) (es first : List Effect) (s : AdviceState) → first ≡ take n es → false ≡ list_any (touches id) first → ((before : AdviceState) → advice_from id (drop n es) before ≡ before) → advice_from id es s ≡ s
+neither id n es first s front is late =
+    advice_parts id n es s ∙ late (advice_from id (take n es) s) ∙ unspoken id (take n es) s (sym (is ∙ ap (list_any (touches id)) front))
 
 not_true : (b : Bool) → (b ≡ true → ⊥) → b ≡ false
 not_true true no_ = absurd (no_ refl)

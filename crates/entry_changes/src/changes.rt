@@ -7,7 +7,7 @@ ghost use Rattle.node_books.specs.Effects.{applied};
 ghost use Rattle.node_books.specs.Values.{AreFew};
 ghost use Rattle.entry_changes.specs.declared.so_far.Forwarding.{Forwarding};
 
-use crate::late::{FEW, LateChanges};
+use crate::late::{FEW, LateChanges, speak_of};
 use crate::so_far::{
     AdviceState, Forwarding, LinkAfter, advice_after, advice_at, count_after, forwarded_after,
     link_after,
@@ -188,6 +188,14 @@ impl Changes {
             Place::At(place) => advice_at(late, place, id, state),
             Place::Several => advice_after(late, id, state),
         }
+    }
+
+    /// Whether a change says something of an advice. It goes over none but the first few.
+    pub fn speaks_of(&self, id: AdviceId) -> bool
+        ensures { result ≡ false → (before : AdviceState) → advice_from id self.now before ≡ before }
+    {
+        let (first, _) = self.parts();
+        speak_of(first, id) || self.late.speak_of(id)
     }
 
     /// The number of ticks after the changes.

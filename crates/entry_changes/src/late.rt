@@ -1,15 +1,19 @@
 //! What is kept of the changes after the first few, so that a look goes over none of them.
-ghost use Rattle.std.specs.Prelude.{◌≡◌, ◌≤◌, ◌<◌, ◌^◌, ◌++◌, ◌∷◌, [], ℕ, List, true, OnOk, OnErr, length, drop};
+ghost use Rattle.std.specs.Prelude.{◌≡◌, ◌≤◌, ◌<◌, ◌^◌, ◌++◌, ◌∷◌, [], ℕ, List, true, false, OnOk, OnErr, length, drop};
+ghost use Rattle.std.specs.List.{list_any};
 ghost use Rattle.crowded_map.specs.Values.{spare};
 ghost use Rattle.message_keys.specs.declared.keys.AdviceId.{AdviceId};
 ghost use Rattle.node_books.specs.declared.effect.Effect.{Effect};
 ghost use Rattle.node_books.specs.declared.effect.Effect.TheVariants.{Sent};
+ghost use Rattle.entry_changes.specs.SoFar.{advice_from};
+ghost use Rattle.entry_changes.specs.declared.so_far.AdviceState.{AdviceState};
 ghost use Rattle.entry_changes.specs.Late.{ArePlain, AreLate, AreTold, few, move_at, touches, touched};
 
 use crate::advice_places::AdvicePlaces;
 use crate::link_moves::LinkMoves;
+use book_index::Place;
 use kept_messages::{PreparedOutput, Way};
-use message_keys::AdviceId;
+use message_keys::{AdviceId, same_identity};
 use node_books::Effect;
 use std::alloc::{AllocError, Global};
 
@@ -49,6 +53,28 @@ fn advice_of(effect: &Effect) -> Option<AdviceId>
     }
 }
 
+/// Whether a change says something of an advice.
+fn speaks_of(effect: &Effect, id: AdviceId) -> bool
+    ensures { result ≡ touches id effect.now }
+{
+    match advice_of(effect) {
+        Some(own) => same_identity(own, id),
+        None => false,
+    }
+}
+
+/// Whether one of these changes says something of an advice.
+pub(crate) fn speak_of(effects: &[Effect], id: AdviceId) -> bool
+    ensures { result ≡ list_any (touches id) effects.now }
+{
+    for effect in effects {
+        if speaks_of(effect, id) {
+            return true;
+        }
+    }
+    false
+}
+
 /// Whether no request comes or is put on a link, and no tick goes by.
 fn is_plain(effect: &Effect) -> bool
     ensures { result ≡ true → ArePlain (effect.now ∷ []) }
@@ -76,6 +102,16 @@ impl LateChanges {
             moves: LinkMoves::new(alloc),
             advices: AdvicePlaces::new(alloc),
             plain: true,
+        }
+    }
+
+    /// Whether one says something of an advice.
+    pub fn speak_of(&self, id: AdviceId) -> bool
+        ensures { (es : List Effect) → AreTold es self.now.advices → result ≡ false → (before : AdviceState) → advice_from id es before ≡ before }
+    {
+        match self.advices.find(id) {
+            Place::Nowhere => false,
+            Place::At(_) | Place::Several => true,
         }
     }
 

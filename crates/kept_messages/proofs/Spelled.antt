@@ -1,10 +1,10 @@
 -- The spelling of a message spells that message.
-use Rattle.std.proofs.Common.{◌≡◌, ℕ, List, Option, Some, Ok, length, sym, ap, ◌∙◌}
+use Rattle.std.proofs.Common.{◌≡◌, ℕ, List, Option, Some, Ok, length, refl, sym, ap, ◌∙◌}
 use Rattle.message_elements.specs.declared.form.Class.TheVariants.{Text}
 use Rattle.message_elements.specs.declared.kind.Kind.{Kind}
 use Rattle.message_elements.specs.Groups.{response_kind}
 use Rattle.message_elements.specs.Values.{AreOf}
-use Rattle.iso_message.specs.Fields.{Fields, get}
+use Rattle.iso_message.specs.Fields.{Fields, get, as_kind}
 use Rattle.iso_message.specs.Made.{response}
 use Rattle.iso_message.specs.Messages.{read}
 use Rattle.iso_message.specs.Spelling.{spelling, IsMessage}
@@ -52,3 +52,20 @@ of_kept own bytes own_kind kind own_code code h two text k e =
     let m = message_in own in
     let g = kept_message own own_kind own_code h in
     (response_spelled bytes m kind code g two text (k ∙ ap response_kind (IsSpelled.kind_is h)) e, response_kept bytes m code g two text e)
+
+-- ---- other types
+
+typed_is : (kind : Kind) (m : Fields) → IsMessage m → IsMessage (as_kind kind m)
+typed_is kind m h = record { order = h.order; values = h.values }
+
+same_code : (kind : Kind) (m : Fields) → get m 39 ≡ get (as_kind kind m) 39
+unfolding get
+same_code kind m = refl
+
+-- the same elements under another type
+pub typed_kept : (own bytes : List ℕ) (own_kind kind : Kind) (code : Option (List ℕ)) (m : Fields) → IsSpelled own own_kind code → message_in own ≡ m → bytes ≡ spelling (as_kind kind m)
+    → IsSpelled bytes kind code × (message_in bytes ≡ as_kind kind m)
+typed_kept own bytes own_kind kind code m h is e =
+    let spelled : bytes ≡ spelling (as_kind kind (message_in own)) = e ∙ ap (λ n. spelling (as_kind kind n)) (sym is) in
+    let g = typed_is kind (message_in own) (kept_message own own_kind code h) in
+    (is_spelled bytes (as_kind kind (message_in own)) kind code g spelled refl (IsSpelled.code_is h ∙ same_code kind (message_in own)), kept_is bytes (as_kind kind (message_in own)) g spelled ∙ ap (as_kind kind) is)

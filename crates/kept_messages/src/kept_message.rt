@@ -1,9 +1,15 @@
 //! Messages as the books keep them.
-ghost use Rattle.std.specs.Prelude.{◌≡◌, ◌++◌, bytes_eq, [], IfOk, OnOk, OnErr};
+ghost use Rattle.std.specs.Prelude.{◌≡◌, ◌++◌, bytes_eq, [], IfOk, OnOk, OnErr, true};
+ghost use Rattle.std.specs.Char.{is_ascii_digit};
+ghost use Rattle.std.specs.List.{list_all};
+ghost use Rattle.card_digits.specs.Digits.{digits_of};
 ghost use Rattle.message_keys.specs.Keys.{code_of};
+ghost use Rattle.iso_message.specs.Fields.{as_kind};
 ghost use Rattle.iso_message.specs.Made.{response};
 ghost use Rattle.iso_message.specs.Spelling.{spelling};
+ghost use Rattle.network_law.specs.Cards.{card_of};
 
+use crate::first_element::{behind_type, card_number};
 use iso_message::{Message, decode, encode};
 use message_elements::{Code, Kind};
 use message_keys::code_of;
@@ -102,6 +108,43 @@ impl KeptMessage {
         let response = self.decode()?.response(code)?;
         let spelled = encode(self.bytes.alloc(), &response)?;
         out.extend_from_slice(&spelled)
+    }
+
+    /// Appends the bytes that spell the same elements under another type. Nothing is appended where memory is refused.
+    pub fn push_as(&self, kind: Kind, out: &mut Vec<u8>) -> Result<(), AllocError>
+        ensures made { OnOk result (out.new.items ≡ out.old.items ++ spelling (as_kind kind self.now)) }
+        ensures refused { OnErr result (out.new.items ≡ out.old.items) }
+    {
+        let start = out.len();
+        out.extend_from_slice(kind.as_slice())?;
+        match out.extend_from_slice(behind_type(self.bytes.as_slice())) {
+            Ok(()) => Ok(()),
+            Err(refused) => {
+                out.truncate(start);
+                Err(refused)
+            }
+        }
+    }
+
+    /// The same elements under another type, and the bytes that spell them.
+    #[tactic(auto, using(crate::proofs::Spelled::typed_kept))]
+    pub fn as_kind(&self, kind: Kind, bytes: SharedBytes) -> KeptMessage
+        requires { bytes ≡ spelling (as_kind kind self.now) }
+        ensures { result ≡ as_kind kind self.now }
+    {
+        KeptMessage {
+            bytes,
+            kind,
+            code: self.code,
+        }
+    }
+
+    /// The digits of the card number (element 2), none where it is absent. They are read of the bytes.
+    pub fn card_number(&self) -> &[u8]
+        ensures card { digits_of result.now ≡ card_of self.now }
+        ensures digits { list_all is_ascii_digit result.now ≡ true }
+    {
+        card_number(self.bytes.as_slice())
     }
 
     /// The response with a code, and the bytes that spell it.

@@ -6,8 +6,7 @@ ghost use Rattle.node_books.specs.Values.{leaves_of};
 
 use advice_store::KeptGrant;
 use card_digits::{Amount, DateLabel, Key, LinkNo};
-use iso_message::Message;
-use kept_messages::PreparedOutput;
+use kept_messages::{KeptMessage, PreparedOutput};
 use message_keys::{AdviceId, same_key};
 use network_law::GrantPacket;
 use pending_book::Row;
@@ -18,7 +17,7 @@ use std::marker::Model;
 #[derive(Drop)]
 pub struct NewAdvice {
     pub(crate) id: AdviceId,
-    pub(crate) message: Message,
+    pub(crate) message: KeptMessage,
     pub(crate) actual: Amount,
     pub(crate) count: u64,
     pub(crate) own: bool,
@@ -42,7 +41,7 @@ impl Model for NewAdvice {
 impl NewAdvice {
     /// An advice that the node made at this count. `home` says whether it is the home of the advice's card, and `put` whether
     /// the advice was put on a link.
-    pub fn made(id: AdviceId, message: Message, count: u64, home: bool, put: bool) -> NewAdvice
+    pub fn made(id: AdviceId, message: KeptMessage, count: u64, home: bool, put: bool) -> NewAdvice
         requires { id ≡ identity_of message }
         ensures { result ≡ record { message = message; count = count; own = true; home = home; put = put } }
     {
@@ -60,7 +59,7 @@ impl NewAdvice {
     /// An advice that the node accepted at this count. A reversal leaves its actual amount of what it reverses.
     pub fn accepted(
         id: AdviceId,
-        message: Message,
+        message: KeptMessage,
         actual: Amount,
         count: u64,
         home: bool,
@@ -90,7 +89,7 @@ impl NewAdvice {
     }
 
     /// The advice, as the node keeps it.
-    pub fn message(&self) -> &Message
+    pub fn message(&self) -> &KeptMessage
         ensures { result.now ≡ self.now.message }
     {
         &self.message

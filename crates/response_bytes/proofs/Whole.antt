@@ -124,11 +124,11 @@ kind_read bytes m e =
     let k = canonical.kind_again m.kind in
     ap kind_at e ∙ reading.kind_again (kind_text m.kind) (maps_text (low_numbers (numbers_of m)) (high_numbers (numbers_of m)) ++ pieces m.elements) m.kind k.0 k.1
 
-abbrev first_of : List ℕ → List ℕ → ℕ
+abbrev pub first_of : List ℕ → List ℕ → ℕ
 first_of low [] = bits 64 low
 first_of low (n ∷ high) = 2 ^ 63 + bits 64 low
 
-abbrev behind_first : List ℕ → List ℕ
+abbrev pub behind_first : List ℕ → List ℕ
 behind_first [] = []
 behind_first (n ∷ high) = map_text (bits 128 (n ∷ high))
 
@@ -144,10 +144,10 @@ map_read m h = go (low_numbers (numbers_of m)) (high_numbers (numbers_of m)) (ca
         let first = 2 ^ 63 + bits 64 low in
         ap map_at (append_assoc (map_text first) (map_text (bits 128 (n ∷ high))) (pieces m.elements)) ∙ reading.map_again first (map_text first) (map_text (bits 128 (n ∷ high)) ++ pieces m.elements) (canonical.map_again first (omega (arith, few)))
 
-not_both : {A E : Type 0} (r : Result A E) (x : A) (e : E) → r ≡ Ok x → r ≡ Err e → ⊥
+pub not_both : {A E : Type 0} (r : Result A E) (x : A) (e : E) → r ≡ Ok x → r ≡ Err e → ⊥
 not_both {A = A} {E = E} r x e ok err = let wrong : Path (Result A E) (Ok x) (Err e) = sym ok ∙ err in absurd cc
 
-same_ok : {A E : Type 0} (r : Result A E) (x y : A) → r ≡ Ok x → r ≡ Ok y → x ≡ y
+pub same_ok : {A E : Type 0} (r : Result A E) (x y : A) → r ≡ Ok x → r ≡ Ok y → x ≡ y
 same_ok {A = A} {E = E} r x y a b = let both : Path (Result A E) (Ok x) (Ok y) = sym a ∙ b in cc
 
 abbrev behind_kind : Fields → List ℕ
@@ -167,7 +167,7 @@ no_map bytes rest m kind fault h e ok err =
     let is : rest ≡ behind_kind m = (rest_is bytes rest m kind e ok).1 in
     not_both (map_at rest) (first_of (low_numbers (numbers_of m)) (high_numbers (numbers_of m)), behind_first (high_numbers (numbers_of m)) ++ pieces m.elements) fault (ap map_at is ∙ map_read m h) err
 
-body_is : (bytes rest body : List ℕ) (m : Fields) (kind : Kind) (first : ℕ) → IsMessage m → bytes ≡ spelling m → kind_at bytes ≡ Ok (kind, rest) → map_at rest ≡ Ok (first, body)
+pub body_is : (bytes rest body : List ℕ) (m : Fields) (kind : Kind) (first : ℕ) → IsMessage m → bytes ≡ spelling m → kind_at bytes ≡ Ok (kind, rest) → map_at rest ≡ Ok (first, body)
     → (first ≡ first_of (low_numbers (numbers_of m)) (high_numbers (numbers_of m))) × (body ≡ behind_first (high_numbers (numbers_of m)) ++ pieces m.elements)
 body_is bytes rest body m kind first h e ok map_ok =
     let is : rest ≡ behind_kind m = (rest_is bytes rest m kind e ok).1 in

@@ -3,9 +3,14 @@
 
 ghost use Rattle.std.specs.Prelude.{◌≡◌, Some, IfOk, OnErr};
 
+use smallvec::SmallVec;
 use std::alloc::{AllocError, Global};
 use std::marker::Model;
-use std::sync::ArcSlice;
+use std::sync::Arc;
+
+/// How many bytes stand beside the count of their owners, in one piece of memory. Requests and responses without rarer elements have no more.
+/// Longer bytes stand apart, and the piece of memory is as large for them.
+const MOST_BESIDE: usize = 112;
 
 /// Bytes that never change, and that several owners hold, in any threads. Contracts see the list of them.
 ///
@@ -13,7 +18,7 @@ use std::sync::ArcSlice;
 /// both keep, so stands in memory once.
 #[derive(Drop)]
 pub struct SharedBytes {
-    items: ArcSlice<u8>,
+    items: Arc<SmallVec<u8, MOST_BESIDE>>,
     alloc: Global,
 }
 
@@ -22,7 +27,7 @@ impl Model for SharedBytes {
 
     ghost Value = { List ℕ };
 
-    ghost view = { λ b. b.items.items.value.items };
+    ghost view = { λ b. b.items.value.items };
 }
 
 impl SharedBytes {
@@ -30,16 +35,19 @@ impl SharedBytes {
     pub fn from_slice(alloc: Global, bytes: &[u8]) -> Result<SharedBytes, AllocError>
         ensures { IfOk result (λ b. b ≡ bytes.now) }
     {
-        let items = ArcSlice::from_slice(alloc, bytes)?;
-        Ok(SharedBytes { items, alloc })
+        let items = SmallVec::from_slice(alloc, bytes)?;
+        match Arc::new(alloc, items) {
+            Ok(items) => Ok(SharedBytes { items, alloc }),
+            Err(_) => Err(AllocError),
+        }
     }
 
     /// These bytes, with one owner.
     pub fn from_vec(alloc: Global, bytes: Vec<u8>) -> Result<SharedBytes, AllocError>
         ensures { IfOk result (λ b. b ≡ bytes.items) }
     {
-        let items = ArcSlice::from_vec(bytes)?;
-        Ok(SharedBytes { items, alloc })
+        // Few bytes are copied beside the count of their owners, and the memory that they had is given back.
+        SharedBytes::from_slice(alloc, &bytes)
     }
 
     /// One owner more of the same bytes. It is refused only where there are as many owners as can be counted.

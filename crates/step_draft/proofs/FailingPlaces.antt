@@ -6,7 +6,7 @@ use Rattle.std.specs.Option.{option_map_or}
 use Rattle.net_rows.specs.Network.{Network}
 use Rattle.net_rows.specs.declared.row.Link.{Link}
 use Rattle.network_law.specs.Traces.{ReadInput, Tick, ticks_by}
-use Rattle.node_machine.specs.Lists.{Lists, Row, row_due, row_fails, row_key, row_pending, view}
+use Rattle.node_machine.specs.Lists.{Lists, Row, row_due, row_fails, row_pending, view}
 use Rattle.node_machine.specs.Machine as machine
 use Rattle.node_machine.specs.Steps as steps
 use Rattle.node_machine.specs.Steps.{Progress}

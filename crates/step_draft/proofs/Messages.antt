@@ -14,12 +14,14 @@ use Rattle.message_keys.specs.Keys.{key_of, own_key, original_key, part, identit
 use Rattle.iso_message.specs.Made.{has_own_key, response, made_reversal, made_stand_in, made_from}
 use Rattle.iso_message.proofs.Found as found
 use Rattle.message_keys.proofs.KeyLemmas as keys
-use Rattle.network_law.specs.Cards.{Bytes}
+use Rattle.card_digits.specs.Digits.{digits_of}
+use Rattle.message_elements.specs.Codes.{code_00}
+use Rattle.network_law.specs.Cards.{Bytes, card_of}
 use Rattle.network_law.specs.Traces.{as_kept}
 use Rattle.network_law.specs.Decision.{sent_kind}
 use Rattle.network_law.proofs.Node.{response_is_of_kind}
 use Rattle.network_law.proofs.Origins.{reversal_maker, stand_in_maker}
-use Rattle.network_law.proofs.Elements.{own_key_response, el_response, made_reversal_key, reversal_kind}
+use Rattle.network_law.proofs.Elements.{el_made, el_made_reversal, own_key_response, el_response, made_reversal_key, reversal_kind}
 use Rattle.network_law.proofs.AdviceMarks.{made_stand_in_key, as_kind_identity, kept_alike, reversal_reverses, stand_in_stands, identity_key}
 use Rattle.pending_book.specs.Rows.{IsKeyOf}
 
@@ -149,6 +151,20 @@ kept_is_advice m = go (is_04xx m.kind)
     go : (b : Bool) → is_advice_group (group (cond b K0420 K0120)) ≡ true
     go true = refl
     go false = refl
+
+-- the card numbers of advices
+
+pub reversal_card : (m : Fields) (id digits : Bytes) → digits_of digits ≡ card_of m → digits_of digits ≡ card_of (made_reversal m id)
+unfolding card_of
+reversal_card m id digits e = e ∙ sym (ap digits_of (el_made_reversal m id 2 refl refl refl refl))
+
+pub stand_in_card : (m : Fields) (id digits : Bytes) → digits_of digits ≡ card_of m → digits_of digits ≡ card_of (made_stand_in m id)
+unfolding card_of made_stand_in
+stand_in_card m id digits e = e ∙ sym (ap digits_of (el_made K0120 m id code_00 2 refl refl refl))
+
+pub kept_card : (m : Fields) (digits : Bytes) → digits_of digits ≡ card_of m → digits_of digits ≡ card_of (as_kept m)
+unfolding card_of el get
+kept_card m digits e = e
 
 -- an advice as it is sent
 

@@ -1,7 +1,8 @@
 -- Parts of the decision, as the code takes them.
-use Rattle.std.proofs.Common.{◌≡◌, ◌⊎◌, inl, inr, ◌<◌, ◌≤◌, ◌+◌, ℕ, zero, suc, List, [], ◌∷◌, map, filter, drop, length, get_or, arith, add-one, Bool, true, false, cond, refl, sym, ap, subst, ◌∙◌, Option, Some, None, Result, Ok, Err, OnOk, slice_get}
+use Rattle.std.proofs.Common.{◌≡◌, inl, inr, ◌<◌, ℕ, zero, suc, List, [], ◌∷◌, length, get_or, arith, Bool, true, refl, sym, ap, ◌∙◌, Option, Some, None, Result, Ok, Err, OnOk, slice_get}
 use Rattle.std.specs.List.{cons_option}
 use Rattle.std.specs.Option.{option_map}
+use Rattle.card_digits.specs.Digits.{digits_of}
 use Rattle.card_digits.specs.Numbers.{decimal}
 use Rattle.card_digits.specs.declared.key.Key.{Key}
 use Rattle.iso_message.specs.Made.{made_reversal}
@@ -10,18 +11,17 @@ use Rattle.network_law.specs.Cards.{Bytes, card_of, label_of}
 use Rattle.network_law.specs.Tables.{node_id}
 use Rattle.node_machine.specs.Books.{Request, Books}
 use Rattle.node_machine.specs.Machine as machine
-use Rattle.node_machine.specs.Lists.{Lists, Row, Take, of_key, row_key, row_fails, request_of}
+use Rattle.node_machine.specs.Lists.{Lists, Row, Take, of_key, row_key, request_of}
 use Rattle.message_elements.specs.Groups.{is_04xx}
 use Rattle.message_keys.specs.Keys.{key_of, identity_of}
-use Rattle.net_rows.specs.Network.{Network}
-use Rattle.network_law.specs.Traces.{Source, ReadInput, IsIn, is_at_home}
+use Rattle.net_rows.specs.Network.{Network, issuer}
+use Rattle.network_law.specs.Traces.{Source, IsIn, home_is, is_at_home}
 use Rattle.network_law.specs.Decision.{sent_kind}
 use Rattle.node_machine.specs.Machine.{own_way, put_before}
 use Rattle.node_machine.specs.Lists.{view}
 use Rattle.node_machine.specs.Steps as steps
 use Rattle.node_machine.specs.Steps.{Progress}
 use Rattle.node_books.specs.Effects.{Drafted, progress, with_effect}
-use Rattle.node_machine.proofs.Readings.{failing_is}
 use Rattle.node_books.proofs.Loads.{one_row}
 use Rattle.pending_book.specs.Rows.{IsUnique}
 use Rattle.node_books.specs.Values.{NewAdvice}
@@ -38,6 +38,10 @@ on_ok (Err e) f p = tt
 -- what is done with a message that is kept is done with the message
 pub of_kept : (f : Fields → Progress → Progress) (kept m : Fields) (d e : Drafted) → kept ≡ m → d ≡ e → f kept (progress d) ≡ f m (progress e)
 of_kept f kept m d e p q = ap (λ x. f x (progress d)) p ∙ ap (λ x. f m (progress x)) q
+
+-- the home of a card number is that of the message which has it
+pub home_at : (t : Network) (n : ℕ) (m : Fields) (digits : List ℕ) (home : Bool) → digits_of digits ≡ card_of m → home ≡ home_is n (issuer t (digits_of digits)) → home ≡ is_at_home t n m
+home_at t n m digits home e is = is ∙ ap (λ d. home_is n (issuer t d)) e
 
 pub stored_is : (t : Network) (n : ℕ) (own : Bool) (m : Fields) (count : ℕ) (put home : Bool) (d d' : Drafted) (a : NewAdvice) → a ≡ record { message = m; count = count; own = own; home = home; put = put } → home ≡ is_at_home t n m → d' ≡ with_effect (effects.Kept a) d → progress d' ≡ steps.store t n own m count put (progress d)
 stored_is t n own m count put home d d' a is at e =

@@ -3,6 +3,7 @@ ghost use Rattle.std.specs.Prelude.{◌≡◌, ◌≤◌, ◌<◌, List, [], ◌
 ghost use Rattle.node_machine.specs.Lists.{Mark};
 ghost use Rattle.node_books.specs.declared.effect.Effect.{Effect};
 ghost use Rattle.step_draft.specs.Used.{AreLateUses};
+ghost use Rattle.iso_message.specs.Fields.{as_kind};
 ghost use Rattle.iso_message.specs.Made.{response};
 ghost use Rattle.iso_message.specs.Spelling.{spelling};
 ghost use Rattle.network_law.specs.Entries.{spelled};
@@ -22,7 +23,7 @@ use card_digits::LinkNo;
 use entry_changes::Changes;
 use iso_message::{Message, encode_into};
 use kept_messages::{KeptMessage, PreparedOutput, Way};
-use message_elements::Code;
+use message_elements::{Code, Kind};
 use network_law::{GrantPacket, packet_bytes};
 use node_books::{Books, Effect, OwnApproval};
 use shared_bytes::SharedBytes;
@@ -85,6 +86,21 @@ fn spelled_response(
 {
     room.clear();
     message.push_response(code, room)?;
+    SharedBytes::at_hand_or_copy(alloc, at_hand, room)
+}
+
+/// The same of the bytes that spell a kept message under another type.
+fn spelled_as(
+    alloc: Global,
+    room: &mut Vec<u8>,
+    at_hand: &mut Option<SharedBytes>,
+    message: &KeptMessage,
+    kind: Kind,
+) -> Result<SharedBytes, AllocError>
+    ensures { IfOk result (λ bytes. bytes ≡ spelling (as_kind kind message.now)) }
+{
+    room.clear();
+    message.push_as(kind, room)?;
     SharedBytes::at_hand_or_copy(alloc, at_hand, room)
 }
 
@@ -167,6 +183,23 @@ impl Draft {
     {
         let bytes = spelled(self.alloc, &mut self.spelling, &mut self.at_hand, message)?;
         Ok(KeptMessage::new(message, bytes))
+    }
+
+    /// A kept message under another type. Its bytes differ in the type alone, and are the same ones where it has that type.
+    pub(crate) fn kept_as(
+        &mut self,
+        message: &KeptMessage,
+        kind: Kind,
+    ) -> Result<KeptMessage, AllocError>
+        ensures same { self.new ≡ self.old }
+        ensures kept { IfOk result (λ k. k ≡ as_kind kind message.now) }
+    {
+        if message.kind() == kind {
+            return message.share();
+        }
+        let room = &mut self.spelling;
+        let bytes = spelled_as(self.alloc, room, &mut self.at_hand, message, kind)?;
+        Ok(message.as_kind(kind, bytes))
     }
 
     /// The response to a kept message with a code, as the books and outputs keep it.

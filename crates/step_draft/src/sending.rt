@@ -21,7 +21,7 @@ use message_keys::AdviceId;
 use net_rows::Tables;
 use node_books::{Effect, NewAdvice};
 use std::alloc::AllocError;
-use step_rules::{is_at_home, sent_kind};
+use step_rules::{is_home_of, sent_kind};
 
 impl Draft {
     /// A message that is no advice, and is kept already, goes out on a link.
@@ -35,13 +35,8 @@ impl Draft {
         self.emit(PreparedOutput::of_message(Way::Put(link, serial), key, m))
     }
 
-    /// An advice that is kept already goes out on a link.
-    fn put_kept_advice(
-        &mut self,
-        link: LinkNo,
-        id: AdviceId,
-        m: KeptMessage,
-    ) -> Result<(), AllocError>
+    /// An advice goes out on a link.
+    fn put_advice(&mut self, link: LinkNo, id: AdviceId, m: KeptMessage) -> Result<(), AllocError>
         requires id { id ≡ identity_of m }
         requires advice { is_advice_group (group m.kind) ≡ true }
         ensures base { self.new.base ≡ self.old.base }
@@ -49,17 +44,6 @@ impl Draft {
     {
         let serial = self.next_serial(link);
         self.emit(PreparedOutput::of_advice(Way::Put(link, serial), id, m))
-    }
-
-    /// An advice goes out on a link.
-    fn put_advice(&mut self, link: LinkNo, id: AdviceId, m: &Message) -> Result<(), AllocError>
-        requires id { id ≡ identity_of m.now }
-        requires advice { is_advice_group (group m.now.kind) ≡ true }
-        ensures base { self.new.base ≡ self.old.base }
-        ensures ok { OnOk result ((t : Network) (n : ℕ) → progress self.new ≡ put_on t n link m.now (progress self.old)) }
-    {
-        let kept = self.kept(m)?;
-        self.put_kept_advice(link, id, kept)
     }
 
     /// A message that is kept already goes out to where a request came from.
@@ -125,18 +109,40 @@ impl Draft {
         self.reply_kept(source, key, response)
     }
 
-    /// An advice goes out, where a link is up. It is copied only there.
+    /// The response to a message that is kept too. It is made of the bytes that are kept, but to a reversal, whose response carries an
+    /// element above 64, of the message.
+    pub fn respond_to(
+        &mut self,
+        source: Option<LinkNo>,
+        key: Key,
+        m: &Message,
+        kept: &KeptMessage,
+        code: Code,
+    ) -> Result<(), AllocError>
+        requires key { key ≡ key_of m.now }
+        requires kept { kept.now ≡ m.now }
+        ensures base { self.new.base ≡ self.old.base }
+        ensures ok { OnOk result ((t : Network) (n : ℕ) → progress self.new ≡ reply t n (source_of source) (response m.now code) (progress self.old)) }
+    {
+        if m.kind().is_04xx() {
+            self.respond(source, key, m, code)
+        } else {
+            self.respond_kept(source, key, kept, code)
+        }
+    }
+
+    /// An advice goes out, where a link is up.
     #[tactic(auto, using(crate::proofs::Messages::advice_key))]
-    fn send(&mut self, tables: &Tables, node: NodeNo, advice: &Advice) -> Result<(), AllocError>
+    fn send(&mut self, tables: &Tables, node: NodeNo, advice: &Advice<'_>) -> Result<(), AllocError>
         ensures base { self.new.base ≡ self.old.base }
         ensures ok { OnOk result (progress self.new ≡ send tables.now node advice.now.message (progress self.old)) }
     {
         let id = advice.id;
-        let Some(link) = self.own_way(tables, node, id.key, &advice.message) else {
+        let message = &advice.message;
+        let Some(link) = self.own_way(tables, node, id.key, message, advice.card) else {
             return Ok(());
         };
-        let copy = advice.message.copy()?;
-        self.send_by(tables, node, link, id, copy)
+        self.send_by(tables, node, link, id, message)
     }
 
     /// The advice of this identity goes out, where a link is up.
@@ -146,13 +152,14 @@ impl Draft {
         tables: &Tables,
         node: NodeNo,
         id: AdviceId,
-        message: Message,
+        message: &KeptMessage,
     ) -> Result<(), AllocError>
-        requires { id ≡ identity_of message }
+        requires { id ≡ identity_of message.now }
         ensures base { self.new.base ≡ self.old.base }
-        ensures ok { OnOk result (progress self.new ≡ send tables.now node message (progress self.old)) }
+        ensures ok { OnOk result (progress self.new ≡ send tables.now node message.now (progress self.old)) }
     {
-        let Some(link) = self.own_way(tables, node, id.key, &message) else {
+        let card = message.card_number();
+        let Some(link) = self.own_way(tables, node, id.key, message, card) else {
             return Ok(());
         };
         self.send_by(tables, node, link, id, message)
@@ -166,51 +173,56 @@ impl Draft {
         node: NodeNo,
         link: LinkNo,
         id: AdviceId,
-        message: Message,
+        message: &KeptMessage,
     ) -> Result<(), AllocError>
-        requires id { id ≡ identity_of message }
-        requires way { Some link ≡ own_way tables.now node (view tables.now node (progress self.old).lists) message ((view tables.now node (progress self.old).lists).link (key_of message)) }
+        requires id { id ≡ identity_of message.now }
+        requires way { Some link ≡ own_way tables.now node (view tables.now node (progress self.old).lists) message.now ((view tables.now node (progress self.old).lists).link (key_of message.now)) }
         ensures base { self.new.base ≡ self.old.base }
-        ensures ok { OnOk result (progress self.new ≡ send tables.now node message (progress self.old)) }
+        ensures ok { OnOk result (progress self.new ≡ send tables.now node message.now (progress self.old)) }
     {
         let kind = sent_kind(message.kind().is_04xx(), self.was_put(id));
-        let mut sent = message;
-        sent.set_kind(kind);
-        self.put_advice(link, id, &sent)
+        let sent = self.kept_as(message, kind)?;
+        self.put_advice(link, id, sent)
     }
 
     /// An advice that wasn't known before the entry is posted at the home of its card, and elsewhere sent.
-    pub fn keep(&mut self, tables: &Tables, node: NodeNo, advice: &Advice) -> Result<(), AllocError>
+    #[tactic(auto, using(crate::proofs::Parts::home_at))]
+    pub fn keep(
+        &mut self,
+        tables: &Tables,
+        node: NodeNo,
+        advice: &Advice<'_>,
+    ) -> Result<(), AllocError>
         ensures base { self.new.base ≡ self.old.base }
         ensures ok { OnOk result (progress self.new ≡ keep tables.now node (view tables.now node self.old.base) advice.now.message (progress self.old)) }
     {
         if self.books.is_known(advice.id) {
             return Ok(());
         }
-        if is_at_home(tables, node, &advice.message) {
+        if is_home_of(tables, node, advice.card) {
             return self.post(advice);
         }
         self.send(tables, node, advice)
     }
 
     /// An advice goes to the host's books.
-    fn post(&mut self, advice: &Advice) -> Result<(), AllocError>
+    fn post(&mut self, advice: &Advice<'_>) -> Result<(), AllocError>
         ensures base { self.new.base ≡ self.old.base }
         ensures ok { OnOk result (progress self.new ≡ emit (Post advice.now.message) (progress self.old)) }
     {
-        let kept = self.kept(&advice.message)?;
-        self.emit(PreparedOutput::of_advice(Way::Post, advice.id, kept))
+        let message = advice.message.share()?;
+        self.emit(PreparedOutput::of_advice(Way::Post, advice.id, message))
     }
 
     /// Whether `keep` puts the advice on a link.
-    #[tactic(auto, using(crate::proofs::Messages::advice_key))]
-    pub(crate) fn is_sent(&self, tables: &Tables, node: NodeNo, advice: &Advice) -> bool
+    #[tactic(auto, using(crate::proofs::Messages::advice_key, crate::proofs::Parts::home_at))]
+    pub(crate) fn is_sent(&self, tables: &Tables, node: NodeNo, advice: &Advice<'_>) -> bool
         ensures { result ≡ is_sent tables.now node (view tables.now node self.now.base) advice.now.message (progress self.now) }
     {
         !self.books.is_known(advice.id)
-            && !is_at_home(tables, node, &advice.message)
+            && !is_home_of(tables, node, advice.card)
             && self
-                .own_way(tables, node, advice.id.key, &advice.message)
+                .own_way(tables, node, advice.id.key, &advice.message, advice.card)
                 .is_some()
     }
 
@@ -220,16 +232,16 @@ impl Draft {
         &mut self,
         tables: &Tables,
         node: NodeNo,
-        advice: Advice,
+        advice: &Advice<'_>,
         count: u64,
         put: bool,
     ) -> Result<(), AllocError>
         ensures base { self.new.base ≡ self.old.base }
-        ensures ok { OnOk result (progress self.new ≡ store tables.now node true advice.message count put (progress self.old)) }
+        ensures ok { OnOk result (progress self.new ≡ store tables.now node true advice.now.message count put (progress self.old)) }
     {
-        let home = is_at_home(tables, node, &advice.message);
-        let Advice { id, message } = advice;
-        self.change(Effect::Kept(NewAdvice::made(id, message, count, home, put)))
+        let home = is_home_of(tables, node, advice.card);
+        let message = advice.message.share()?;
+        self.change(Effect::Kept(NewAdvice::made(advice.id, message, count, home, put)))
     }
 
     /// An advice that the node accepted is stored.
@@ -238,16 +250,16 @@ impl Draft {
         &mut self,
         tables: &Tables,
         node: NodeNo,
-        advice: Advice,
+        advice: &Advice<'_>,
         actual: Amount,
         count: u64,
     ) -> Result<(), AllocError>
-        requires { actual ≡ leaves advice.message }
+        requires { actual ≡ leaves advice.now.message }
         ensures base { self.new.base ≡ self.old.base }
-        ensures ok { OnOk result (progress self.new ≡ store tables.now node false advice.message count false (progress self.old)) }
+        ensures ok { OnOk result (progress self.new ≡ store tables.now node false advice.now.message count false (progress self.old)) }
     {
-        let home = is_at_home(tables, node, &advice.message);
-        let Advice { id, message } = advice;
-        self.change(Effect::Kept(NewAdvice::accepted(id, message, actual, count, home)))
+        let home = is_home_of(tables, node, advice.card);
+        let message = advice.message.share()?;
+        self.change(Effect::Kept(NewAdvice::accepted(advice.id, message, actual, count, home)))
     }
 }

@@ -1,8 +1,12 @@
 //! What the books are after the changes so far.
-ghost use Rattle.std.specs.Prelude.{◌≡◌, ◌<◌, ◌+◌, ◌^◌, ℕ, suc};
+ghost use Rattle.std.specs.Prelude.{◌≡◌, ◌<◌, ◌+◌, ◌^◌, ℕ, suc, true};
+ghost use Rattle.std.specs.Char.{is_ascii_digit};
+ghost use Rattle.std.specs.List.{list_all};
 ghost use Rattle.std.specs.Option.{option_and_then};
+ghost use Rattle.card_digits.specs.Digits.{digits_of};
 ghost use Rattle.message_keys.specs.Keys.{key_of};
 ghost use Rattle.net_rows.specs.Network.{Network};
+ghost use Rattle.network_law.specs.Cards.{card_of};
 ghost use Rattle.node_machine.specs.Lists.{link_at, of_key, row_link, view};
 ghost use Rattle.node_machine.specs.Machine.{put_before, own_way};
 ghost use Rattle.node_books.specs.Effects.{progress};
@@ -11,10 +15,10 @@ ghost use Rattle.entry_changes.specs.SoFar.{forward_from};
 use crate::draft::Draft;
 use card_digits::{Key, LinkNo, NodeNo};
 use entry_changes::{AdviceState, Forwarding, LinkAfter};
-use iso_message::Message;
+use kept_messages::KeptMessage;
 use message_keys::AdviceId;
 use net_rows::Tables;
-use step_rules::{LinkStates, first_up, route_links};
+use step_rules::{LinkStates, first_up, links_of};
 
 impl Draft {
     /// A link as it is now: whether it is up, and its last serial.
@@ -78,6 +82,9 @@ impl Draft {
     pub(crate) fn was_put(&self, id: AdviceId) -> bool
         ensures { (t : Network) (n : ℕ) → result ≡ put_before (view t n (progress self.now).lists) id }
     {
+        if !self.effects.speaks_of(id) {
+            return self.books.was_put(id);
+        }
         let before = AdviceState {
             known: self.books.is_known(id),
             stored: self.books.is_stored(id),
@@ -86,16 +93,19 @@ impl Draft {
         self.effects.advice_after(id, before).put
     }
 
-    /// The way of an advice: a reversal goes where its request went, if that link is up; else the first link of the route that is up is
+    /// The way of an advice of a card with these digits: a reversal goes where its request went, if that link is up; else the first link of the route that is up is
     /// taken.
     pub(crate) fn own_way(
         &self,
         tables: &Tables,
         node: NodeNo,
         key: Key,
-        advice: &Message,
+        advice: &KeptMessage,
+        card: &[u8],
     ) -> Option<LinkNo>
-        requires { key ≡ key_of advice.now }
+        requires key { key ≡ key_of advice.now }
+        requires card { digits_of card.now ≡ card_of advice.now }
+        requires digits { list_all is_ascii_digit card.now ≡ true }
         ensures { result ≡ own_way tables.now node (view tables.now node (progress self.now).lists) advice.now ((view tables.now node (progress self.now).lists).link (key_of advice.now)) }
     {
         if let Some(link) = self.forwarded(key) {
@@ -103,7 +113,7 @@ impl Draft {
                 return Some(link);
             }
         }
-        first_up(self, route_links(tables, node, advice))
+        first_up(self, links_of(tables, node, card))
     }
 }
 

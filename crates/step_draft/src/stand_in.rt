@@ -7,7 +7,6 @@ ghost use Rattle.node_books.specs.Effects.{progress};
 ghost use Rattle.pending_book.specs.Rows.{IsKeyOf, source_of};
 ghost use Rattle.step_draft.specs.Used.{IsQuiet};
 
-use crate::advice::Advice;
 use crate::digits::{card_number, date_label};
 use crate::draft::Draft;
 use card_digits::{Key, LinkNo, NodeNo};
@@ -51,9 +50,8 @@ impl Draft {
             return Ok(());
         }
         self.take(key, request)?;
-        let advice = Advice::stand_in(tables, node, key, request)?;
-        let copy = advice.copy()?;
-        self.store_made(tables, node, copy, count, false)?;
+        let advice = self.stand_in_advice(tables, node, key, request)?;
+        self.store_made(tables, node, &advice, count, false)?;
         self.keep(tables, node, &advice)
     }
 
@@ -91,12 +89,12 @@ impl Draft {
         ensures base { self.new.base ≡ self.old.base }
         ensures ok { OnOk result ((count : ℕ) → progress self.new ≡ fail tables.now node (view tables.now node self.old.base) (Some (record { message = request.now; source = source_of source; count = count })) (progress self.old)) }
     {
-        let reversal = Advice::reversal(tables, node, key, request)?;
+        let reversal = self.reversal(tables, node, key, request)?;
         let put = self.is_sent(tables, node, &reversal);
         self.keep(tables, node, &reversal)?;
         let code = self.standin_code(tables, node, request);
         let count = self.count_now();
-        self.store_made(tables, node, reversal, count, put)?;
+        self.store_made(tables, node, &reversal, count, put)?;
         self.stand_in_by(tables, node, key, request, source, code)
     }
 }

@@ -103,7 +103,7 @@ impl Draft {
         match item.into_case() {
             StoredCase::Advice(advice) => {
                 let id = advice.id();
-                let message = advice.into_message();
+                let message = advice.message();
                 self.send_message(tables, node, id, message)
             }
             StoredCase::Grant(grant) => {

@@ -17,7 +17,7 @@ use message_keys::{AdviceId, advice_id, key_of};
 use net_rows::Tables;
 use node_books::Books;
 use std::alloc::AllocError;
-use step_rules::{has_good_card, has_issuer, is_approval, is_at_home};
+use step_rules::{has_good_card, has_issuer, is_approval, is_at_home, is_home_of};
 
 /// How many places a node has, for stored advices and grants and for open requests.
 pub const PLACES: u128 = 65536;
@@ -146,53 +146,31 @@ pub(crate) fn taken_finds_no_place(
 }
 
 /// Whether the node is the home of the card of the key's request.
-fn is_home_of_key(
-    books: &Books,
-    tables: &Tables,
-    node: NodeNo,
-    key: Key,
-) -> Result<bool, AllocError>
-    ensures { IfOk result (λ home. home ≡ home_of_key tables.now node (request_at books.now.lists key)) }
+fn is_home_of_key(books: &Books, tables: &Tables, node: NodeNo, key: Key) -> bool
+    ensures { result ≡ home_of_key tables.now node (request_at books.now.lists key) }
 {
     match books.of_key(key) {
-        Some(row) => {
-            let request = row.message().decode()?;
-            Ok(is_at_home(tables, node, &request))
-        }
-        None => Ok(false),
+        Some(row) => is_home_of(tables, node, row.message().card_number()),
+        None => false,
     }
 }
 
 /// Whether an approval of this key by this link comes late, of a card whose home is elsewhere.
-fn is_late(
-    books: &Books,
-    tables: &Tables,
-    node: NodeNo,
-    link: LinkNo,
-    key: Key,
-) -> Result<bool, AllocError>
-    ensures { IfOk result (λ late. late ≡ is_late tables.now node books.now.lists link key) }
+fn is_late(books: &Books, tables: &Tables, node: NodeNo, link: LinkNo, key: Key) -> bool
+    ensures { result ≡ is_late tables.now node books.now.lists link key }
 {
-    if !books.was_put_on(key, link) || !comes_late(books, tables, node, key) {
-        return Ok(false);
-    }
-    let home = is_home_of_key(books, tables, node, key)?;
-    Ok(!home)
+    books.was_put_on(key, link)
+        && comes_late(books, tables, node, key)
+        && !is_home_of_key(books, tables, node, key)
 }
 
 /// Whether the reversal of such an approval would be stored in one place too many.
-fn late_has_no_place(
-    books: &Books,
-    tables: &Tables,
-    node: NodeNo,
-    link: LinkNo,
-    key: Key,
-) -> Result<bool, AllocError>
-    ensures { IfOk result (λ full. full ≡ late_has_no_place tables.now node books.now.lists link key) }
+fn late_has_no_place(books: &Books, tables: &Tables, node: NodeNo, link: LinkNo, key: Key) -> bool
+    ensures { result ≡ late_has_no_place tables.now node books.now.lists link key }
 {
     // Where there is a place no book is searched.
     if books.load() < PLACES {
-        return Ok(false);
+        return false;
     }
     is_late(books, tables, node, link, key)
 }
@@ -204,19 +182,19 @@ pub(crate) fn late_finds_no_place(
     node: NodeNo,
     link: LinkNo,
     message: &Message,
-) -> Result<bool, AllocError>
+) -> bool
     requires { missing message.now (required_taken (group message.now.kind) message.now.kind) ≡ None }
-    ensures { IfOk result (λ full. full ≡ late_finds_no_place tables.now node (view tables.now node books.now.lists) link message.now) }
+    ensures { result ≡ late_finds_no_place tables.now node (view tables.now node books.now.lists) link message.now }
 {
     // Nearly always there are places, and then no key is read.
     if has_place(books) {
-        return Ok(false);
+        return false;
     }
     if !message.kind().is_answer() || !is_approval(message) {
-        return Ok(false);
+        return false;
     }
     match key_of(message) {
         Some(key) => late_has_no_place(books, tables, node, link, key),
-        None => Ok(false),
+        None => false,
     }
 }

@@ -70,7 +70,7 @@ pub fn refuse_taken(
     if taken_finds_no_place(books, tables, node, message)? {
         return Ok(Some(StepFault::NoPlace));
     }
-    if late_finds_no_place(books, tables, node, link, message)? {
+    if late_finds_no_place(books, tables, node, link, message) {
         return Ok(Some(StepFault::NoPlace));
     }
     Ok(None)

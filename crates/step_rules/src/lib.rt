@@ -19,7 +19,7 @@ pub use lending::Lending;
 pub use limits::{Limits, is_due_again};
 pub use links::{LinkStates, are_linked, first_up, first_up_between, is_link_of, joins, ticks_by};
 pub use places::{
-    day, has_issuer, is_at_home, is_attached, is_home, is_named, issuer_of, may_not_borrow,
-    node_id, padded_node_id, route_links, single, stand_in_of,
+    card_number_of, day, has_issuer, is_at_home, is_attached, is_home, is_home_of, is_named,
+    issuer_of, links_of, may_not_borrow, node_id, padded_node_id, route_links, single, stand_in_of,
 };
 pub use required::{missing_entered, missing_taken, required_entered, required_taken};

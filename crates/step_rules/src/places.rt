@@ -11,7 +11,7 @@ ghost use Rattle.net_rows.specs.Network.{issuer, stand_in, day};
 ghost use Rattle.network_law.specs.Cards.{card_of};
 ghost use Rattle.network_law.specs.Refusals.{may_not_borrow};
 ghost use Rattle.network_law.specs.Tables.{is_attached, is_home, is_named, node_id, route_links, single};
-ghost use Rattle.network_law.specs.Traces.{is_at_home};
+ghost use Rattle.network_law.specs.Traces.{home_is, is_at_home};
 
 use card_digits::{Amount, Card, LinkNo, NodeNo, pad11};
 use iso_message::{Message, bytes_of};
@@ -19,9 +19,9 @@ use message_elements::elements;
 use net_rows::{Issuer, StandIn, Tables};
 use network_law::Grant;
 
-/// The card number of a message (element 2), none where it is absent.
+/// The card number of a message (element 2), nothing where it is absent.
 #[tactic(auto, unfolding(network_law::specs::Cards::card_of))]
-fn number_of(message: &Message) -> &[u8]
+pub fn card_number_of(message: &Message) -> &[u8]
     ensures card { digits_of result.now ≡ card_of message.now }
     ensures digits { list_all is_ascii_digit result.now ≡ true }
 {
@@ -34,7 +34,7 @@ fn number_of(message: &Message) -> &[u8]
 pub fn issuer_of<'t>(tables: &'t Tables, message: &Message) -> Option<&'t Issuer>
     ensures { option_copied result ≡ issuer tables.now (card_of message.now) }
 {
-    tables.issuer_of_number(number_of(message))
+    tables.issuer_of_number(card_number_of(message))
 }
 
 /// Whether a message's card has an issuer.
@@ -51,18 +51,26 @@ pub fn has_issuer(tables: &Tables, message: &Message) -> bool
 pub fn stand_in_of<'t>(tables: &'t Tables, node: NodeNo, message: &Message) -> Option<&'t StandIn>
     ensures { option_copied result ≡ stand_in tables.now node (card_of message.now) }
 {
-    tables.stand_in_of_number(node, number_of(message))
+    tables.stand_in_of_number(node, card_number_of(message))
 }
 
-/// The links of the node's route row for a message's card, in the row's order, and none without a row.
+/// The links of the node's route row for the card of this number, in the row's order, and none without a row.
 #[tactic(auto, unfolding(network_law::specs::Tables::route_links))]
-pub fn route_links<'t>(tables: &'t Tables, node: NodeNo, message: &Message) -> &'t [LinkNo]
-    ensures { result.now ≡ route_links tables.now node (card_of message.now) }
+pub fn links_of<'t>(tables: &'t Tables, node: NodeNo, number: &[u8]) -> &'t [LinkNo]
+    requires { list_all is_ascii_digit number.now ≡ true }
+    ensures { result.now ≡ route_links tables.now node (digits_of number.now) }
 {
-    match tables.route_of_number(node, number_of(message)) {
+    match tables.route_of_number(node, number) {
         Some(row) => row.links.as_slice(),
         None => &[],
     }
+}
+
+/// The same for a message's card.
+pub fn route_links<'t>(tables: &'t Tables, node: NodeNo, message: &Message) -> &'t [LinkNo]
+    ensures { result.now ≡ route_links tables.now node (card_of message.now) }
+{
+    links_of(tables, node, card_number_of(message))
 }
 
 /// The most that the node may approve by itself in one amount for a message's card.
@@ -92,14 +100,22 @@ pub fn is_home(issuer: &Issuer, node: NodeNo) -> bool
     issuer.home == node
 }
 
+/// Whether the node is the home of the card of this number.
+pub fn is_home_of(tables: &Tables, node: NodeNo, number: &[u8]) -> bool
+    requires { list_all is_ascii_digit number.now ≡ true }
+    ensures { result ≡ home_is node (issuer tables.now (digits_of number.now)) }
+{
+    match tables.issuer_of_number(number) {
+        Some(issuer) => is_home(issuer, node),
+        None => false,
+    }
+}
+
 /// Whether the node is the home of a message's card.
 pub fn is_at_home(tables: &Tables, node: NodeNo, message: &Message) -> bool
     ensures { result ≡ is_at_home tables.now node message.now }
 {
-    match issuer_of(tables, message) {
-        Some(issuer) => is_home(issuer, node),
-        None => false,
-    }
+    is_home_of(tables, node, card_number_of(message))
 }
 
 /// Whether a card's issuer lets the node approve by itself.

@@ -15,7 +15,7 @@ use message_keys::code_of;
 use net_rows::Tables;
 use pending_book::Row;
 use std::alloc::AllocError;
-use step_draft::{Advice, Draft};
+use step_draft::Draft;
 use step_refusals::comes_late;
 use step_rules::as_code;
 
@@ -31,10 +31,9 @@ fn take_back(
     ensures base { draft.new.base ≡ draft.old.base }
     ensures ok { OnOk result (progress draft.new ≡ keep tables.now node (view tables.now node draft.old.base) (made_reversal request.now (node_id tables.now node)) (store tables.now node true (made_reversal request.now (node_id tables.now node)) (view tables.now node draft.old.base).count false (progress draft.old))) }
 {
-    let reversal = Advice::reversal(tables, node, key, request)?;
-    let copy = reversal.copy()?;
+    let reversal = draft.reversal(tables, node, key, request)?;
     let count = draft.books().count();
-    draft.store_made(tables, node, copy, count, false)?;
+    draft.store_made(tables, node, &reversal, count, false)?;
     draft.keep(tables, node, &reversal)
 }
 

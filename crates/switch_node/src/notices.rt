@@ -16,7 +16,7 @@ use message_elements::{Code, response_codes};
 use message_keys::{AdviceId, actual_amount};
 use net_rows::Tables;
 use std::alloc::AllocError;
-use step_draft::{Advice, Draft};
+use step_draft::Draft;
 use step_refusals::other_content;
 use step_rules::{has_good_card, has_issuer};
 
@@ -45,11 +45,12 @@ fn accept(
     ensures base { draft.new.base ≡ draft.old.base }
     ensures ok { OnOk result (progress draft.new ≡ accept tables.now node (view tables.now node draft.old.base) m.now (source_of source) (progress draft.old)) }
 {
-    draft.respond(source, id.key, m, Code::new(response_codes::APPROVED))?;
+    let kept = draft.kept(m)?;
+    let approved = Code::new(response_codes::APPROVED);
+    draft.respond_to(source, id.key, m, &kept, approved)?;
     let count = draft.count_now();
-    let advice = Advice::kept(id, m)?;
-    let copy = advice.copy()?;
-    draft.store_accepted(tables, node, copy, left_by(m), count)?;
+    let advice = draft.kept_advice(id, m, &kept)?;
+    draft.store_accepted(tables, node, &advice, left_by(m), count)?;
     draft.keep(tables, node, &advice)
 }
 

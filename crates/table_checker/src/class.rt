@@ -1,6 +1,10 @@
 //! The rules that go by class.
-ghost use Rattle.std.specs.Prelude.{◌≡◌, ◌≤◌, [], length, Some, None};
+ghost use Rattle.std.specs.Prelude.{◌≡◌, ◌≤◌, [], length, Some, None, ◌&&◌, ◌==◌};
 ghost use Rattle.std.specs.Option.{option_or};
+ghost use Rattle.net_rows.specs.Network.{day as day_of};
+ghost use Rattle.network_law.specs.Checked.{sum_below};
+ghost use Rattle.std.specs.List.{list_any};
+ghost use Rattle.std.specs.Cmp.Lexicographic.{pointwise};
 
 use crate::refusal::{Kind, Refusal};
 use card_digits::{Amount, NodeNo, Prefix};
@@ -142,12 +146,6 @@ impl At<'_> {
         None
     }
 }
-
-ghost use Rattle.net_rows.specs.Network.{day as day_of};
-ghost use Rattle.network_law.specs.Checked.{sum_below};
-ghost use Rattle.std.specs.Prelude.{◌&&◌, ◌==◌};
-ghost use Rattle.std.specs.List.{list_any};
-ghost use Rattle.std.specs.Cmp.Lexicographic.{pointwise};
 
 fn has_route(rows: &[Route], node: NodeNo, prefix: &Prefix) -> bool
     ensures { result ≡ list_any (λ r. (r.node == node) && pointwise ◌==◌ r.prefix prefix.now) rows.now }

@@ -1,5 +1,5 @@
 //! The first refusal of each kind.
-ghost use Rattle.std.specs.Prelude.{◌≡◌, None};
+ghost use Rattle.std.specs.Prelude.{◌≡◌, None, Some};
 ghost use Rattle.std.specs.Option.{option_or};
 ghost use Rattle.table_checker.specs.Firsts.{of_kind};
 ghost use Rattle.table_checker.specs.Rules.{refusal_at, kind_refusal, kinds};
@@ -142,5 +142,3 @@ impl Firsts {
         }
     }
 }
-
-ghost use Rattle.std.specs.Prelude.{Some};

@@ -1,7 +1,7 @@
 //! What was looked up at a class, and what of it is kept for the next.
-ghost use Rattle.std.specs.Prelude.{◌≡◌, ◌≤◌, true};
+ghost use Rattle.std.specs.Prelude.{◌≡◌, ◌≤◌, true, Some, slice_get, slice_set};
 ghost use Rattle.net_rows.specs.Network.{Network};
-ghost use Rattle.table_checker.specs.Known.{AreFalling, IsCodeOf};
+ghost use Rattle.table_checker.specs.Known.{AreFalling, IsCodeOf, code_at, code_of};
 
 use crate::trail::Trail;
 use card_digits::{MOST_NODES, NodeNo};
@@ -84,6 +84,3 @@ fn code_of(rank: Option<u16>) -> u32
         None => NO_RANK,
     }
 }
-
-ghost use Rattle.std.specs.Prelude.{Some, slice_get, slice_set};
-ghost use Rattle.table_checker.specs.Known.{code_at, code_of};

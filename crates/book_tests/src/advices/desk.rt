@@ -1,6 +1,10 @@
 //! A store in which advices are sent again after three ticks. Nothing is promised of these functions.
+ghost use Rattle.std.specs.Prelude.{◌≡◌};
+
+use crate::kept::kept;
 use advice_store::{KeptAdvice, NodeAdvices};
 use iso_message::{Message, decode};
+use kept_messages::KeptMessage;
 use message_keys::{AdviceId, advice_id};
 use std::alloc::{AllocError, Global};
 
@@ -50,9 +54,11 @@ fn ticks() -> u16 {
 }
 
 #[tactic(auto, using(crate::proofs::Found::known_identity))]
-fn kept(message: Message, count: u64) -> Option<KeptAdvice> {
-    let id = advice_id(&message)?;
-    Some(KeptAdvice::new(id, message, count, false))
+fn stored(message: &Message, kept: KeptMessage, count: u64) -> Option<KeptAdvice>
+    requires { kept ≡ message.now }
+{
+    let id = advice_id(message)?;
+    Some(KeptAdvice::new(id, kept, count, false))
 }
 
 impl Desk {
@@ -75,7 +81,8 @@ impl Desk {
     }
 
     fn keep_at(&mut self, message: Message, count: u64) -> Result<bool, AllocError> {
-        match kept(message, count) {
+        let kept = kept(self.alloc, &message)?;
+        match stored(&message, kept, count) {
             Some(advice) => self.keep(advice),
             None => Ok(false),
         }

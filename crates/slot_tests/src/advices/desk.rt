@@ -89,7 +89,10 @@ impl Desk {
 
     /// Whether storing an advice answers this; what comes back is the advice.
     fn stores(&mut self, number: u32, wanted: Option<StoreFault>) -> bool {
-        match self.store.store(advice(self.alloc, number), false) {
+        let Ok(advice) = advice(self.alloc, number) else {
+            return false;
+        };
+        match self.store.store(advice, false) {
             Ok(()) => wanted.is_none(),
             Err((fault, back)) => wanted == Some(fault) && back.id == id(number),
         }
@@ -107,7 +110,9 @@ impl Desk {
 
     /// Whether so many places are reserved, and an advice is stored on one of them.
     fn stores_reserved(&mut self, count: u32, number: u32) -> bool {
-        let advice = advice(self.alloc, number);
+        let Ok(advice) = advice(self.alloc, number) else {
+            return false;
+        };
         reserve_and_store(&mut self.store, count, advice).is_ok()
     }
 

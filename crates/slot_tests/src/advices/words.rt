@@ -2,10 +2,12 @@
 use crate::requests::words::key;
 use advice_store::{Advice, Grant, ItemName};
 use card_digits::{Amount, Card, DateLabel, DigitFault};
-use iso_message::Message;
+use iso_message::{Message, encode};
+use kept_messages::KeptMessage;
 use message_elements::Kind;
 use message_keys::{AdviceId, AdviceKind};
-use std::alloc::Global;
+use shared_bytes::SharedBytes;
+use std::alloc::{AllocError, Global};
 
 /// What a test names an item by.
 #[derive(Clone, Copy)]
@@ -38,12 +40,21 @@ pub(crate) fn item_name(wanted: Name) -> ItemName {
     }
 }
 
-pub(crate) fn advice(alloc: Global, number: u32) -> Advice {
-    Advice {
+/// A message without elements, as the store keeps it.
+fn message(alloc: Global) -> Result<KeptMessage, AllocError> {
+    let message = Message::new(alloc, Kind::K0120);
+    let bytes = encode(alloc, &message)?;
+    let shared = SharedBytes::from_vec(alloc, bytes)?;
+    Ok(KeptMessage::new(&message, shared))
+}
+
+pub(crate) fn advice(alloc: Global, number: u32) -> Result<Advice, AllocError> {
+    let message = message(alloc)?;
+    Ok(Advice {
         id: id(number),
-        message: Message::new(alloc, Kind::K0120),
+        message,
         put: false,
-    }
+    })
 }
 
 pub(crate) fn grant(number: u64) -> Result<Grant, DigitFault> {

@@ -1,4 +1,4 @@
-use Rattle.std.proofs.Common.{◌≡◌, ◌++◌, Bool, true, Ok, ap, ◌∙◌}
+use Rattle.std.proofs.Common.{◌≡◌, ◌++◌, Bool, Ok, ap, ◌∙◌}
 use Rattle.iso_message.specs.Fields.{Fields}
 use Rattle.iso_message.specs.Made.{response}
 use Rattle.iso_message.specs.Spelling.{spelling, IsMessage}

@@ -8,7 +8,7 @@ use Rattle.step_draft.proofs.draft.Draft.send_item.Goals as goal
 pub returns-in-Advice-clause-ok : goal.returns-in-Advice-clause-ok
 returns-in-Advice-clause-ok c =
     let item = ap case_of (sym c.in-Advice.is) ∙ c.into_case.ensures in
-    on_ok c.send_message.result (λ f. f ∙ advice_again c.args.tables.now c.args.node c.in-Advice.advice c.into_message-message.result c.args.item (progress c.args.self.now) c.into_message-message.ensures item) c.send_message.ensures.ok
+    on_ok c.send_message.result (λ f. f ∙ advice_again c.args.tables.now c.args.node c.in-Advice.advice c.message-message.result.now c.args.item (progress c.args.self.now) c.message-message.ensures item) c.send_message.ensures.ok
 
 pub returns-in-Grant-clause-ok : goal.returns-in-Grant-clause-ok
 returns-in-Grant-clause-ok c =

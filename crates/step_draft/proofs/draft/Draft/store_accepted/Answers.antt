@@ -1,6 +1,15 @@
-use Rattle.std.proofs.Common.{false}
-use Rattle.step_draft.proofs.Parts.{on_ok, stored_is}
+use Rattle.std.proofs.Common.{◌≡◌, ap, ◌∙◌, false}
+use Rattle.iso_message.specs.Fields.{Fields}
+use Rattle.node_books.specs.Values.{NewAdvice}
+use Rattle.step_draft.proofs.Parts.{on_ok, stored_is, home_at}
 use Rattle.step_draft.proofs.draft.Draft.store_accepted.Goals as goal
 
 pub returns-clause-ok : goal.returns-clause-ok
-returns-clause-ok c = on_ok c.change.result (stored_is c.args.tables.now c.args.node false c.args.advice.message c.args.count false c.is_at_home-home.result c.args.self.now c.change.new.self c.accepted.result c.accepted.ensures c.is_at_home-home.ensures) c.change.ensures.ok
+returns-clause-ok c =
+    let t = c.args.tables.now in
+    let n = c.args.node in
+    let m = c.args.advice.now.message in
+    let home = c.is_home_of-home.result in
+    let advice : Fields → NewAdvice = λ x. record { message = x; count = c.args.count; own = false; home = home; put = false } in
+    let is : c.accepted.result ≡ advice m = c.accepted.ensures ∙ ap advice c.in_ok-message.ensures in
+    on_ok c.change.result (stored_is t n false m c.args.count false home c.args.self.now c.change.new.self c.accepted.result is (home_at t n m c.args.advice.now.card.now home c.args.advice.now.carded c.is_home_of-home.ensures)) c.change.ensures.ok
