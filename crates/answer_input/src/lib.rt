@@ -4,5 +4,5 @@
 mod of_tables;
 mod question;
 
-pub use of_tables::{TablesQuestion, tables_answer};
+pub use of_tables::tables_answer;
 pub use question::{Question, run_answer};

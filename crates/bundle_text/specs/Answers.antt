@@ -59,6 +59,21 @@ status_code Done = 0
 status_code Refused = 1
 status_code Fault = 2
 
+-- the first fault of tables and ranks, or an answer to them
+abbrev pub IsOfRead : (Network → List Rank → Said → Type 0) → Result Network TableFault → Result (List Rank) CertFault → Said → Type 0
+IsOfRead IsAnswer (Err e) ranks said = said ≡ fault (table_fault_line e)
+IsOfRead IsAnswer (Ok t) (Err e) said = said ≡ fault (cert_fault_line e)
+IsOfRead IsAnswer (Ok t) (Ok cert) said = IsAnswer t cert said
+
+-- the refusal of tables, or an answer to accepted ones
+abbrev pub IsOfChecked : (Network → Said → Type 0) → Network → Option Refusal → Said → Type 0
+IsOfChecked IsAnswer t (Some r) said = said ≡ verdict t (Some r)
+IsOfChecked IsAnswer t None said = IsAnswer t said
+
+-- the first fault of tables and ranks, the refusal of the tables, or an answer to accepted ones
+abbrev pub IsOfAccepted : (Network → Said → Type 0) → Result Network TableFault → Result (List Rank) CertFault → Said → Type 0
+IsOfAccepted IsAnswer = IsOfRead (λ t cert. IsOfChecked IsAnswer t (first_refusal t cert))
+
 -- a line that names memory
 abbrev pub NamesMemory : Said → Type 0
 NamesMemory said = (said ≡ fault (codes "fault tables 8 memory\n")) ⊎ ((said ≡ fault (codes "fault ranks 6 memory\n")) ⊎ (said ≡ check_memory))

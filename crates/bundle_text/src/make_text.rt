@@ -6,10 +6,11 @@ ghost use Rattle.bundle_text.specs.Lines.{circle_line};
 ghost use Rattle.bundle_text.specs.Answers.{IsMade, IsMadeOf, IsMadeOfParts, MakeAnswers, NamesMemory};
 
 use crate::answer::{Answer, Status};
-use crate::check_text::{fault_answer, parts_fault};
+use crate::check_text::parts_fault;
 use crate::faults::table_fault_line;
 use crate::input_parts::{parts, without_carriage_returns};
 use crate::names::NamedNodes;
+use crate::ranked::fault_answer;
 use card_digits::{NodeNo, Prefix};
 use net_rows::Tables;
 use net_tables::read_tables;

@@ -7,8 +7,8 @@ ghost use Rattle.card_json.specs.CardJson.{card_data};
 ghost use Rattle.card_json.specs.Answers.{CardAnswers, IsJsonOf, json_of, said_with};
 
 use crate::card::card_value;
-use answer_input::{TablesQuestion, tables_answer};
-use bundle_text::{Answer, Status, check_memory_answer};
+use answer_input::tables_answer;
+use bundle_text::{Answer, Status, TablesQuestion, check_memory_answer};
 use card_digits::Card;
 use card_view::CardView;
 use net_rows::Tables;

@@ -50,6 +50,10 @@ NamesTraceMemory said = NamesMemory said ⊎ ((e : TraceFault) × (names_memory 
 abbrev pub AnswersTrace : Said → Said → Type 0
 AnswersTrace said wanted = (said ≡ wanted) ⊎ NamesTraceMemory said
 
+-- an answer to accepted tables
+abbrev pub IsTable : Network → Option (List ℕ) → List ℕ → Said → Type 0
+IsTable t script trace said = AnswersTrace said (table_said (table_in t script trace))
+
 -- an answer to an input
 abbrev pub IsTraceAnswer : List ℕ → Said → Type 0
 IsTraceAnswer input said = AnswersTrace said (trace_said input)

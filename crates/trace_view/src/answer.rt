@@ -1,11 +1,10 @@
 //! The answer to an input.
-ghost use Rattle.std.specs.Prelude.{◌≡◌, IfOk, map, Ok, None};
+ghost use Rattle.std.specs.Prelude.{◌≡◌, IfOk, map, None};
 ghost use Rattle.std.specs.Option.{option_copied};
 ghost use Rattle.card_digits.specs.Lines.{lines};
 ghost use Rattle.net_tables.specs.Reading.{tables_in};
 ghost use Rattle.rank_cert.specs.Reading.{cert_in};
-ghost use Rattle.table_checker.specs.Rules.{first_refusal};
-ghost use Rattle.trace_view.specs.Answers.{AnswersTrace, checked_said, read_said, table_said, trace_parts, trace_said};
+ghost use Rattle.trace_view.specs.Answers.{AnswersTrace, IsTable, read_said, table_said, trace_parts, trace_said};
 ghost use Rattle.trace_view.specs.Inputs.{lines_now};
 ghost use Rattle.trace_view.specs.Rows.{heading};
 ghost use Rattle.trace_view.specs.Table.{rows_onto, table_in};
@@ -15,14 +14,12 @@ use crate::inputs::lines_of;
 use crate::rows::heading;
 use crate::table::add_rows;
 use bundle_text::{
-    Answer, Status, cert_fault_line, check_memory_answer, fault_answer, parts, parts_fault,
-    refused_answer, table_fault_line, without_carriage_returns,
+    AcceptedQuestion, Answer, Status, accepted_answer, fault_answer, parts, parts_fault,
+    without_carriage_returns,
 };
 use net_rows::Tables;
-use net_tables::read_tables;
-use rank_cert::{Cert, read_cert};
 use std::alloc::{AllocError, Global};
-use table_checker::{Refusal, check};
+use table_checker::Accepted;
 
 /// The table of a trace, or its first fault.
 #[tactic(auto, using(card_digits::proofs::Attempts::fails_either))]
@@ -59,40 +56,28 @@ fn table(
     }
 }
 
-/// The refusal of tables, or the table of their trace.
-fn of_checked(
-    alloc: Global,
-    tables: &Tables,
-    cert: &Cert,
-    script: Option<&[u8]>,
-    trace: &[u8],
-) -> Result<Answer, AllocError>
-    ensures { IfOk result (λ a. AnswersTrace a (checked_said tables.now (first_refusal tables.now cert.now) (option_copied script.entry) trace.now)) }
-{
-    match check(alloc, tables, cert) {
-        Ok(_) => table(alloc, tables, script, trace),
-        Err(Refusal::Memory) => check_memory_answer(alloc),
-        Err(refusal) => refused_answer(alloc, tables, &refusal),
-    }
+/// The table of a trace is asked for, with its script or without.
+#[derive(Clone, Copy)]
+struct TraceQuestion<'a> {
+    script: Option<&'a [u8]>,
+    trace: &'a [u8],
 }
 
-/// The first fault of the ranks, or the answer to the trace.
-fn of_ranked(
-    alloc: Global,
-    tables: &Tables,
-    ranks: &[u8],
-    script: Option<&[u8]>,
-    trace: &[u8],
-) -> Result<Answer, AllocError>
-    ensures { IfOk result (λ a. AnswersTrace a (read_said (Ok tables.now) (cert_in ranks.now) (option_copied script.entry) trace.now)) }
-{
-    match read_cert(alloc, ranks) {
-        Ok(cert) => of_checked(alloc, tables, &cert, script, trace),
-        Err(e) => Ok(fault_answer(cert_fault_line(alloc, e)?)),
+impl AcceptedQuestion for TraceQuestion<'_> {
+    ghost is_answer_to = { λ asked t. IsTable t (option_copied asked.script) asked.trace.now };
+
+    fn answer_to(
+        &self,
+        alloc: Global,
+        tables: &Tables,
+        _accepted: &Accepted<'_>,
+    ) -> Result<Answer, AllocError> {
+        table(alloc, tables, self.script, self.trace)
     }
 }
 
 /// The first fault of tables and ranks, or the answer to the trace.
+#[tactic(auto, using(crate::proofs::Tables::of_read))]
 fn of_read(
     alloc: Global,
     tables: &[u8],
@@ -102,10 +87,7 @@ fn of_read(
 ) -> Result<Answer, AllocError>
     ensures { IfOk result (λ a. AnswersTrace a (read_said (tables_in tables.now) (cert_in ranks.now) (option_copied script.entry) trace.now)) }
 {
-    match read_tables(alloc, tables) {
-        Ok(tables) => of_ranked(alloc, &tables, ranks, script, trace),
-        Err(e) => Ok(fault_answer(table_fault_line(alloc, e)?)),
-    }
+    accepted_answer(alloc, &TraceQuestion { script, trace }, tables, ranks)
 }
 
 #[tactic(auto, using(crate::proofs::Parts::others, bundle_text::proofs::Pairs::three, crate::proofs::Parts::four))]
