@@ -1,5 +1,5 @@
 -- Small networks, messages and traces, by which the definitions are tried.
-use Rattle.std.specs.Prelude.{ℕ, zero, suc, List, [], ◌∷◌, ◌++◌, replicate, codes, Option, Some}
+use Rattle.std.specs.Prelude.{ℕ, zero, suc, ◌≡◌, List, [], ◌∷◌, ◌++◌, replicate, codes, Option, Some}
 use Rattle.message_elements.specs.declared.kind.Kind.{Kind}
 use Rattle.message_elements.specs.declared.kind.Kind.TheVariants.{K0100, K0110, K0120, K0130, K0400, K0410, K0420, K0430}
 use Rattle.iso_message.specs.Fields.{Fields}
@@ -10,7 +10,7 @@ use Rattle.net_rows.specs.declared.row.Link.{Link}
 use Rattle.net_rows.specs.declared.row.Route.{Route}
 use Rattle.network_law.specs.declared.grant.GrantPacket.{GrantPacket}
 use Rattle.network_law.specs.declared.grant.GrantPacket.TheVariants as packets
-use Rattle.network_law.specs.Traces.{ReadInput, Enter, Take, TakePacket, LinkUp, LinkDown, Tick, HostAnswer, Lend, ReadOutput, Put, PutPacket, Answer, Ask, Post, History}
+use Rattle.network_law.specs.Traces.{ReadInput, Enter, Take, TakePacket, LinkUp, LinkDown, Tick, HostAnswer, Lend, ReadOutput, Put, PutPacket, Answer, Ask, Post, History, load, used}
 use Rattle.network_law.specs.Decision.{decide}
 use Rattle.network_law.specs.Entries.{ReadEntry, newest_outputs}
 
@@ -209,18 +209,23 @@ four_dollars = codes "000000000400"
 abbrev pub one_cent : List ℕ
 one_cent = codes "000000000001"
 
--- lent amounts
+-- the tables' date, and the next day
 
-abbrev date : List ℕ
-date = 0 ∷ 3 ∷ 1 ∷ 4 ∷ []
+abbrev pub march_14 : List ℕ
+march_14 = 0 ∷ 3 ∷ 1 ∷ 4 ∷ []
+
+abbrev pub march_15 : List ℕ
+march_15 = 0 ∷ 3 ∷ 1 ∷ 5 ∷ []
+
+-- lent amounts
 
 -- A is to lend so much to B
 abbrev pub lend_to_b : ℕ → ReadInput
-lend_to_b amount = Lend 1 card_number date amount
+lend_to_b amount = Lend 1 card_number march_14 amount
 
 -- and its first grant says so
 abbrev pub granted : ℕ → GrantPacket
-granted amount = packets.Grant (record { lender = codes "00000001001"; number = 1; borrower = codes "00000001003"; card = card_number; date = date; amount = amount })
+granted amount = packets.Grant (record { lender = codes "00000001001"; number = 1; borrower = codes "00000001003"; card = card_number; date = march_14; amount = amount })
 
 abbrev pub received : GrantPacket
 received = packets.Ack (codes "00000001001") 1
@@ -237,6 +242,22 @@ history_after t n (i ∷ is) = decide t n (history_after t n is) i
 unfoldable pub outputs_after : Network → ℕ → List ReadInput → List ReadOutput
 unfolding history_after
 outputs_after t n is = newest_outputs (history_after t n is)
+
+-- the places that are taken after them
+abbrev pub load_after : Network → ℕ → List ReadInput → ℕ
+load_after t n is = load t n (history_after t n is)
+
+-- what the node's own approvals use of the card's limit of a date after them
+abbrev pub used_after : Network → ℕ → List ReadInput → List ℕ → ℕ
+used_after t n is date = used t n (history_after t n is) card_number date
+
+-- after these inputs a message that an acquirer enters at A is answered by this response, and nothing else is put out
+abbrev pub EnteredIsAnswered : Network → List ReadInput → Fields → Fields → Type 0
+EnteredIsAnswered t is message response = outputs_after t 0 (Enter message ∷ is) ≡ Answer response ∷ []
+
+-- the first message that H takes from A in the base network is answered by this response, and nothing else is put out
+abbrev pub TakenIsAnswered : Fields → Fields → Type 0
+TakenIsAnswered message response = outputs_after base 1 (Take 0 1 message ∷ []) ≡ Put 0 1 response ∷ []
 
 -- so many ticks after these inputs
 abbrev pub ticks : ℕ → List ReadInput → List ReadInput

@@ -29,6 +29,10 @@ bytes_at_a = entry (Take 0 1 answered_bytes) (Answer answered_bytes ∷ []) ∷ 
 abbrev pub bytes_at_h : List Entry
 bytes_at_h = entry (HostAnswer 1 (codes "00")) (Put 0 1 answered_bytes ∷ []) ∷ entry (Take 0 1 forwarded_bytes) (Ask 1 forwarded_bytes ∷ []) ∷ []
 
+-- the first grant of a node, of 100
+abbrev pub grant_bytes : Bytes
+grant_bytes = codes "GRNT0000000100100000000010000000100316411111111111111103140000000001" ++ codes "00"
+
 -- what acknowledges the first grant of a node
 abbrev pub grant_received : Bytes
 grant_received = codes "GACK" ++ codes "00000001001" ++ codes "0000000001"

@@ -6,15 +6,16 @@ ghost use Rattle.network_law.specs.declared.fault.StepFault.TheVariants.{Decode,
 ghost use Rattle.iso_message.specs.Spelling.{spelling};
 ghost use Rattle.network_law.specs.Entries.{Input, Enter, Take, LinkUp, Entry};
 ghost use Rattle.network_law.specs.Runs.{IsLegal, step_refusal};
-ghost use Rattle.law_evidence.specs.Worked.{base, lenders, entered, forwarded, answered, one, ten_dollars};
+ghost use Rattle.law_evidence.specs.Worked.{base, lenders};
 ghost use Rattle.law_evidence.specs.WorkedBytes.{request_bytes, forwarded_bytes, answered_bytes, bytes_at_a, bytes_at_h, grant_received};
+ghost use Rattle.law_evidence.specs.WorkedRequest.{approval, forwarded_request, request};
 
 /// A request is read from its bytes, forwarded, asked, approved and answered, byte for byte as the first example prints it.
 pub fn worked_bytes()
-    ensures request { spelling (entered one ten_dollars) ≡ request_bytes }
-    ensures forwarded { spelling (forwarded one ten_dollars) ≡ forwarded_bytes }
-    ensures answered { spelling (answered one ten_dollars (codes "00")) ≡ answered_bytes }
-    ensures read { read request_bytes ≡ Ok (entered one ten_dollars) }
+    ensures request { spelling request ≡ request_bytes }
+    ensures forwarded { spelling forwarded_request ≡ forwarded_bytes }
+    ensures answered { spelling approval ≡ answered_bytes }
+    ensures read { read request_bytes ≡ Ok request }
     ensures at_a { IsLegal base 0 bytes_at_a }
     ensures at_h { IsLegal base 1 bytes_at_h }
 {}
