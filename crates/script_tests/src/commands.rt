@@ -26,9 +26,15 @@ fn says(tables: &Tables, text: &[u8], node: usize, word: &[u8]) -> bool {
     }
 }
 
-#[test]
-fn reads_each_command(rt: HostRuntime) -> Result<(), Fail> {
-    let tables = all_linked(rt.alloc())?;
+fn is_right(right: bool) -> Result<(), Fail> {
+    if right {
+        Ok(())
+    } else {
+        Err("a line is read otherwise".into())
+    }
+}
+
+fn each_command_is_read(tables: &Tables) -> bool {
     let cases: [(&[u8], usize, &[u8]); 12] = [
         (b"enter A 0100 rest", 0, b"0100 rest"),
         (b"enter B ", 1, b""),
@@ -44,14 +50,22 @@ fn reads_each_command(rt: HostRuntime) -> Result<(), Fail> {
         (b"lend A H 4111111111111111 0314 100", 0, b"lend"),
     ];
     for (text, node, word) in cases {
-        assert!(rt; says(&tables, text, node, word));
+        if !says(tables, text, node, word) {
+            return false;
+        }
     }
-    Ok(())
+    true
 }
 
 #[test]
-fn refuses_what_is_no_line(rt: HostRuntime) -> Result<(), Fail> {
-    let tables = all_linked(rt.alloc())?;
+fn reads_each_command(rt: HostRuntime) -> Result<(), Fail> {
+    match all_linked(rt.alloc()) {
+        Ok(tables) => is_right(each_command_is_read(&tables)),
+        Err(fail) => Err(fail),
+    }
+}
+
+fn none_is_read(tables: &Tables) -> bool {
     let cases: [&[u8]; 40] = [
         b"",
         b" ",
@@ -95,9 +109,19 @@ fn refuses_what_is_no_line(rt: HostRuntime) -> Result<(), Fail> {
         b"lend A H 4111111111111111 0314 1000000000000",
     ];
     for text in cases {
-        assert!(rt; read_line(&tables, text).is_none());
+        if read_line(tables, text).is_some() {
+            return false;
+        }
     }
-    Ok(())
+    true
+}
+
+#[test]
+fn refuses_what_is_no_line(rt: HostRuntime) -> Result<(), Fail> {
+    match all_linked(rt.alloc()) {
+        Ok(tables) => is_right(none_is_read(&tables)),
+        Err(fail) => Err(fail),
+    }
 }
 
 /// How many of a few lines are read before the first that is malformed, and the number of that, 0 where there is none.
@@ -113,14 +137,19 @@ fn first_malformed(tables: &Tables, text: &[u8]) -> (usize, usize) {
     (9, 0)
 }
 
+fn lines_are_numbered(tables: &Tables) -> bool {
+    first_malformed(tables, b"") == (0, 0)
+        && first_malformed(tables, b"tick A\ntick B") == (2, 0)
+        && first_malformed(tables, b"tick A\ntick B\n") == (2, 0)
+        && first_malformed(tables, b"\ntick A") == (0, 1)
+        && first_malformed(tables, b"tick A\n\ntick B") == (1, 2)
+        && first_malformed(tables, b"tick A\ntick B\r\n") == (1, 2)
+}
+
 #[test]
 fn numbers_the_lines(rt: HostRuntime) -> Result<(), Fail> {
-    let tables = all_linked(rt.alloc())?;
-    assert!(rt; first_malformed(&tables, b"") == (0, 0));
-    assert!(rt; first_malformed(&tables, b"tick A\ntick B") == (2, 0));
-    assert!(rt; first_malformed(&tables, b"tick A\ntick B\n") == (2, 0));
-    assert!(rt; first_malformed(&tables, b"\ntick A") == (0, 1));
-    assert!(rt; first_malformed(&tables, b"tick A\n\ntick B") == (1, 2));
-    assert!(rt; first_malformed(&tables, b"tick A\ntick B\r\n") == (1, 2));
-    Ok(())
+    match all_linked(rt.alloc()) {
+        Ok(tables) => is_right(lines_are_numbered(&tables)),
+        Err(fail) => Err(fail),
+    }
 }

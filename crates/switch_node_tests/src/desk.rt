@@ -13,22 +13,43 @@ use std::alloc::Global;
 use std::test::Fail;
 use step_rules::Lending;
 use switch_node::{Case, Input, Node, Outputs};
-use table_checker::check;
+use table_checker::{Accepted, check};
 
 fn tables_of(alloc: Global, text: &[u8]) -> Result<Tables, Fail> {
-    Ok(read_tables(alloc, text).ok().ok_or("tables")?)
+    match read_tables(alloc, text) {
+        Ok(tables) => Ok(tables),
+        Err(_) => Err("tables".into()),
+    }
 }
 
 fn sample_tables(alloc: Global, sample: Sample) -> Result<Tables, Fail> {
-    tables_of(alloc, sample.tables(alloc)?.as_bytes())
+    let text = sample.tables(alloc)?;
+    tables_of(alloc, text.as_bytes())
 }
 
 fn ranks_of(alloc: Global, text: &[u8]) -> Result<Cert, Fail> {
-    Ok(read_cert(alloc, text).ok().ok_or("ranks")?)
+    match read_cert(alloc, text) {
+        Ok(cert) => Ok(cert),
+        Err(_) => Err("ranks".into()),
+    }
 }
 
 fn node_of(tables: &Tables, name: &str) -> Result<NodeNo, Fail> {
     Ok(tables.node_of(name.as_bytes()).ok_or("node")?)
+}
+
+fn node_of_accepted<'t>(
+    alloc: Global,
+    accepted: &Accepted<'t>,
+    place: NodeNo,
+) -> Result<Node<'t>, Fail> {
+    if place.place() >= accepted.tables().nodes().len() {
+        return Err("node".into());
+    }
+    match Node::new(alloc, accepted, place) {
+        Ok(node) => Ok(node),
+        Err(_) => Err("memory".into()),
+    }
 }
 
 /// A node of tables that the checker accepts with these ranks.
@@ -38,11 +59,8 @@ fn node_at<'t>(
     cert: &Cert,
     place: NodeNo,
 ) -> Result<Node<'t>, Fail> {
-    if place.place() >= tables.nodes().len() {
-        return Err("node".into());
-    }
     match check(alloc, tables, cert) {
-        Ok(accepted) => Ok(Node::new(alloc, &accepted, place)?),
+        Ok(accepted) => node_of_accepted(alloc, &accepted, place),
         Err(_) => Err("not accepted".into()),
     }
 }
@@ -65,14 +83,16 @@ impl<'t> Stepped<'t> {
         cert: &Cert,
         place: NodeNo,
     ) -> Result<Stepped<'t>, Fail> {
-        let node = node_at(alloc, tables, cert, place)?;
-        Ok(Stepped {
-            alloc,
-            node,
-            outputs: Outputs::new(),
-            fault: None,
-            named: 0,
-        })
+        match node_at(alloc, tables, cert, place) {
+            Ok(node) => Ok(Stepped {
+                alloc,
+                node,
+                outputs: Outputs::new(),
+                fault: None,
+                named: 0,
+            }),
+            Err(fail) => Err(fail),
+        }
     }
 
     /// Whether the test named all that came of the last input.
@@ -97,10 +117,10 @@ impl<'t> Stepped<'t> {
     }
 
     fn take(&mut self, link: LinkNo, serial: u64, text: &str) -> Result<(), Fail> {
-        let bytes = SharedBytes::from_slice(self.alloc, text.as_bytes())?;
         if !self.node.has_link(link) {
             return Err("another node's link".into());
         }
+        let bytes = SharedBytes::from_slice(self.alloc, text.as_bytes())?;
         let input = Input::new(Case::Take(link, serial, bytes));
         self.fault = self.node.step(input, &mut self.outputs).err();
         Ok(())
@@ -288,8 +308,10 @@ fn run_beside(
     node: &mut Stepped,
     steps: &[Step],
 ) -> Result<(), Fail> {
-    let mut twin = Stepped::new(alloc, tables, cert, place)?;
-    run_both(node, &mut twin, steps)
+    match Stepped::new(alloc, tables, cert, place) {
+        Ok(mut twin) => run_both(node, &mut twin, steps),
+        Err(fail) => Err(fail),
+    }
 }
 
 fn run_steps(
@@ -299,8 +321,10 @@ fn run_steps(
     place: NodeNo,
     steps: &[Step],
 ) -> Result<(), Fail> {
-    let mut node = Stepped::new(alloc, tables, cert, place)?;
-    run_beside(alloc, tables, cert, place, &mut node, steps)
+    match Stepped::new(alloc, tables, cert, place) {
+        Ok(mut node) => run_beside(alloc, tables, cert, place, &mut node, steps),
+        Err(fail) => Err(fail),
+    }
 }
 
 fn run_text(
@@ -322,8 +346,10 @@ fn run_on(
     name: &str,
     text: &'static str,
 ) -> Result<(), Fail> {
-    let cert = ranks_of(alloc, ranks)?;
-    run_text(alloc, tables, &cert, name, text)
+    match ranks_of(alloc, ranks) {
+        Ok(cert) => run_text(alloc, tables, &cert, name, text),
+        Err(fail) => Err(fail),
+    }
 }
 
 /// Fails at the first line of a test's text that the node of this name doesn't do, and where something is left over.
@@ -333,6 +359,8 @@ pub(crate) fn run(
     name: &str,
     text: &'static str,
 ) -> Result<(), Fail> {
-    let tables = sample_tables(alloc, sample)?;
-    run_on(alloc, &tables, sample.ranks().as_bytes(), name, text)
+    match sample_tables(alloc, sample) {
+        Ok(tables) => run_on(alloc, &tables, sample.ranks().as_bytes(), name, text),
+        Err(fail) => Err(fail),
+    }
 }

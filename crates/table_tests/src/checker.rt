@@ -10,7 +10,10 @@ use table_checker::{Refusal, check};
 
 fn ranks_of(alloc: Global, lines: &str) -> Result<Cert, Fail> {
     let text = format!(in alloc; "RANKS 1\n{lines}END\n")?;
-    Ok(read_cert(alloc, text.as_bytes()).ok().ok_or("ranks")?)
+    match read_cert(alloc, text.as_bytes()) {
+        Ok(cert) => Ok(cert),
+        Err(_) => Err("ranks".into()),
+    }
 }
 
 fn node(name: &str) -> Result<NodeNo, Fail> {
@@ -65,15 +68,38 @@ fn found(alloc: Global, tables: &Tables, cert: &Cert) -> Option<Refusal> {
     check(alloc, tables, cert).err()
 }
 
+fn is_said(
+    alloc: Global,
+    tables: &Tables,
+    cert: &Cert,
+    wanted: Option<Refusal>,
+) -> Result<(), Fail> {
+    if found(alloc, tables, cert) == wanted {
+        Ok(())
+    } else {
+        Err("the check says something else".into())
+    }
+}
+
+fn is_said_with(
+    alloc: Global,
+    tables: &Tables,
+    ranks: &str,
+    wanted: Option<Refusal>,
+) -> Result<(), Fail> {
+    match ranks_of(alloc, ranks) {
+        Ok(cert) => is_said(alloc, tables, &cert, wanted),
+        Err(fail) => Err(fail),
+    }
+}
+
 /// Fails where the check of tables with these rows and ranks says something else.
 fn says(alloc: Global, rows: &'static str, ranks: &str, text: &'static str) -> Result<(), Fail> {
     let wanted = wanted_in(alloc, text)?;
-    let tables = tables(alloc, rows)?;
-    let cert = ranks_of(alloc, ranks)?;
-    if found(alloc, &tables, &cert) != wanted {
-        return Err("the check says something else".into());
+    match tables(alloc, rows) {
+        Ok(tables) => is_said_with(alloc, &tables, ranks, wanted),
+        Err(fail) => Err(fail),
     }
-    Ok(())
 }
 
 #[test]

@@ -25,11 +25,11 @@ fn are_made(alloc: Global, tables: &Tables, wanted: &str) -> bool {
 
 /// Fails where other ranks are made.
 fn makes(alloc: Global, rows: &'static str, wanted: &str) -> Result<(), Fail> {
-    let tables = tables(alloc, rows)?;
-    if !are_made(alloc, &tables, wanted) {
-        return Err("other ranks".into());
+    match tables(alloc, rows) {
+        Ok(tables) if are_made(alloc, &tables, wanted) => Ok(()),
+        Ok(_) => Err("other ranks".into()),
+        Err(fail) => Err(fail),
     }
-    Ok(())
 }
 
 /// Whether the first circle that is found is this one.

@@ -29,7 +29,10 @@ fn toml_of(alloc: Global, rows: &'static str) -> Result<String, Fail> {
 /// The tables of the four nodes with these rows, one a line with its kind before it.
 pub(crate) fn tables(alloc: Global, rows: &'static str) -> Result<Tables, Fail> {
     let toml = toml_of(alloc, rows)?;
-    Ok(read_tables(alloc, toml.as_bytes()).ok().ok_or("tables")?)
+    match read_tables(alloc, toml.as_bytes()) {
+        Ok(tables) => Ok(tables),
+        Err(_) => Err("tables".into()),
+    }
 }
 
 pub(crate) fn prefix(text: &str) -> Result<Prefix, Fail> {

@@ -1,10 +1,9 @@
 //! What plans say.
-use crate::networks::{in_a_line, ranks_in_a_line, with_acquirers};
-use net_tables::Tables;
+use crate::networks::{Look, look_in_a_line};
 use run_plan::{Delay, LinkFaults, Plan, PlanFault, read_plan};
 use std::alloc::Global;
 use std::test::Fail;
-use table_checker::{Accepted, check};
+use table_checker::Accepted;
 
 fn read<'a>(alloc: Global, accepted: &Accepted<'_>, text: &'a str) -> Result<Plan<'a>, PlanFault> {
     read_plan(alloc, accepted, text.as_bytes())
@@ -96,14 +95,48 @@ fn right_parts(alloc: Global, accepted: &Accepted<'_>) -> Option<[bool; 5]> {
     ])
 }
 
+/// The whole plan is read as it is written.
+#[derive(Clone, Copy)]
+struct WholePlan;
+
+impl Look for WholePlan {
+    fn look(&self, alloc: Global, accepted: &Accepted<'_>) -> Result<(), Fail> {
+        if right_parts(alloc, accepted) == Some([true; 5]) {
+            Ok(())
+        } else {
+            Err("another plan".into())
+        }
+    }
+}
+
 #[test]
 fn a_whole_plan(rt: HostRuntime) -> Result<(), Fail> {
-    let alloc = rt.alloc();
-    let tables = in_a_line(alloc)?;
-    let ranks = ranks_in_a_line(alloc)?;
-    let accepted = check(alloc, &tables, &ranks).ok().ok_or("not accepted")?;
-    assert_eq!(rt; right_parts(alloc, &accepted), Some([true; 5]));
-    Ok(())
+    look_in_a_line(rt.alloc(), "", &WholePlan)
+}
+
+/// The fault of a plan, if it has one.
+fn fault_of(alloc: Global, accepted: &Accepted<'_>, text: &str) -> Option<PlanFault> {
+    read(alloc, accepted, text).err()
+}
+
+/// The first text is a plan, and the other has this fault.
+#[derive(Drop)]
+struct Limit {
+    most: String,
+    more: String,
+    fault: PlanFault,
+}
+
+impl Look for Limit {
+    fn look(&self, alloc: Global, accepted: &Accepted<'_>) -> Result<(), Fail> {
+        if fault_of(alloc, accepted, self.most.as_str()).is_some() {
+            return Err("no plan".into());
+        }
+        if fault_of(alloc, accepted, self.more.as_str()) != Some(self.fault) {
+            return Err("another fault, or none".into());
+        }
+        Ok(())
+    }
 }
 
 /// A plan of one session with so many messages.
@@ -119,25 +152,23 @@ fn of_messages(alloc: Global, count: usize) -> Result<String, Fail> {
 #[test]
 fn messages_of_a_session(rt: HostRuntime) -> Result<(), Fail> {
     let alloc = rt.alloc();
-    let tables = in_a_line(alloc)?;
-    let ranks = ranks_in_a_line(alloc)?;
-    let accepted = check(alloc, &tables, &ranks).ok().ok_or("not accepted")?;
-    let most = of_messages(alloc, 10_000)?;
-    assert!(rt; read(alloc, &accepted, most.as_str()).is_ok());
-    let more = of_messages(alloc, 10_001)?;
-    let fault = read(alloc, &accepted, more.as_str()).err();
-    assert_eq!(rt; fault, Some(PlanFault::Line(10_005)));
-    Ok(())
+    let limit = Limit {
+        most: of_messages(alloc, 10_000)?,
+        more: of_messages(alloc, 10_001)?,
+        fault: PlanFault::Line(10_005),
+    };
+    look_in_a_line(alloc, "", &limit)
 }
 
-/// Tables with so many more acquirers at the first node, from 1 on.
-fn of_acquirers(alloc: Global, count: usize) -> Result<Tables, Fail> {
+/// The rows of so many acquirers at the first node, from 1 on.
+fn acquirers(alloc: Global, count: usize) -> Result<String, Fail> {
     let mut rows = String::new(alloc);
     for id in 0..count {
         let id = id + 1;
-        rows.push_str(format!(in alloc; "[[acquirer]]\nid = \"{id}\"\nnode = \"A\"\n")?.as_str())?;
+        let row = format!(in alloc; "[[acquirer]]\nid = \"{id}\"\nnode = \"A\"\n")?;
+        rows.push_str(row.as_str())?;
     }
-    with_acquirers(alloc, rows.as_str())
+    Ok(rows)
 }
 
 /// A plan with a session of each of so many acquirers.
@@ -145,7 +176,8 @@ fn of_sessions(alloc: Global, count: usize) -> Result<String, Fail> {
     let mut text = String::from_str(alloc, "PLAN 1\nturns 1\ntick_every 0\n")?;
     for id in 0..count {
         let id = id + 1;
-        text.push_str(format!(in alloc; "session {id}\n")?.as_str())?;
+        let line = format!(in alloc; "session {id}\n")?;
+        text.push_str(line.as_str())?;
     }
     text.push_str("END\n")?;
     Ok(text)
@@ -154,13 +186,11 @@ fn of_sessions(alloc: Global, count: usize) -> Result<String, Fail> {
 #[test]
 fn sessions_of_a_plan(rt: HostRuntime) -> Result<(), Fail> {
     let alloc = rt.alloc();
-    let tables = of_acquirers(alloc, 257)?;
-    let ranks = ranks_in_a_line(alloc)?;
-    let accepted = check(alloc, &tables, &ranks).ok().ok_or("not accepted")?;
-    let most = of_sessions(alloc, 256)?;
-    assert!(rt; read(alloc, &accepted, most.as_str()).is_ok());
-    let more = of_sessions(alloc, 257)?;
-    let fault = read(alloc, &accepted, more.as_str()).err();
-    assert_eq!(rt; fault, Some(PlanFault::Line(260)));
-    Ok(())
+    let limit = Limit {
+        most: of_sessions(alloc, 256)?,
+        more: of_sessions(alloc, 257)?,
+        fault: PlanFault::Line(260),
+    };
+    let rows = acquirers(alloc, 257)?;
+    look_in_a_line(alloc, rows.as_str(), &limit)
 }

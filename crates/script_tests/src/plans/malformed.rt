@@ -1,9 +1,9 @@
 //! Texts that are no plans.
-use crate::networks::{in_a_line, ranks_in_a_line};
+use crate::networks::{Look, look_in_a_line};
 use run_plan::{PlanFault, read_plan};
 use std::alloc::Global;
 use std::test::Fail;
-use table_checker::{Accepted, check};
+use table_checker::Accepted;
 
 fn fault_of(alloc: Global, accepted: &Accepted<'_>, text: &str) -> Option<PlanFault> {
     read_plan(alloc, accepted, text.as_bytes()).err()
@@ -244,46 +244,46 @@ fn first_wrong_head(alloc: Global, accepted: &Accepted<'_>) -> Option<&'static s
     None
 }
 
-fn first_wrong_setting(
-    alloc: Global,
-    accepted: &Accepted<'_>,
-) -> Result<Option<&'static str>, Fail> {
-    first_wrong(alloc, accepted, &SETTINGS)
+/// Fails by the first text that has another fault than it should.
+fn none_is_wrong(wrong: Option<&'static str>) -> Result<(), Fail> {
+    match wrong {
+        Some(text) => Err(Fail::new(text)),
+        None => Ok(()),
+    }
 }
 
-fn first_wrong_session(
-    alloc: Global,
-    accepted: &Accepted<'_>,
-) -> Result<Option<&'static str>, Fail> {
-    first_wrong(alloc, accepted, &SESSIONS)
+#[derive(Clone, Copy)]
+struct Heads;
+
+impl Look for Heads {
+    fn look(&self, alloc: Global, accepted: &Accepted<'_>) -> Result<(), Fail> {
+        none_is_wrong(first_wrong_head(alloc, accepted))
+    }
+}
+
+/// Texts behind the head of a plan.
+#[derive(Clone, Copy)]
+struct Behind {
+    groups: &'static [Group],
+}
+
+impl Look for Behind {
+    fn look(&self, alloc: Global, accepted: &Accepted<'_>) -> Result<(), Fail> {
+        none_is_wrong(first_wrong(alloc, accepted, self.groups)?)
+    }
 }
 
 #[test]
 fn heads_of_plans(rt: HostRuntime) -> Result<(), Fail> {
-    let alloc = rt.alloc();
-    let tables = in_a_line(alloc)?;
-    let ranks = ranks_in_a_line(alloc)?;
-    let accepted = check(alloc, &tables, &ranks).ok().ok_or("not accepted")?;
-    assert_eq!(rt; first_wrong_head(alloc, &accepted), None);
-    Ok(())
+    look_in_a_line(rt.alloc(), "", &Heads)
 }
 
 #[test]
 fn settings_of_plans(rt: HostRuntime) -> Result<(), Fail> {
-    let alloc = rt.alloc();
-    let tables = in_a_line(alloc)?;
-    let ranks = ranks_in_a_line(alloc)?;
-    let accepted = check(alloc, &tables, &ranks).ok().ok_or("not accepted")?;
-    assert_eq!(rt; first_wrong_setting(alloc, &accepted)?, None);
-    Ok(())
+    look_in_a_line(rt.alloc(), "", &Behind { groups: &SETTINGS })
 }
 
 #[test]
 fn sessions_of_plans(rt: HostRuntime) -> Result<(), Fail> {
-    let alloc = rt.alloc();
-    let tables = in_a_line(alloc)?;
-    let ranks = ranks_in_a_line(alloc)?;
-    let accepted = check(alloc, &tables, &ranks).ok().ok_or("not accepted")?;
-    assert_eq!(rt; first_wrong_session(alloc, &accepted)?, None);
-    Ok(())
+    look_in_a_line(rt.alloc(), "", &Behind { groups: &SESSIONS })
 }

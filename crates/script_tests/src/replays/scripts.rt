@@ -1,13 +1,14 @@
 //! A network of two nodes and a link, and scripts on it. Nothing is promised of these functions, so that a test is proved fast.
 use kept_messages::Way;
 use net_replay::{ReplayFault, Traces, replay};
+use net_rows::Tables;
 use net_tables::read_tables;
-use rank_cert::read_cert;
+use rank_cert::{Cert, read_cert};
 use sample_networks::Sample;
 use std::alloc::{AllocError, Global};
 use std::test::Fail;
 use switch_node::Output;
-use table_checker::check;
+use table_checker::{Accepted, check};
 
 /// What a script is expected to give, line by line: the node of each step, and its outputs.
 #[derive(Clone, Copy)]
@@ -122,20 +123,48 @@ fn compared(traces: &Traces, made: &[&[Output]], all: &[Wanted]) -> End {
     End::AsWanted
 }
 
+fn end_on(
+    alloc: Global,
+    accepted: &Accepted<'_>,
+    script: &[u8],
+    all: &[Wanted],
+) -> Result<End, Fail> {
+    match replay(alloc, accepted, script) {
+        Ok(traces) => end_with(alloc, &traces, all),
+        Err(fault) => Ok(End::Fault(fault)),
+    }
+}
+
+fn end_with(alloc: Global, traces: &Traces, all: &[Wanted]) -> Result<End, Fail> {
+    let made = outputs_of(alloc, traces)?;
+    Ok(compared(traces, made.as_slice(), all))
+}
+
+fn end_checked(
+    alloc: Global,
+    tables: &Tables,
+    cert: &Cert,
+    script: &[u8],
+    all: &[Wanted],
+) -> Result<End, Fail> {
+    match check(alloc, tables, cert) {
+        Ok(accepted) => end_on(alloc, &accepted, script, all),
+        Err(_) => Err("not accepted".into()),
+    }
+}
+
+fn end_ranked(alloc: Global, tables: &Tables, script: &[u8], all: &[Wanted]) -> Result<End, Fail> {
+    match read_cert(alloc, Sample::TwoNodes.ranks().as_bytes()) {
+        Ok(cert) => end_checked(alloc, tables, &cert, script, all),
+        Err(_) => Err("ranks".into()),
+    }
+}
+
 /// Runs a script on the network, and compares its steps and outputs.
 pub(crate) fn end_of(alloc: Global, script: &[u8], all: &[Wanted]) -> Result<End, Fail> {
     let text = Sample::TwoNodes.tables(alloc)?;
-    let tables = read_tables(alloc, text.as_bytes()).ok().ok_or("tables")?;
-    let ranks = Sample::TwoNodes.ranks();
-    let cert = read_cert(alloc, ranks.as_bytes()).ok().ok_or("ranks")?;
-    let Ok(accepted) = check(alloc, &tables, &cert) else {
-        return Err("not accepted".into());
-    };
-    match replay(alloc, &accepted, script) {
-        Ok(traces) => {
-            let made = outputs_of(alloc, &traces)?;
-            Ok(compared(&traces, made.as_slice(), all))
-        }
-        Err(fault) => Ok(End::Fault(fault)),
+    match read_tables(alloc, text.as_bytes()) {
+        Ok(tables) => end_ranked(alloc, &tables, script, all),
+        Err(_) => Err("tables".into()),
     }
 }

@@ -118,5 +118,8 @@ pub(crate) fn network(alloc: Global, numbers: &mut Numbers, form: Form) -> Resul
         let node = numbers.below(form.nodes);
         push_route(alloc, &mut toml, numbers, form, node, class)?;
     }
-    Ok(read_tables(alloc, toml.as_bytes()).ok().ok_or("tables")?)
+    match read_tables(alloc, toml.as_bytes()) {
+        Ok(tables) => Ok(tables),
+        Err(_) => Err("tables".into()),
+    }
 }

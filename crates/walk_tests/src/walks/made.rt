@@ -107,5 +107,8 @@ pub(crate) fn network(alloc: Global, numbers: &mut Numbers, form: Form) -> Resul
     for digit in 4..7u64 {
         push_routes(&mut toml, numbers, form, digit)?;
     }
-    Ok(read_tables(alloc, toml.as_bytes()).ok().ok_or("tables")?)
+    match read_tables(alloc, toml.as_bytes()) {
+        Ok(tables) => Ok(tables),
+        Err(_) => Err("tables".into()),
+    }
 }
