@@ -49,8 +49,8 @@ fn print_output<Q: Question, R: Source, W: Sink>(
     reader: &mut R,
     writer: &mut W,
 ) -> Result<Status, BundleFault>
-    ensures ok { IfOk result (Wrote (IsOutput (Q.is_answer question.now) (R.remaining reader.old) (R.failures reader.old) (R.failures reader.new) (R.turns reader.old) (R.turns reader.new)) (W.written writer.old) (W.written writer.new)) }
-    ensures err { OnErr result (WroteFront (IsOutput (Q.is_answer question.now) (R.remaining reader.old) (R.failures reader.old) (R.failures reader.new) (R.turns reader.old) (R.turns reader.new)) (W.written writer.old) (W.written writer.new)) }
+    ensures ok { IfOk result (Wrote (IsOutput R.Source reader.old reader.new (Q.is_answer question.now)) (W.written writer.old) (W.written writer.new)) }
+    ensures err { OnErr result (WroteFront (IsOutput R.Source reader.old reader.new (Q.is_answer question.now)) (W.written writer.old) (W.written writer.new)) }
     ensures counts { CountsFailure (W.failures writer.old) (W.failures writer.new) result }
 {
     match read_all(alloc, reader) {
@@ -67,8 +67,8 @@ pub fn run_answer<Q: Question, R: Source, W: Sink>(
     reader: &mut R,
     writer: &mut W,
 ) -> Result<u8, BundleFault>
-    ensures ok { IfOk result (WroteWithCode (IsOutput (Q.is_answer question.now) (R.remaining reader.old) (R.failures reader.old) (R.failures reader.new) (R.turns reader.old) (R.turns reader.new)) (W.written writer.old) (W.written writer.new)) }
-    ensures err { OnErr result (WroteFront (IsOutput (Q.is_answer question.now) (R.remaining reader.old) (R.failures reader.old) (R.failures reader.new) (R.turns reader.old) (R.turns reader.new)) (W.written writer.old) (W.written writer.new)) }
+    ensures ok { IfOk result (WroteWithCode (IsOutput R.Source reader.old reader.new (Q.is_answer question.now)) (W.written writer.old) (W.written writer.new)) }
+    ensures err { OnErr result (WroteFront (IsOutput R.Source reader.old reader.new (Q.is_answer question.now)) (W.written writer.old) (W.written writer.new)) }
     ensures counts { CountsFailure (W.failures writer.old) (W.failures writer.new) result }
 {
     match print_output(alloc, question, reader, writer) {

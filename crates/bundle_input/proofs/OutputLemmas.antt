@@ -1,6 +1,7 @@
 -- Outputs of inputs that were read.
 use Rattle.std.proofs.Common.{◌≡◌, ℕ, ◌≤◌, List, length, Option, Some, None, subst, inl, inr}
 use Rattle.std.specs.Prelude.{IfSome}
+use Rattle.card_digits.specs.declared.stream.Source.{Ghosts}
 use Rattle.bundle_text.specs.Answers.{Said}
 use Rattle.bundle_input.specs.declared.input.InputFault.TheVariants as cause
 use Rattle.bundle_input.specs.Input.{IsOutput, IsOfInput, IsCause, AnswersOrMemory}
@@ -10,6 +11,6 @@ of_input : (IsAnswer : List ℕ → Said → Type 0) (remaining : Option (List �
 of_input IsAnswer None input said is few a = tt
 of_input IsAnswer (Some x) input said is few a = subst (λ z. (length z ≤ 16_777_216) × IsAnswer z said) is (few, a)
 
-pub output_of : (IsAnswer : List ℕ → Said → Type 0) (remaining : Option (List ℕ)) (failures_old failures_new turns_old turns_new : ℕ) (input : List ℕ) → IfSome remaining (λ x. input ≡ x) → length input ≤ 16_777_216 → (said : Said) → AnswersOrMemory IsAnswer input said → IsOutput IsAnswer remaining failures_old failures_new turns_old turns_new said
-output_of IsAnswer remaining failures_old failures_new turns_old turns_new input is few said (inl a) = IsOfInput (of_input IsAnswer remaining input said is few a)
-output_of IsAnswer remaining failures_old failures_new turns_old turns_new input is few said (inr m) = IsCause cause.Memory tt m
+pub output_of : {R : Type 0} (source : Ghosts R) (old new : R) (IsAnswer : List ℕ → Said → Type 0) (input : List ℕ) → IfSome (source.remaining old) (λ x. input ≡ x) → length input ≤ 16_777_216 → (said : Said) → AnswersOrMemory IsAnswer input said → IsOutput source old new IsAnswer said
+output_of source old new IsAnswer input is few said (inl a) = IsOfInput (of_input IsAnswer (source.remaining old) input said is few a)
+output_of source old new IsAnswer input is few said (inr m) = IsCause cause.Memory tt m

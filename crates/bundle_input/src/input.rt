@@ -29,7 +29,7 @@ pub fn read_all<R: Source>(alloc: Global, reader: &mut R) -> Result<Vec<u8>, Inp
     ensures whole { IfOk result (λ v. IfSome (R.remaining reader.old) (λ input. v.items ≡ input)) }
     ensures short { IfOk result (λ v. length v.items ≤ 16_777_216) }
     ensures unfailed { IfOk result (λ _. R.failures reader.new ≡ R.failures reader.old) }
-    ensures cause { IfErr result (λ e. WasCause e (R.remaining reader.old) (R.failures reader.old) (R.failures reader.new) (R.turns reader.old) (R.turns reader.new)) }
+    ensures cause { IfErr result (WasCause R.Source reader.old reader.new) }
 {
     let mut input = Vec::new(alloc);
     let mut piece = [0u8; PIECE];

@@ -30,8 +30,8 @@ pub fn run_trace<R: Source, W: Sink>(
     reader: &mut R,
     writer: &mut W,
 ) -> Result<u8, BundleFault>
-    ensures ok { IfOk result (WroteWithCode (IsOutput IsTraceAnswer (R.remaining reader.old) (R.failures reader.old) (R.failures reader.new) (R.turns reader.old) (R.turns reader.new)) (W.written writer.old) (W.written writer.new)) }
-    ensures err { OnErr result (WroteFront (IsOutput IsTraceAnswer (R.remaining reader.old) (R.failures reader.old) (R.failures reader.new) (R.turns reader.old) (R.turns reader.new)) (W.written writer.old) (W.written writer.new)) }
+    ensures ok { IfOk result (WroteWithCode (IsOutput R.Source reader.old reader.new IsTraceAnswer) (W.written writer.old) (W.written writer.new)) }
+    ensures err { OnErr result (WroteFront (IsOutput R.Source reader.old reader.new IsTraceAnswer) (W.written writer.old) (W.written writer.new)) }
     ensures counts { CountsFailure (W.failures writer.old) (W.failures writer.new) result }
 {
     run_answer(alloc, &TraceTable, reader, writer)

@@ -6,4 +6,4 @@ use Rattle.bundle_jobs.proofs.bundle.run_bundle.Goals as goal
 
 -- what `run_threads` says of `Run` is said of the job, which is `Run` here
 pub returns-in-Run-clause-err : goal.returns-in-Run-clause-err
-returns-in-Run-clause-err g c = subst (λ (job : Job). OnErr c.run_threads.result (WroteFront (IsOutput job (g.R.Source.remaining c.args.reader.now) (g.R.Source.failures c.args.reader.now) (g.R.Source.failures c.run_threads.new.reader) (g.R.Source.turns c.args.reader.now) (g.R.Source.turns c.run_threads.new.reader)) (g.W.Sink.written c.args.writer.now) (g.W.Sink.written c.run_threads.new.writer))) (sym c.in-Run.is) c.run_threads.ensures.err
+returns-in-Run-clause-err g c = subst (λ (job : Job). OnErr c.run_threads.result (WroteFront (IsOutput g.R.Source c.args.reader.now c.run_threads.new.reader job) (g.W.Sink.written c.args.writer.now) (g.W.Sink.written c.run_threads.new.writer))) (sym c.in-Run.is) c.run_threads.ensures.err
