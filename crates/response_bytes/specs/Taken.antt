@@ -22,7 +22,7 @@ answered code es = put 39 code (kept response_numbers es)
 abbrev pub ForElements : ℕ → List ℕ → (Elements → Type 0) → Type 0
 ForElements first body P = (es : Elements) → AreGood es → numbers es ≡ marks 64 64 first → body ≡ pieces es → P es
 
--- P of all messages of this type with no element above 64 that have these bits in the first map and these bytes as its pieces
+-- P of all messages of this type with no element above 64 that have these bits in the first map and these bytes as their pieces
 abbrev pub ForMessage : Kind → ℕ → List ℕ → (Fields → Type 0) → Type 0
 ForMessage kind first body P = (m : Fields) → IsMessage m → high_numbers (numbers_of m) ≡ [] → kind ≡ m.kind → first ≡ bits 64 (numbers_of m) → body ≡ pieces m.elements → P m
 
