@@ -1,10 +1,8 @@
 //! Answers to what the node forwarded or asked.
 ghost use Rattle.std.specs.Prelude.{◌≡◌, true, false, OnOk};
-ghost use Rattle.iso_message.specs.Made.{made_reversal};
-ghost use Rattle.network_law.specs.Tables.{node_id};
-ghost use Rattle.node_machine.specs.Steps.{keep, on_host, store};
+ghost use Rattle.node_machine.specs.Steps.{on_host};
 ghost use Rattle.pending_book.specs.Rows.{IsKeyOf};
-ghost use Rattle.switch_node.specs.Coming.{counts_by, for_duplicate, on_code_by};
+ghost use Rattle.switch_node.specs.Coming.{counts_by, for_duplicate, on_code_by, take_back};
 ghost use Rattle.step_draft.specs.Acting.{Does};
 
 use card_digits::{Key, LinkNo, NodeNo};
@@ -28,7 +26,7 @@ fn take_back(
 ) -> Result<(), AllocError>
     requires { IsKeyOf key request.now }
     ensures base { draft.new.base ≡ draft.old.base }
-    ensures ok { let m = made_reversal request.now (node_id tables.now node) in OnOk result (Does tables.now node draft.old draft.new (λ b d. keep tables.now node b m (store tables.now node true m b.count false d))) }
+    ensures ok { OnOk result (Does tables.now node draft.old draft.new (λ b. take_back tables.now node b request.now)) }
 {
     let reversal = draft.reversal(tables, node, key, request)?;
     let count = draft.books().count();
