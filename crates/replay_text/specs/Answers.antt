@@ -1,6 +1,7 @@
 -- What the program answers to tables, ranks and a script.
 use Rattle.std.specs.Prelude.{◌≡◌, ◌⊎◌, ℕ, List, [], ◌∷◌, codes, Option, Some, None, Result, Ok, Err}
 use Rattle.card_digits.specs.Lines.{lines}
+use Rattle.card_digits.specs.declared.stream.Sink.{Ghosts}
 use Rattle.net_rows.specs.Network.{Network}
 use Rattle.net_tables.specs.Reading.{tables_in}
 use Rattle.table_fields.specs.declared.fault.TableFault.{TableFault}
@@ -50,6 +51,14 @@ NamesScriptMemory said = NamesMemory said ⊎ (said ≡ fault (codes "fault scri
 -- the answer of `replay`, unless memory was refused
 abbrev pub ReplayAnswers : Said → Said → Type 0
 ReplayAnswers said wanted = (said ≡ wanted) ⊎ NamesScriptMemory said
+
+-- for a writer as it was and as it is: this answer was written, unless memory was refused, and has this status
+abbrev pub WroteReplay : {W : Type 0} → Ghosts W → W → W → Said → Status → Type 0
+WroteReplay sink old new wanted status = Wrote (λ said. ReplayAnswers said wanted) (sink.written old) (sink.written new) status
+
+-- a front of it was
+abbrev pub WroteReplayFront : {W : Type 0} → Ghosts W → W → W → Said → Type 0
+WroteReplayFront sink old new wanted = WroteFront (λ said. ReplayAnswers said wanted) (sink.written old) (sink.written new)
 
 -- an answer was made, and written
 abbrev pub WroteMade : {E : Type 0} → Result Said E → Option (List ℕ) → Option (List ℕ) → Status → Type 0
