@@ -1,20 +1,25 @@
 //! The answer of `run`.
-ghost use Rattle.std.specs.Prelude.{◌≡◌, ◌⊎◌, map, IfOk};
+ghost use Rattle.std.specs.Prelude.{◌≡◌, ◌⊎◌, map, Ok, IfOk};
 ghost use Rattle.card_digits.specs.Lines.{lines};
+ghost use Rattle.net_tables.specs.Reading.{tables_in};
+ghost use Rattle.rank_cert.specs.Reading.{cert_in};
+ghost use Rattle.table_checker.specs.Rules.{first_refusal};
 ghost use Rattle.bundle_text.specs.Answers.{NamesMemory};
-ghost use Rattle.run_report.specs.Printed.{said_of, IsOfPlan, IsOfParts, RunAnswers};
+ghost use Rattle.run_report.specs.Printed.{said_of, IsOfPlan, IsOfChecked, IsOfRead, IsOfParts, RunAnswers};
 
 use crate::fault_lines::run_fault_line;
 use crate::text_run::{RunFault, run_plan_text};
 use bundle_text::{
-    AcceptedQuestion, Answer, Status, accepted_answer, fault_answer, parts, parts_fault,
-    without_carriage_returns,
+    Answer, Status, cert_fault_line, check_memory_answer, fault_answer, parts, parts_fault,
+    refused_answer, table_fault_line, without_carriage_returns,
 };
 use net_rows::Tables;
+use net_tables::read_tables;
+use rank_cert::{Cert, read_cert};
 use std::alloc::{AllocError, Global};
 use std::sync::Wait;
 use std::thread::Threads;
-use table_checker::Accepted;
+use table_checker::{Accepted, Refusal, check};
 
 /// What is printed of a report, or of the fault for which there is none.
 fn said_of(alloc: Global, run: Result<String, RunFault>) -> Result<Answer, AllocError>
@@ -41,23 +46,52 @@ fn plan_answer<R: Threads + Wait + Sync>(
     said_of(alloc, run_plan_text(rt, alloc, accepted, plan))
 }
 
-/// A plan, which is run on accepted tables.
-#[derive(Drop)]
-struct PlanRun<'a, R> {
-    rt: &'a R,
-    plan: &'a [u8],
+/// The answer to a plan on tables with their ranks.
+fn checked_answer<R: Threads + Wait + Sync>(
+    rt: &R,
+    alloc: Global,
+    tables: &Tables,
+    cert: &Cert,
+    plan: &[u8],
+) -> Result<Answer, AllocError>
+    ensures { IfOk result (λ a. IsOfChecked tables.now plan.now (first_refusal tables.now cert.now) a ⊎ NamesMemory a) }
+{
+    match check(alloc, tables, cert) {
+        Ok(accepted) => plan_answer(rt, alloc, &accepted, plan),
+        Err(Refusal::Memory) => check_memory_answer(alloc),
+        Err(refusal) => refused_answer(alloc, tables, &refusal),
+    }
 }
 
-impl<R: Threads + Wait + Sync> AcceptedQuestion for PlanRun<'_, R> {
-    ghost is_answer_to = { λ run t. IsOfPlan t (lines run.plan.now) };
+/// The first fault of the ranks, or the answer to the plan.
+fn ranked_answer<R: Threads + Wait + Sync>(
+    rt: &R,
+    alloc: Global,
+    tables: &Tables,
+    ranks: &[u8],
+    plan: &[u8],
+) -> Result<Answer, AllocError>
+    ensures { IfOk result (λ a. IsOfRead (Ok tables.now) (cert_in ranks.now) plan.now a ⊎ NamesMemory a) }
+{
+    match read_cert(alloc, ranks) {
+        Ok(cert) => checked_answer(rt, alloc, tables, &cert, plan),
+        Err(e) => Ok(fault_answer(cert_fault_line(alloc, e)?)),
+    }
+}
 
-    fn answer_to(
-        &self,
-        alloc: Global,
-        _tables: &Tables,
-        accepted: &Accepted<'_>,
-    ) -> Result<Answer, AllocError> {
-        plan_answer(self.rt, alloc, accepted, self.plan)
+/// The first fault of tables and ranks, or the answer to the plan.
+fn read_answer<R: Threads + Wait + Sync>(
+    rt: &R,
+    alloc: Global,
+    tables: &[u8],
+    ranks: &[u8],
+    plan: &[u8],
+) -> Result<Answer, AllocError>
+    ensures { IfOk result (λ a. IsOfRead (tables_in tables.now) (cert_in ranks.now) plan.now a ⊎ NamesMemory a) }
+{
+    match read_tables(alloc, tables) {
+        Ok(tables) => ranked_answer(rt, alloc, &tables, ranks, plan),
+        Err(e) => Ok(fault_answer(table_fault_line(alloc, e)?)),
     }
 }
 
@@ -72,8 +106,7 @@ fn answer_of<R: Threads + Wait + Sync>(
     if parts.len() != 3 {
         return parts_fault(alloc);
     }
-    let run = PlanRun { rt, plan: parts[2] };
-    accepted_answer(alloc, &run, parts[0], parts[1])
+    read_answer(rt, alloc, parts[0], parts[1], parts[2])
 }
 
 /// The answer of `run` to an input of three parts, tables, ranks and a plan: the report of what the threads did, the first fault, or
