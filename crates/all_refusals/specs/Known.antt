@@ -1,6 +1,5 @@
 -- What is at hand at a class, and what was found so far.
 use Rattle.std.specs.Prelude.{◌≡◌, ⊤, ℕ, List, Option, slice_get, unwrap_or}
-use Rattle.net_rows.specs.Network.{Network}
 use Rattle.rows_in_force.specs.LinkEnds.{AreEnds}
 use Rattle.table_checker.specs.Ranks.{rank_at}
 use Rattle.table_checker.specs.declared.refusal.Refusal.{Refusal}

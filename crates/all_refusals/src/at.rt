@@ -5,6 +5,7 @@ ghost use Rattle.table_checker.specs.Rules.{unranked, unranked_over, not_less_ov
 ghost use Rattle.std.specs.List.{flat_map};
 ghost use Rattle.all_refusals.specs.Rows.{Row, RouteRow, row_at, Adds};
 ghost use Rattle.all_refusals.specs.Known.{AreRanks, HasRows};
+ghost use Rattle.all_refusals.specs.Here.{here};
 ghost use Rattle.all_refusals.specs.Found.{each_below, of_row, no_ranks_of, no_ranks, not_less_of, not_less};
 
 use crate::ranks::Ranks;
@@ -44,7 +45,7 @@ pub(crate) fn add(
 impl At<'_> {
     fn unranked(&self, ranks: &Ranks, node: NodeNo) -> Option<Refusal>
         requires { AreRanks self.now ranks.now }
-        ensures { result ≡ unranked self.now.tables.now self.now.cert.now self.now.class node }
+        ensures { result ≡ here self.now unranked node }
     {
         match self.rank(ranks, node) {
             Some(_) => None,
@@ -55,7 +56,7 @@ impl At<'_> {
     fn not_less_over(&self, ranks: &Ranks, node: NodeNo, link: LinkNo) -> Option<Refusal>
         requires rows { HasRows self.now }
         requires ranks { AreRanks self.now ranks.now }
-        ensures { result ≡ not_less_over self.now.tables.now self.now.cert.now self.now.class node link }
+        ensures { result ≡ here self.now not_less_over node link }
     {
         let far = self.rank(ranks, self.ends.other_end(node, link));
         let own = self.rank(ranks, node);
@@ -77,7 +78,7 @@ impl At<'_> {
         requires rows { HasRows self.now }
         requires ranks { AreRanks self.now ranks.now }
         requires place { slice_get self.now.tables.now.routes place ≡ Some row.now }
-        ensures { IfOk result (λ _. Adds self.now.tables.now found.old.items found.new.items (flat_map (λ l. of_row (RouteRow row.now) (unranked_over self.now.tables.now self.now.cert.now self.now.class node l)) row.now.links)) }
+        ensures { IfOk result (λ _. Adds self.now.tables.now found.old.items found.new.items (flat_map (λ l. of_row (RouteRow row.now) (here self.now unranked_over node l)) row.now.links)) }
     {
         for link in row.links.as_slice() {
             let other = self.ends.other_end(node, *link);
@@ -99,7 +100,7 @@ impl At<'_> {
         requires rows { HasRows self.now }
         requires ranks { AreRanks self.now ranks.now }
         requires place { slice_get self.now.tables.now.routes place ≡ Some row.now }
-        ensures { IfOk result (λ _. Adds self.now.tables.now found.old.items found.new.items (no_ranks_of self.now.tables.now self.now.cert.now self.now.class node row.now)) }
+        ensures { IfOk result (λ _. Adds self.now.tables.now found.old.items found.new.items (here self.now no_ranks_of node row.now)) }
     {
         let own = self.unranked(ranks, node);
         add(found, TableRow::Route(place), own)?;
@@ -118,7 +119,7 @@ impl At<'_> {
         requires rows { HasRows self.now }
         requires ranks { AreRanks self.now ranks.now }
         requires place { slice_get self.now.tables.now.routes place ≡ Some row.now }
-        ensures { IfOk result (λ _. Adds self.now.tables.now found.old.items found.new.items (not_less_of self.now.tables.now self.now.cert.now self.now.class node row.now)) }
+        ensures { IfOk result (λ _. Adds self.now.tables.now found.old.items found.new.items (here self.now not_less_of node row.now)) }
     {
         for link in row.links.as_slice() {
             let over = self.not_less_over(ranks, node, *link);
@@ -137,7 +138,7 @@ impl At<'_> {
     ) -> Result<(), AllocError>
         requires rows { HasRows self.now }
         requires ranks { AreRanks self.now ranks.now }
-        ensures { IfOk result (λ _. Adds self.now.tables.now found.old.items found.new.items (no_ranks self.now.tables.now self.now.cert.now self.now.class home node)) }
+        ensures { IfOk result (λ _. Adds self.now.tables.now found.old.items found.new.items (here self.now no_ranks home node)) }
     {
         if node == home {
             return Ok(());
@@ -161,7 +162,7 @@ impl At<'_> {
     ) -> Result<(), AllocError>
         requires rows { HasRows self.now }
         requires ranks { AreRanks self.now ranks.now }
-        ensures { IfOk result (λ _. Adds self.now.tables.now found.old.items found.new.items (not_less self.now.tables.now self.now.cert.now self.now.class home node)) }
+        ensures { IfOk result (λ _. Adds self.now.tables.now found.old.items found.new.items (here self.now not_less home node)) }
     {
         if node == home {
             return Ok(());
@@ -184,7 +185,7 @@ impl At<'_> {
     ) -> Result<(), AllocError>
         requires rows { HasRows self.now }
         requires ranks { AreRanks self.now ranks.now }
-        ensures { IfOk result (λ _. Adds self.now.tables.now found.old.items found.new.items (each_below (no_ranks self.now.tables.now self.now.cert.now self.now.class home) (length self.now.tables.now.nodes))) }
+        ensures { IfOk result (λ _. Adds self.now.tables.now found.old.items found.new.items (each_below (here self.now no_ranks home) (length self.now.tables.now.nodes))) }
     {
         for i in 0..self.tables.nodes().len() {
             self.add_no_ranks_at(found, ranks, home, NodeNo::new(i))?;
@@ -201,7 +202,7 @@ impl At<'_> {
     ) -> Result<(), AllocError>
         requires rows { HasRows self.now }
         requires ranks { AreRanks self.now ranks.now }
-        ensures { IfOk result (λ _. Adds self.now.tables.now found.old.items found.new.items (each_below (not_less self.now.tables.now self.now.cert.now self.now.class home) (length self.now.tables.now.nodes))) }
+        ensures { IfOk result (λ _. Adds self.now.tables.now found.old.items found.new.items (each_below (here self.now not_less home) (length self.now.tables.now.nodes))) }
     {
         for i in 0..self.tables.nodes().len() {
             self.add_not_less_at(found, ranks, home, NodeNo::new(i))?;

@@ -7,6 +7,7 @@ ghost use Rattle.net_rows.specs.Network.{issuer as issuer_of, day as day_of};
 ghost use Rattle.network_law.specs.Checked.{sum_below};
 ghost use Rattle.all_refusals.specs.Rows.{Adds};
 ghost use Rattle.all_refusals.specs.Known.{HasRows};
+ghost use Rattle.all_refusals.specs.Here.{here};
 ghost use Rattle.all_refusals.specs.Found.{each_below, own_route, own_stand_in, unnamed, too_much, without_issuer};
 
 use crate::at::{At, add};
@@ -27,7 +28,7 @@ impl At<'_> {
     /// The refusal of a node that may approve so much by itself, and so isn't among the named.
     fn not_named(&self, named: &[NodeNo], node: NodeNo, day: u64) -> Option<Refusal>
         requires { day ≡ day_of self.now.tables.now node self.now.class }
-        ensures { result ≡ not_named self.now.tables.now self.now.cert.now self.now.class named.now node }
+        ensures { result ≡ here self.now not_named named.now node }
     {
         if day > 0 && !named.contains(&node) {
             Some(Refusal::NotNamed(node, self.class))
@@ -44,7 +45,7 @@ impl At<'_> {
         node: NodeNo,
     ) -> Result<(), AllocError>
         requires { HasRows self.now }
-        ensures { IfOk result (λ _. Adds self.now.tables.now found.old.items found.new.items (unnamed self.now.tables.now self.now.cert.now self.now.class named.now node)) }
+        ensures { IfOk result (λ _. Adds self.now.tables.now found.old.items found.new.items (here self.now unnamed named.now node)) }
     {
         let Some(place) = self.stand_ins.place(node) else {
             return Ok(());
@@ -63,7 +64,7 @@ impl At<'_> {
         named: &[NodeNo],
     ) -> Result<(), AllocError>
         requires { HasRows self.now }
-        ensures { IfOk result (λ _. Adds self.now.tables.now found.old.items found.new.items (each_below (unnamed self.now.tables.now self.now.cert.now self.now.class named.now) (length self.now.tables.now.nodes))) }
+        ensures { IfOk result (λ _. Adds self.now.tables.now found.old.items found.new.items (each_below (here self.now unnamed named.now) (length self.now.tables.now.nodes))) }
     {
         for i in 0..self.tables.nodes().len() {
             self.add_unnamed_at(found, named, NodeNo::new(i))?;
@@ -97,7 +98,7 @@ impl At<'_> {
     /// The refusal of amounts that add up to so much.
     fn over_ceiling(&self, ceiling: u64, total: u64) -> Option<Refusal>
         requires { total ≡ sum_below (λ n. day_of self.now.tables.now n self.now.class) (length self.now.tables.now.nodes) }
-        ensures { result ≡ over_ceiling self.now.tables.now self.now.cert.now self.now.class ceiling }
+        ensures { result ≡ here self.now over_ceiling ceiling }
     {
         if total > ceiling {
             Some(Refusal::OverCeiling(self.class, total, ceiling))
@@ -114,7 +115,7 @@ impl At<'_> {
     ) -> Result<(), AllocError>
         requires rows { HasRows self.now }
         requires issuer { issuer_of self.now.tables.now self.now.class ≡ Some issuer.now }
-        ensures { IfOk result (λ _. Adds self.now.tables.now found.old.items found.new.items (too_much self.now.tables.now self.now.cert.now self.now.class issuer.now)) }
+        ensures { IfOk result (λ _. Adds self.now.tables.now found.old.items found.new.items (here self.now too_much issuer.now)) }
     {
         let refusal = self.over_ceiling(issuer.ceiling.value(), self.total());
         if refusal.is_none() {
@@ -129,7 +130,7 @@ impl At<'_> {
     /// Adds the node's route row of just this prefix.
     fn add_own_route(&self, found: &mut Vec<RowRefusal>, node: NodeNo) -> Result<(), AllocError>
         requires { HasRows self.now }
-        ensures { IfOk result (λ _. Adds self.now.tables.now found.old.items found.new.items (own_route self.now.tables.now self.now.cert.now self.now.class node)) }
+        ensures { IfOk result (λ _. Adds self.now.tables.now found.old.items found.new.items (here self.now own_route node)) }
     {
         let Some(place) = self.routes.place(node) else {
             return Ok(());
@@ -147,7 +148,7 @@ impl At<'_> {
     /// The same of its stand-in rows.
     fn add_own_stand_in(&self, found: &mut Vec<RowRefusal>, node: NodeNo) -> Result<(), AllocError>
         requires { HasRows self.now }
-        ensures { IfOk result (λ _. Adds self.now.tables.now found.old.items found.new.items (own_stand_in self.now.tables.now self.now.cert.now self.now.class node)) }
+        ensures { IfOk result (λ _. Adds self.now.tables.now found.old.items found.new.items (here self.now own_stand_in node)) }
     {
         let Some(place) = self.stand_ins.place(node) else {
             return Ok(());
@@ -165,7 +166,7 @@ impl At<'_> {
     /// Adds each row of just this prefix, node by node.
     pub fn add_without_issuer(&self, found: &mut Vec<RowRefusal>) -> Result<(), AllocError>
         requires { HasRows self.now }
-        ensures { IfOk result (λ _. Adds self.now.tables.now found.old.items found.new.items (each_below (without_issuer self.now.tables.now self.now.cert.now self.now.class) (length self.now.tables.now.nodes))) }
+        ensures { IfOk result (λ _. Adds self.now.tables.now found.old.items found.new.items (each_below (here self.now without_issuer) (length self.now.tables.now.nodes))) }
     {
         for i in 0..self.tables.nodes().len() {
             let node = NodeNo::new(i);

@@ -4,6 +4,7 @@ ghost use Rattle.net_rows.specs.Network.{issuer as issuer_of};
 ghost use Rattle.std.specs.List.{flat_map};
 ghost use Rattle.all_refusals.specs.Rows.{Adds};
 ghost use Rattle.all_refusals.specs.Known.{HasRows, list_of};
+ghost use Rattle.all_refusals.specs.Here.{here};
 ghost use Rattle.all_refusals.specs.Found.{Rule, class_rules, refusals_at, rule_refusals};
 
 use crate::at::At;
@@ -38,7 +39,7 @@ impl Lists {
     fn add_with_issuer(&mut self, at: &At<'_>, issuer: &Issuer) -> Result<(), AllocError>
         requires rows { HasRows at.now }
         requires issuer { issuer_of at.now.tables.now at.now.class ≡ Some issuer.now }
-        ensures { IfOk result (λ _. (rule : Rule) → Adds at.now.tables.now (list_of self.old rule) (list_of self.new rule) (rule_refusals at.now.tables.now at.now.cert.now at.now.class rule (Some issuer.now))) }
+        ensures { IfOk result (λ _. (rule : Rule) → Adds at.now.tables.now (list_of self.old rule) (list_of self.new rule) (here at.now rule_refusals rule (Some issuer.now))) }
     {
         let ranks = at.ranks();
         at.add_no_ranks(&mut self.no_rank, &ranks, issuer.home)?;

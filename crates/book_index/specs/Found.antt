@@ -1,5 +1,5 @@
 -- What an index of places says of a key.
-use Rattle.std.specs.Prelude.{◌≡◌, ℕ, zero, suc, Bool, true, false, List, [], ◌∷◌, unwrap_or}
+use Rattle.std.specs.Prelude.{◌≡◌, ℕ, zero, suc, Bool, true, false, cond, List, [], ◌∷◌, unwrap_or}
 use Rattle.std.specs.Map.{lookup}
 use Rattle.book_index.specs.declared.index.Place.{Place}
 use Rattle.book_index.specs.declared.index.Place.TheVariants as places
@@ -13,6 +13,10 @@ abbrev pub joined : Place → ℕ → Place
 joined places.Nowhere i = places.At i
 joined (places.At j) i = places.Several
 joined places.Several i = places.Several
+
+-- what is found of one key is changed so, and that of all others stays
+abbrev pub ChangesPlace : {K : Type 0} → (K → K → Bool) → K → (Place → Place) → List (K × Place) → List (K × Place) → Type 0
+ChangesPlace {K} eq key change old new = (k : K) → found (eq k) new ≡ cond (eq key k) (change (found (eq key) old)) (found (eq k) old)
 
 -- no place passes, or this one alone; of several nothing is said
 abbrev pub Tells : Place → (ℕ → Bool) → Type 0

@@ -1,7 +1,7 @@
 //! The places of keys.
-ghost use Rattle.std.specs.Prelude.{◌≡◌, ◌≤◌, ◌+◌, OnOk, cond};
+ghost use Rattle.std.specs.Prelude.{◌≡◌, ◌≤◌, ◌+◌, OnOk};
 ghost use Rattle.crowded_map.specs.Values.{spare};
-ghost use Rattle.book_index.specs.Found.{found, joined};
+ghost use Rattle.book_index.specs.Found.{ChangesPlace, found, joined};
 
 use crowded_map::CrowdedMap;
 use std::alloc::{AllocError, Global};
@@ -53,7 +53,7 @@ impl<K: Eq + Hash + Ord + Copy + Drop> PlaceIndex<K> {
     /// The key has this place too.
     pub fn add(&mut self, key: K, place: usize)
         requires { 1 ≤ spare self.old.places }
-        ensures found { (k : K) → found (K.eq k) self.new.places.entries ≡ cond (K.eq key k) (joined (found (K.eq key) self.old.places.entries) place) (found (K.eq k) self.old.places.entries) }
+        ensures found { ChangesPlace K.eq key (λ known. joined known place) self.old.places.entries self.new.places.entries }
         ensures room { spare self.old.places ≤ spare self.new.places + 1 }
     {
         let joined = match self.find(&key) {
@@ -65,7 +65,7 @@ impl<K: Eq + Hash + Ord + Copy + Drop> PlaceIndex<K> {
 
     /// The key has no place.
     pub fn remove(&mut self, key: &K)
-        ensures found { (k : K) → found (K.eq k) self.new.places.entries ≡ cond (K.eq key.now k) Place.Nowhere (found (K.eq k) self.old.places.entries) }
+        ensures found { ChangesPlace K.eq key.now (λ _. Place.Nowhere) self.old.places.entries self.new.places.entries }
         ensures room { spare self.old.places ≤ spare self.new.places }
     {
         let _ = self.places.remove(key);

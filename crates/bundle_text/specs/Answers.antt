@@ -40,11 +40,24 @@ abbrev pub verdict : Network → Option Refusal → Said
 verdict t None = record { text = codes "accepted\n"; status = Done }
 verdict t (Some r) = record { text = refusal_line t r; status = Refused }
 
+-- the first fault of tables and ranks, or what is said of both
+abbrev pub read_said : (Network → List Rank → Said) → Result Network TableFault → Result (List Rank) CertFault → Said
+read_said say (Err e) ranks = fault (table_fault_line e)
+read_said say (Ok t) (Err e) = fault (cert_fault_line e)
+read_said say (Ok t) (Ok cert) = say t cert
+
+-- the refusal of tables, or what is said of accepted ones
+abbrev pub checked_said : (Network → Said) → Network → Option Refusal → Said
+checked_said say t (Some r) = verdict t (Some r)
+checked_said say t None = say t
+
+-- the first fault of tables and ranks, the refusal of the tables, or what is said of accepted ones
+abbrev pub accepted_said : (Network → Said) → Result Network TableFault → Result (List Rank) CertFault → Said
+accepted_said say = read_said (λ t cert. checked_said say t (first_refusal t cert))
+
 -- the first fault of tables and ranks, or the verdict
 abbrev pub check_read : Result Network TableFault → Result (List Rank) CertFault → Said
-check_read (Err e) ranks = fault (table_fault_line e)
-check_read (Ok t) (Err e) = fault (cert_fault_line e)
-check_read (Ok t) (Ok cert) = verdict t (first_refusal t cert)
+check_read tables ranks = accepted_said (λ t. verdict t None) tables ranks
 
 abbrev pub check_parts : List (List ℕ) → Said
 check_parts (tables ∷ ranks ∷ []) = check_read (tables_in tables) (cert_in ranks)

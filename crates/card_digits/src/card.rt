@@ -1,5 +1,11 @@
 //! Card numbers.
-ghost use Rattle.std.specs.Prelude.{◌≡◌, ◌≤◌, ◌<◌, length};
+ghost use Rattle.std.specs.Prelude.{◌≡◌, ◌≤◌, ◌<◌, length, IfOk, ◌%◌, ◌==◌, true, if◌then◌else◌};
+ghost use Rattle.card_digits.specs.Digits.{AreDigitsWithin, digits_of};
+ghost use Rattle.card_digits.specs.Reading.{read_digits};
+ghost use Rattle.card_digits.specs.Longest.{begins};
+ghost use Rattle.std.specs.Char.{is_ascii_digit};
+ghost use Rattle.std.specs.List.{list_all};
+ghost use Rattle.card_digits.specs.Numbers.{doubled, passes_luhn, luhn_sum};
 
 use crate::prefix::Prefix;
 use crate::short_bytes::{ShortBytes, all_digits};
@@ -65,11 +71,6 @@ impl Card {
     }
 }
 
-ghost use Rattle.std.specs.Prelude.{IfOk};
-ghost use Rattle.card_digits.specs.Digits.{AreDigitsWithin};
-ghost use Rattle.card_digits.specs.Reading.{read_digits};
-ghost use Rattle.card_digits.specs.Longest.{begins};
-
 /// From `least` to `N` digits.
 #[tactic(auto, using(crate::proofs::Within::digits_within))]
 pub(crate) fn read<const N: usize>(text: &[u8], least: usize) -> Result<ShortBytes<N>, DigitFault>
@@ -115,12 +116,6 @@ pub fn begins_class(prefix: &Prefix, class: &Prefix) -> bool
     class.digits().starts_with(prefix.digits())
 }
 
-ghost use Rattle.std.specs.Prelude.{◌%◌, ◌==◌, true, if◌then◌else◌};
-ghost use Rattle.std.specs.Char.{is_ascii_digit};
-ghost use Rattle.std.specs.List.{list_all};
-ghost use Rattle.card_digits.specs.Digits.{digits_of};
-ghost use Rattle.card_digits.specs.Numbers.{doubled, passes_luhn};
-
 /// Whether the check digit is right by the Luhn formula (ISO/IEC 7812-1, annex B).
 pub fn luhn(card: &Card) -> bool
     ensures { result ≡ passes_luhn card.now }
@@ -164,8 +159,6 @@ fn worth(digit: u8, to_right: usize) -> u32
         digit as u32
     }
 }
-
-ghost use Rattle.card_digits.specs.Numbers.{luhn_sum};
 
 /// The digit doubled, and the digits of the double added.
 fn doubled(digit: u8) -> u32

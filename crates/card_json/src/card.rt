@@ -1,5 +1,5 @@
 //! What is said of a card.
-ghost use Rattle.std.specs.Prelude.{◌≡◌, IfOk, string_bytes};
+ghost use Rattle.std.specs.Prelude.{◌≡◌, IfOk};
 ghost use Rattle.std.specs.Option.{option_copied};
 ghost use Rattle.serde_json.specs.View.{view};
 ghost use Rattle.card_json.specs.CardJson.{card_data, object_of, refusal_data, verdict_word};

@@ -51,30 +51,35 @@ refused_element _ = 0
 abbrev pub refusal_told : StepFault → Stepped
 refusal_told fault = record { outputs = 0; refusal = refusal_number fault; message_fault = refused_message fault; element = refused_element fault }
 
+-- what is told of a step that wasn't made, and of an input that no law refused
+abbrev pub nothing_told : Stepped
+nothing_told = record { outputs = 0; refusal = 0; message_fault = 0; element = 0 }
+
 -- what telling a node an input leaves, by the status
 pub record TellsInput (input : NodeInput) (bytes : List ℕ) (a : NodeView) (after : Option NodeView) (stepped : Stepped) (status : ℕ) : Type 0 where
   pub done : status ≡ 0 → (b : NodeView) × (after ≡ Some b) × Steps (input_in a.t a.n input bytes) a b stepped.outputs
   pub refused : status ≡ 1 → (fault : StepFault) × IsRefused (input_in a.t a.n input bytes) a fault × (stepped ≡ refusal_told fault)
   pub unknown : status ≡ 5 → input_in a.t a.n input bytes ≡ None
+  pub nothing : status ≢ 0 → status ≢ 1 → stepped ≡ nothing_told
   pub kept : status ≢ 0 → after ≡ Some a
   pub known : (status ≤ 1) ⊎ ((status ≡ 4) ⊎ (status ≡ 5))
 
 -- the same for a handle
 abbrev pub TellsHandle : NodeInput → List ℕ → Option NodeView → Option NodeView → Stepped → ℕ → Type 0
-TellsHandle input bytes None after stepped status = (status ≡ 6) × (after ≡ None)
+TellsHandle input bytes None after stepped status = (status ≡ 6) × (after ≡ None) × (stepped ≡ nothing_told)
 TellsHandle input bytes (Some a) after stepped status = TellsInput input bytes a after stepped status
 
--- what asking a node for an output leaves, by the status
-pub record GivesOutput (a : NodeView) (place : ℕ) (old new : List ℕ) (output : NodeOutput) (status : ℕ) : Type 0 where
+-- what asking a node for an output leaves, by the status: in the buffer, and in what is told of the output
+pub record GivesOutput (a : NodeView) (place : ℕ) (old new : List ℕ) (before output : NodeOutput) (status : ℕ) : Type 0 where
   pub done : status ≡ 0 → (o : Output) × (slice_get (newest_outputs a.trace) place ≡ Some o) × (output ≡ told o) × (new ≡ with_front (bytes_of o) old)
   pub small : status ≡ 3 → (o : Output) × (slice_get (newest_outputs a.trace) place ≡ Some o) × (output ≡ told o) × (length old < output.length)
-  pub unknown : status ≡ 5 → length (newest_outputs a.trace) ≤ place
+  pub unknown : status ≡ 5 → (length (newest_outputs a.trace) ≤ place) × (output ≡ before)
   pub kept : status ≢ 0 → new ≡ old
   pub known : (status ≡ 0) ⊎ ((status ≡ 3) ⊎ (status ≡ 5))
 
-abbrev pub GivesOutputOf : Option NodeView → ℕ → List ℕ → List ℕ → NodeOutput → ℕ → Type 0
-GivesOutputOf None place old new output status = (status ≡ 6) × (new ≡ old)
-GivesOutputOf (Some a) place old new output status = GivesOutput a place old new output status
+abbrev pub GivesOutputOf : Option NodeView → ℕ → List ℕ → List ℕ → NodeOutput → NodeOutput → ℕ → Type 0
+GivesOutputOf None place old new before output status = (status ≡ 6) × (new ≡ old) × (output ≡ before)
+GivesOutputOf (Some a) place old new before output status = GivesOutput a place old new before output status
 
 -- the link of that name
 abbrev pub link_of : Network → List ℕ → Option ℕ
@@ -91,14 +96,14 @@ abbrev pub FindsLinkOf : Option NodeView → List ℕ → ℕ → ℕ → ℕ �
 FindsLinkOf None name old new status = (status ≡ 6) × (new ≡ old)
 FindsLinkOf (Some a) name old new status = FindsLink a name old new status
 
--- what asking for a link's name leaves, by the status
-pub record NamesLink (a : NodeView) (link : ℕ) (old new : List ℕ) (count : ℕ) (status : ℕ) : Type 0 where
+-- what asking for a link's name leaves, by the status: in the buffer, and in the count of its bytes
+pub record NamesLink (a : NodeView) (link : ℕ) (old new : List ℕ) (before count : ℕ) (status : ℕ) : Type 0 where
   pub done : status ≡ 0 → (row : Link) × (slice_get a.t.links link ≡ Some row) × (new ≡ with_front row.name old) × (count ≡ length row.name)
   pub small : status ≡ 3 → (row : Link) × (slice_get a.t.links link ≡ Some row) × (length old < length row.name) × (count ≡ length row.name)
-  pub unknown : status ≡ 5 → length a.t.links ≤ link
+  pub unknown : status ≡ 5 → (length a.t.links ≤ link) × (count ≡ before)
   pub kept : status ≢ 0 → new ≡ old
   pub known : (status ≡ 0) ⊎ ((status ≡ 3) ⊎ (status ≡ 5))
 
-abbrev pub NamesLinkOf : Option NodeView → ℕ → List ℕ → List ℕ → ℕ → ℕ → Type 0
-NamesLinkOf None link old new count status = (status ≡ 6) × (new ≡ old)
-NamesLinkOf (Some a) link old new count status = NamesLink a link old new count status
+abbrev pub NamesLinkOf : Option NodeView → ℕ → List ℕ → List ℕ → ℕ → ℕ → ℕ → Type 0
+NamesLinkOf None link old new before count status = (status ≡ 6) × (new ≡ old) × (count ≡ before)
+NamesLinkOf (Some a) link old new before count status = NamesLink a link old new before count status

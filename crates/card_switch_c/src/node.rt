@@ -141,6 +141,7 @@ fn tell_node(
 ) -> u8
     ensures { TellsInput input bytes.now node.old (Some node.new) stepped.new result }
 {
+    *stepped = NOTHING;
     match step(alloc, node, input, bytes) {
         Ok(outputs) => {
             *stepped = Stepped {
@@ -160,7 +161,7 @@ fn tell_node(
     }
 }
 
-/// Tells a node an input. Unless it is done, the node stays as it was.
+/// Tells a node an input. Unless it is done, the node stays as it was; unless it is done or refused, all that is told is 0.
 #[unsafe(no_mangle)]
 pub extern "C" fn cs_node_step(
     alloc: Global,
@@ -171,8 +172,8 @@ pub extern "C" fn cs_node_step(
 ) -> u8
     ensures { TellsHandle input.now bytes.now node.old.value node.new.value stepped.new result }
 {
-    *stepped = NOTHING;
     let Some(mut owned) = node.take(alloc) else {
+        *stepped = NOTHING;
         return EMPTY;
     };
     let status = tell_node(alloc, &mut owned, *input, bytes, stepped);
@@ -182,7 +183,7 @@ pub extern "C" fn cs_node_step(
 
 /// Gives an output of a node's newest step.
 fn give_output(node: &OwnedNode, place: usize, bytes: &mut [u8], output: &mut NodeOutput) -> u8
-    ensures { GivesOutput node.now place bytes.old bytes.new output.new result }
+    ensures { GivesOutput node.now place bytes.old bytes.new output.old output.new result }
 {
     match output_into(node, place, bytes) {
         Ok(told) => {
@@ -197,7 +198,7 @@ fn give_output(node: &OwnedNode, place: usize, bytes: &mut [u8], output: &mut No
     }
 }
 
-/// Gives the output at a place, from 0, of a node's newest step. The node stays as it is.
+/// Gives the output at a place, from 0, of a node's newest step. The node stays as it is, and so does `output` where there is none.
 #[unsafe(no_mangle)]
 pub extern "C" fn cs_node_output(
     alloc: Global,
@@ -206,7 +207,7 @@ pub extern "C" fn cs_node_output(
     bytes: &mut [u8],
     output: &mut NodeOutput,
 ) -> u8
-    ensures given { GivesOutputOf node.old.value place bytes.old bytes.new output.new result }
+    ensures given { GivesOutputOf node.old.value place bytes.old bytes.new output.old output.new result }
     ensures same { node.new.value ≡ node.old.value }
 {
     let Some(owned) = node.take(alloc) else {
@@ -249,7 +250,7 @@ pub extern "C" fn cs_node_link(
 }
 
 fn name_link(node: &OwnedNode, link: usize, name: &mut [u8], name_length: &mut usize) -> u8
-    ensures { NamesLink node.now link name.old name.new name_length.new result }
+    ensures { NamesLink node.now link name.old name.new name_length.old name_length.new result }
 {
     let Some(row) = node.tables().links().get(link) else {
         return UNKNOWN;
@@ -263,7 +264,7 @@ fn name_link(node: &OwnedNode, link: usize, name: &mut [u8], name_length: &mut u
     }
 }
 
-/// Gives the name of the link at a place of the tables of a node. The node stays as it is.
+/// Gives the name of the link at a place of the tables of a node. The node stays as it is, and so does the length where there is none.
 #[unsafe(no_mangle)]
 pub extern "C" fn cs_node_link_name(
     alloc: Global,
@@ -272,7 +273,7 @@ pub extern "C" fn cs_node_link_name(
     name: &mut [u8],
     name_length: &mut usize,
 ) -> u8
-    ensures named { NamesLinkOf node.old.value link name.old name.new name_length.new result }
+    ensures named { NamesLinkOf node.old.value link name.old name.new name_length.old name_length.new result }
     ensures same { node.new.value ≡ node.old.value }
 {
     let Some(owned) = node.take(alloc) else {

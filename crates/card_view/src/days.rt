@@ -1,7 +1,6 @@
 //! What all nodes together may approve by themselves.
-ghost use Rattle.std.specs.Prelude.{◌≡◌, Some, length};
+ghost use Rattle.std.specs.Prelude.{◌≡◌, Some};
 ghost use Rattle.net_rows.specs.Network.{issuer, day};
-ghost use Rattle.network_law.specs.Checked.{sum_below};
 ghost use Rattle.card_view.specs.View.{days_line, days_sum};
 
 use card_digits::{Amount, Card, NodeNo};

@@ -1,7 +1,6 @@
 //! The line of a node.
-ghost use Rattle.std.specs.Prelude.{◌≡◌, Some, option_and_then};
+ghost use Rattle.std.specs.Prelude.{◌≡◌, Some};
 ghost use Rattle.net_rows.specs.Network.{issuer, route, stand_in};
-ghost use Rattle.table_checker.specs.Ranks.{rank_at};
 ghost use Rattle.card_view.specs.View.{rank_in, is_home, home_text, rank_text, route_text, stand_in_text, node_line};
 
 use crate::hops::Hops;

@@ -1,13 +1,13 @@
 //! Keys in a tree, by their hashes.
 ghost use Rattle.std.specs.Prelude.{◌≡◌, [], Some, None, IfOk, IfNone, IfSome, OnOk, OnErr, IsTrue, cond, is_some, ◌&&◌};
-ghost use Rattle.std.specs.List.{fold};
 ghost use Rattle.std.specs.BTreeMap.{insert_entry, is_at};
 ghost use Rattle.std.specs.Map.{lookup, set_value};
 ghost use Rattle.std.specs.Option.{option_copied};
+ghost use Rattle.crowded_map.specs.Hashed.{hash_by};
 
 use std::alloc::{AllocError, Global};
 use std::collections::BTreeMap;
-use std::hash::{BuildHasher, BuildHasherDefault, FoldHasher, Hash, Hasher};
+use std::hash::{BuildHasher, BuildHasherDefault, FoldHasher, Hash};
 use std::marker::Model;
 
 /// A key beside its hash, by which keys are compared first.
@@ -26,14 +26,13 @@ pub(crate) struct HashedTree<K: Hash + Ord, V> {
 
 impl<K: Hash + Ord, V> Model for HashedTree<K, V> {
     ghost use Rattle.std.specs.Prelude.{List};
-    ghost use Rattle.std.specs.List.{fold};
-    ghost use Rattle.crowded_map.specs.Hashed.{unhashed, AreHashed};
+    ghost use Rattle.crowded_map.specs.Hashed.{unhashed, AreHashed, hash_by};
 
     ghost Value = { List (K × V) };
 
     ghost view = { λ t. unhashed t.tree.entries };
 
-    ghost invariant = { λ t. AreHashed (λ k. ⟦<FoldHasher as Hasher>⟧.finish (fold ⟦<FoldHasher as Hasher>⟧.write (⟦<BuildHasherDefault<FoldHasher> as BuildHasher>⟧.build_hasher t.builder) (K.hash_input k))) t.tree.entries };
+    ghost invariant = { λ t. AreHashed (λ k. hash_by t.builder (K.hash_input k)) t.tree.entries };
 }
 
 /// A key beside its hash.
@@ -42,7 +41,7 @@ fn with_hash<K: Hash + Copy + Drop>(
     key: K,
 ) -> HashedKey<K>
     ensures key { result.key ≡ key }
-    ensures hash { result.hash ≡ ⟦<FoldHasher as Hasher>⟧.finish (fold ⟦<FoldHasher as Hasher>⟧.write (⟦<BuildHasherDefault<FoldHasher> as BuildHasher>⟧.build_hasher builder.now) (K.hash_input result.key)) }
+    ensures hash { result.hash ≡ hash_by builder.now (K.hash_input result.key) }
 {
     HashedKey {
         hash: builder.hash_one(key),

@@ -1,8 +1,8 @@
 //! The places of changes that say something of an advice.
-ghost use Rattle.std.specs.Prelude.{◌≡◌, ◌≤◌, OnOk, cond};
+ghost use Rattle.std.specs.Prelude.{◌≡◌, ◌≤◌, OnOk};
 ghost use Rattle.crowded_map.specs.Values.{spare};
 ghost use Rattle.message_keys.specs.Keys.{identity_eq};
-ghost use Rattle.book_index.specs.Found.{found, joined};
+ghost use Rattle.book_index.specs.Found.{ChangesPlace, found, joined};
 
 use book_index::{Place, PlaceIndex};
 use message_keys::AdviceId;
@@ -42,7 +42,7 @@ impl AdvicePlaces {
     /// The advice has this place too.
     pub fn add(&mut self, id: AdviceId, place: usize)
         requires { 1 ≤ spare self.old.index.places }
-        ensures { (k : AdviceId) → found (identity_eq k) self.new.index.places.entries ≡ cond (identity_eq id k) (joined (found (identity_eq id) self.old.index.places.entries) place) (found (identity_eq k) self.old.index.places.entries) }
+        ensures { ChangesPlace identity_eq id (λ known. joined known place) self.old.index.places.entries self.new.index.places.entries }
     {
         self.index.add(id, place);
     }

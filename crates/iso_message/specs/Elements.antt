@@ -50,6 +50,10 @@ field_at (Some (Llvar class most)) n bytes = counted_at 2 class most n bytes
 field_at (Some (Lllvar class most)) n bytes = counted_at 3 class most n bytes
 field_at (Some Binary) n bytes = binary_at n bytes
 
+-- the element of a number, by its form
+abbrev pub element_at : ℕ → List ℕ → Result (List ℕ × List ℕ) DecodeFault
+element_at n bytes = field_at (form_of n) n bytes
+
 -- the elements so far with the next, and the bytes after it
 unfoldable pub with_next : List (ℕ × List ℕ) → Option Form → ℕ → List ℕ → Result (List (ℕ × List ℕ) × List ℕ) DecodeFault
 with_next es form n bytes = do

@@ -4,6 +4,7 @@ pub mod Finding
 pub mod Fields
 pub mod Messages
 pub mod Unread
+pub mod Heads
 pub mod Grammar
 pub mod HexDigits
 pub mod Spelling

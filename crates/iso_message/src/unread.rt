@@ -1,9 +1,10 @@
 //! A message that is read element by element, and isn't kept.
 ghost use Rattle.std.specs.Prelude.{◌≡◌, ◌≤◌, ◌==◌, true, false, [], ◌∷◌, length, take, drop, MatchOption, MatchResult, IfOk, IfSome, OnErr, None, Ok, Err};
 ghost use Rattle.message_elements.specs.Table.{form_of};
-ghost use Rattle.iso_message.specs.Elements.{content_at, field_at};
+ghost use Rattle.iso_message.specs.Elements.{element_at};
+ghost use Rattle.iso_message.specs.Heads.{HasFault, HasHead, HasValue, parted, value_behind};
 ghost use Rattle.iso_message.specs.Known.{IsKnown};
-ghost use Rattle.iso_message.specs.Messages.{read};
+ghost use Rattle.iso_message.specs.Messages.{Reads, read};
 ghost use Rattle.iso_message.specs.Spelling.{Ascends, is_binary};
 ghost use Rattle.iso_message.specs.Unread.{read_on};
 
@@ -47,7 +48,7 @@ struct Head<'a> {
 #[tactic(auto, unfolding(crate::specs::Elements::counted_at))]
 fn head_of<'a>(number: u8, bytes: &'a [u8], known: &Known) -> Result<Option<Head<'a>>, DecodeFault>
     requires { IsKnown known.now bytes.now }
-    ensures value { MatchResult result (λ x. MatchOption x (is_binary (form_of number) ≡ true) (λ head. field_at (form_of number) number bytes.now ≡ content_at head.class head.size number head.front.now)) (λ fault. field_at (form_of number) number bytes.now ≡ Err fault) }
+    ensures value { MatchResult result (λ x. MatchOption x (is_binary (form_of number) ≡ true) (HasHead number bytes.now)) (HasFault number bytes.now) }
     ensures other { IfOk result (λ x. IfSome x (λ _. is_binary (form_of number) ≡ false)) }
     ensures known { IfOk result (λ x. IfSome x (λ head. IsKnown known.now head.front.now)) }
 {
@@ -84,7 +85,7 @@ fn head_of<'a>(number: u8, bytes: &'a [u8], known: &Known) -> Result<Option<Head
 #[tactic(auto, unfolding(crate::specs::Elements::content_at))]
 fn with_value(head: Head, number: u8, known: Known) -> Result<Known, DecodeFault>
     requires { IsKnown known head.front.now }
-    ensures value { MatchResult result (λ _. content_at head.entry.class head.entry.size number head.entry.front.now ≡ Ok (take head.entry.size head.entry.front.now, drop head.entry.size head.entry.front.now)) (λ fault. content_at head.entry.class head.entry.size number head.entry.front.now ≡ Err fault) }
+    ensures value { Reads (λ _. parted head.entry) result (value_behind head.entry number) }
     ensures size { IfOk result (λ _. head.entry.size ≤ length head.entry.front.now) }
     ensures known { IfOk result (λ k. IsKnown k head.entry.front.now) }
 {
@@ -137,7 +138,7 @@ impl<'a> Unread<'a> {
     /// eight bytes, which isn't taken. Nothing is taken where it has a fault.
     #[inline(always)]
     pub fn take_plain(&mut self, number: u8) -> Result<Option<(&'a [u8], usize)>, DecodeFault>
-        ensures value { MatchResult result (λ x. MatchOption x (self.new.bytes ≡ self.old.bytes) (λ y. field_at (form_of number) number self.old.bytes ≡ Ok (take y.1 y.0.now, self.new.bytes))) (λ fault. field_at (form_of number) number self.old.bytes ≡ Err fault) }
+        ensures value { MatchResult result (λ x. MatchOption x (self.new.bytes ≡ self.old.bytes) (λ y. HasValue number self.old.bytes (take y.1 y.0.now) self.new.bytes)) (HasFault number self.old.bytes) }
         ensures size { IfOk result (λ x. IfSome x (λ y. y.1 ≤ length y.0.now)) }
         ensures behind { IfOk result (λ x. IfSome x (λ y. drop y.1 y.0.now ≡ self.new.bytes)) }
         ensures variant { IfOk result (λ x. MatchOption x (is_binary (form_of number) ≡ true) (λ _. is_binary (form_of number) ≡ false)) }
@@ -159,7 +160,7 @@ impl<'a> Unread<'a> {
     #[inline(always)]
     pub fn take_binary(&mut self, number: u8) -> Result<[u8; 8], DecodeFault>
         requires { is_binary (form_of number) ≡ true }
-        ensures value { MatchResult result (λ value. field_at (form_of number) number self.old.bytes ≡ Ok (value, self.new.bytes)) (λ fault. field_at (form_of number) number self.old.bytes ≡ Err fault) }
+        ensures value { Reads (λ value. (value, self.new.bytes)) result (element_at number self.old.bytes) }
         ensures numbers { self.new.numbers ≡ self.old.numbers }
         ensures err { OnErr result (self.new.bytes ≡ self.old.bytes) }
     {

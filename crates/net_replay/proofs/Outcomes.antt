@@ -5,7 +5,7 @@ use Rattle.net_rows.specs.Network.{Network, other_end}
 use Rattle.network_law.specs.Cards.{Bytes}
 use Rattle.network_law.specs.Checked.{IsChecked}
 use Rattle.network_law.specs.Tables.{is_link_of}
-use Rattle.network_law.specs.Entries.{Entry, Input}
+use Rattle.network_law.specs.Entries.{Input}
 use Rattle.network_law.specs.Entries as inputs
 use Rattle.network_law.specs.Runs.{IsLegal, IsStep, step_outputs}
 use Rattle.replay_script.specs.Lines.{Event, Said, Enter, Take, LinkUp, LinkDown, Tick, HostAnswer, NewDate, Lend, read_line}

@@ -15,7 +15,7 @@ use Rattle.network_law.specs.Entries.{Input}
 use Rattle.network_law.specs.Runs.{NamesOwnLink}
 use Rattle.net_replay.specs.Steps.{Step}
 use Rattle.net_replay.specs.Replays.{IsInput}
-use Rattle.replay_script.specs.Lines.{Event, Said, Enter, Take, LinkUp, LinkDown, Tick, HostAnswer, NewDate, Lend, at_node, node_of, own_link, read_line, by_word}
+use Rattle.replay_script.specs.Lines.{Event, Said, Enter, Take, LinkUp, LinkDown, Tick, HostAnswer, NewDate, Lend, at_node, node_of, own_link, read_line}
 use Rattle.replay_script.specs.Lines as lines
 use Rattle.replay_script.specs.declared.command.Loan.{Loan}
 use Rattle.step_rules.specs.declared.lending.Lending.{Lending}

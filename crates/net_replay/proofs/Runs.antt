@@ -3,7 +3,7 @@ use Rattle.std.proofs.Common.{◌≡◌, ℕ, ◌<◌, ◌≤◌, List, [], ◌�
 use Rattle.net_rows.specs.Network.{Network, other_end}
 use Rattle.network_law.specs.Cards.{Bytes}
 use Rattle.network_law.specs.Traces.{IsIn}
-use Rattle.network_law.specs.Entries.{Entry, Input, Put}
+use Rattle.network_law.specs.Entries.{Entry, Input}
 use Rattle.network_law.specs.Entries as inputs
 use Rattle.network_law.specs.Runs.{IsRun, IsLegal, NamesOwnLink}
 use Rattle.network_law.specs.Checked.{IsChecked}

@@ -36,6 +36,10 @@ pub record IsAt (t : Network) (nodes : List NodeView) (sent : List (List (List P
 abbrev pub IsStanding : Running → List Step → Type 0
 IsStanding r steps = IsChecked r.tables.now × IsAt r.tables.now r.nodes.items r.sent.items r.line_nodes.items steps
 
+-- P of the tables and of any steps that lead to where the nodes stand
+abbrev pub EachStanding : Running → (Network → List Step → Type 0) → Type 0
+EachStanding r P = (steps : List Step) → IsStanding r steps → P r.tables.now steps
+
 -- some line says it
 abbrev pub IsSaid : Network → Said → Type 0
 IsSaid t x = (line : Bytes) × (read_line t line ≡ Some x)

@@ -1,5 +1,5 @@
 //! Where the packets that a node put on its links stand in its trace.
-ghost use Rattle.std.specs.Prelude.{◌≡◌, ◌<◌, ℕ, [], length, replicate, OnOk, IfOk, option_and_then};
+ghost use Rattle.std.specs.Prelude.{◌≡◌, ◌<◌, [], replicate, OnOk, IfOk, option_and_then};
 ghost use Rattle.std.specs.Option.{option_copied};
 ghost use Rattle.net_replay.specs.Packets.{bytes_at, place_of, put_at, put_all};
 

@@ -1,12 +1,12 @@
 //! The nodes that a script runs on.
-ghost use Rattle.std.specs.Prelude.{◌≡◌, ◌≢◌, ◌<◌, List, [], ◌∷◌, length, IfOk, IfErr, OnOk, MatchOption, true};
-ghost use Rattle.network_law.specs.Runs.{IsTyped, NamesOwnLink};
+ghost use Rattle.std.specs.Prelude.{◌≡◌, ◌≢◌, ◌<◌, List, [], ◌∷◌, IfOk, IfErr, OnOk, MatchOption, true};
+ghost use Rattle.network_law.specs.Runs.{IsTyped};
 ghost use Rattle.network_law.specs.Tables.{is_link_of};
 ghost use Rattle.net_replay.specs.declared.fault.ReplayFault.TheVariants.{Memory};
 ghost use Rattle.replay_script.specs.Lines.{said, event_of, Take};
 ghost use Rattle.net_replay.specs.Steps.{Step};
 ghost use Rattle.net_replay.specs.Replays.{WasSent, LacksPacket, IsInput, IsSaidStep, IsSaidFault};
-ghost use Rattle.net_replay.specs.Running.{IsStanding, IsSaid};
+ghost use Rattle.net_replay.specs.Running.{EachStanding, IsStanding, IsSaid};
 ghost use Rattle.net_replay.specs.Traces.{AreTraces};
 ghost use Rattle.net_replay.specs.Replays.{fault_of};
 
@@ -66,7 +66,7 @@ impl<'a> Running<'a> {
     fn packet(&self, node: NodeNo, link: LinkNo, serial: u64) -> Option<&SharedBytes>
         requires standing { (steps : List Step) × IsStanding self.now steps }
         requires own { is_link_of self.now.tables.now node link ≡ true }
-        ensures { (steps : List Step) → IsStanding self.now steps → MatchOption result (LacksPacket self.now.tables.now steps node (Take link serial)) (λ b. WasSent self.now.tables.now steps node link serial b.now) }
+        ensures { EachStanding self.now (λ t steps. MatchOption result (LacksPacket t steps node (Take link serial)) (λ b. WasSent t steps node link serial b.now)) }
     {
         let other = self.tables.other_end(node, link).place();
         let place = self.sent[other].get(link, serial);
@@ -78,8 +78,8 @@ impl<'a> Running<'a> {
         requires standing { (steps : List Step) × IsStanding self.now steps }
         requires said { IsSaid self.now.tables.now (said line.now) }
         ensures typed { IfOk result IsTyped }
-        ensures input { IfOk result (λ i. (steps : List Step) → IsStanding self.now steps → IsInput self.now.tables.now steps line.now.node (event_of line.now.command) i) }
-        ensures fault { IfErr result (λ f. f ≢ Memory → (steps : List Step) → IsStanding self.now steps → IsSaidFault self.now.tables.now steps number (said line.now) f) }
+        ensures input { IfOk result (λ i. EachStanding self.now (λ t steps. IsInput t steps line.now.node (event_of line.now.command) i)) }
+        ensures fault { IfErr result (λ f. f ≢ Memory → EachStanding self.now (λ t steps. IsSaidFault t steps number (said line.now) f)) }
     {
         let case = match line.command {
             Command::Enter(message) => Case::Enter(SharedBytes::from_slice(self.alloc, message)?),
@@ -104,8 +104,8 @@ impl<'a> Running<'a> {
         requires standing { (steps : List Step) × IsStanding self.old steps }
         requires said { IsSaid self.old.tables.now (said line.now) }
         ensures tables { self.new.tables.now ≡ self.old.tables.now }
-        ensures made { OnOk result ((steps : List Step) → IsStanding self.old steps → (s : Step) × IsSaidStep self.old.tables.now steps (said line.now) s × IsStanding self.new (s ∷ steps)) }
-        ensures fault { IfErr result (λ f. f ≢ Memory → (steps : List Step) → IsStanding self.old steps → IsSaidFault self.old.tables.now steps number (said line.now) f) }
+        ensures made { OnOk result (EachStanding self.old (λ t steps. (s : Step) × IsSaidStep t steps (said line.now) s × IsStanding self.new (s ∷ steps))) }
+        ensures fault { IfErr result (λ f. f ≢ Memory → EachStanding self.old (λ t steps. IsSaidFault t steps number (said line.now) f)) }
     {
         let input = self.input(number, line)?;
         let place = line.node.place();
@@ -125,7 +125,7 @@ impl<'a> Running<'a> {
     }
 
     pub(crate) fn traces(self) -> Traces<'a>
-        ensures { (steps : List Step) → IsStanding self.entry steps → AreTraces self.entry.tables.now steps result }
+        ensures { EachStanding self.entry (λ t steps. AreTraces t steps result) }
     {
         Traces::new(self.nodes, self.line_nodes)
     }

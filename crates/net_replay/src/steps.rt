@@ -1,5 +1,5 @@
 //! The steps of a script, in the order of its lines.
-ghost use Rattle.std.specs.Prelude.{◌≡◌, [], ◌∷◌, ◌≤◌, IfOk, MatchOption, length, map, reverse};
+ghost use Rattle.std.specs.Prelude.{◌≡◌, [], ◌∷◌, ◌≤◌, IfOk, MatchOption, map, reverse};
 ghost use Rattle.net_replay.specs.Merged.{merged};
 
 use card_digits::NodeNo;

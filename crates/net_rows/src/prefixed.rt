@@ -1,5 +1,6 @@
 //! What a row is found by.
 ghost use Rattle.std.specs.Prelude.{◌≡◌, ◌≤◌, length, take};
+ghost use Rattle.card_digits.specs.Digits.{IsPrefix};
 
 use card_digits::{NodeNo, Prefix};
 
@@ -25,8 +26,6 @@ pub(crate) struct RowKey {
     pub node: Option<NodeNo>,
     pub prefix: Prefix,
 }
-
-ghost use Rattle.card_digits.specs.Digits.{IsPrefix};
 
 impl RowKey {
     /// The key of a row.

@@ -3,7 +3,7 @@ ghost use Rattle.std.specs.Prelude.{◌≡◌, ◌==◌, if◌then◌else◌};
 
 use crate::lists::{Links, Nodes};
 use crate::prefixed::Prefixed;
-use card_digits::{Amount, DateLabel, Id, LinkNo, Name, NodeNo, Prefix, ShortBytes};
+use card_digits::{Amount, DateLabel, Id, Name, NodeNo, Prefix, ShortBytes};
 
 /// The most ticks that a request waits on a link or for the host, and that pass before an advice is sent again (our format of tables).
 pub const MOST_TICKS: u16 = 4_000;

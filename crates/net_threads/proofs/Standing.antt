@@ -1,5 +1,5 @@
 -- What was found in the traces of stations, and what makes them a run.
-use Rattle.std.proofs.Common.{◌≡◌, ◌⊎◌, inl, inr, ⊎_elim, ℕ, zero, suc, ◌<◌, List, [], ◌∷◌, ◌++◌, length, reverse, All, slice_get, Some, None, Option, Bool, true, false, ◌&&◌, ◌||◌, ◌==◌, eqb-true, eq-eqb, bytes_eq, arith, refl, sym, ap, ◌∙◌, subst}
+use Rattle.std.proofs.Common.{◌≡◌, ◌⊎◌, inl, inr, ⊎_elim, ℕ, zero, suc, ◌<◌, List, [], ◌∷◌, ◌++◌, length, reverse, All, slice_get, Some, None, Option, Bool, true, false, ◌&&◌, ◌==◌, eqb-true, eq-eqb, bytes_eq, arith, refl, sym, ap, ◌∙◌, subst}
 use Rattle.std.specs.Prelude.{MatchBool}
 use Rattle.std.specs.List.{list_any, AllByRecursion}
 use mathlib.Core.List.{reverse-cons}

@@ -1,17 +1,22 @@
 -- What the verdicts say of stations.
-use Rattle.std.specs.Prelude.{◌≡◌, ℕ, suc, List, [], Option, Some, None, slice_get, All, ⊤}
+use Rattle.std.specs.Prelude.{◌≡◌, ℕ, suc, List, [], Bool, Option, Some, None, slice_get, All, MatchBool, ⊤}
 use Rattle.net_rows.specs.Network.{Network, other_end}
 use Rattle.network_law.specs.Cards.{Bytes}
 use Rattle.network_law.specs.Traces.{IsIn}
-use Rattle.network_law.specs.Entries.{Entry, Input, Take, Put, Answer}
+use Rattle.network_law.specs.Entries.{Entry, Input, Take, Answer}
 use Rattle.network_law.specs.Runs.{IsRun, WasPut}
 use Rattle.net_threads.specs.Station.{StationView}
 use Rattle.net_threads.specs.declared.ended.Ended.{Ended}
 use Rattle.net_threads.specs.declared.ended.SessionEnd.{SessionEnd}
 use Rattle.net_threads.specs.declared.ended.LineEnd.{LineEnd}
 use Rattle.net_threads.specs.declared.ended.LineEnd.TheVariants as ends
+use Rattle.net_threads.specs.declared.judge.Judged.{Judged}
 use Rattle.net_threads.specs.declared.ended.Verdict.{Verdict}
 use Rattle.net_threads.specs.declared.ended.Verdict.TheVariants.{Linked, LinkStrange, AnswerStrange, StationStrange}
+
+-- the answer is whether it is so
+abbrev pub Decides : Bool → Type 0 → Type 0
+Decides answer P = MatchBool answer P (¬ P)
 
 abbrev pub trace_or_none : Option StationView → List Entry
 trace_or_none None = []
@@ -54,6 +59,14 @@ pub record HasStrange (t : Network) (stations : List StationView) (l s : ℕ) : 
   pub is_entry : IsIn entry station.trace
   pub strange : IsStrange t stations n l s entry.input
 
+-- the trace of the node at the other end of a link, of the stations that are judged
+abbrev pub far_trace : Judged → ℕ → ℕ → List Entry
+far_trace judged n l = trace_of judged.stations.now (other_end judged.tables.now n l)
+
+-- what is said of the tables and the stations that are judged
+abbrev pub here : {B : Type 1} → Judged → (Network → List StationView → B) → B
+here judged said = said judged.tables.now judged.stations.now
+
 -- an answer stands in the trace of the session's node
 abbrev pub IsGiven : List StationView → ℕ → LineEnd → Type 0
 IsGiven stations n (ends.Answer bytes) = WasAnswered (trace_of stations n) bytes.items
@@ -62,6 +75,10 @@ IsGiven stations n (ends.Refused fault) = ⊤
 
 abbrev pub AreGiven : List StationView → Ended → Type 0
 AreGiven stations ended = (k : ℕ) (s : SessionEnd) → slice_get ended.sessions.items k ≡ Some s → All (IsGiven stations s.node) s.lines.items
+
+-- the line at this place of the session has an answer that was not given there
+abbrev pub IsUngiven : List StationView → SessionEnd → ℕ → Type 0
+IsUngiven stations session j = (end : LineEnd) × (slice_get session.lines.items j ≡ Some end) × ¬ IsGiven stations session.node end
 
 pub record HasUngiven (stations : List StationView) (ended : Ended) (session line : ℕ) : Type 0 where
   pub end : SessionEnd

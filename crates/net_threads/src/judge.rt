@@ -1,10 +1,9 @@
 //! Whether traces are a run.
-ghost use Rattle.std.specs.Prelude.{◌≡◌, ◌≤◌, ℕ, All, IfOk, MatchBool, MatchOption, Some, slice_get, length};
-ghost use Rattle.net_rows.specs.Network.{other_end};
+ghost use Rattle.std.specs.Prelude.{◌≡◌, ◌≤◌, All, IfOk, MatchOption, Some, slice_get, length};
 ghost use Rattle.network_law.specs.Entries.{Entry};
 ghost use Rattle.network_law.specs.Runs.{IsLegal, WasPut};
 ghost use Rattle.network_law.specs.Traces.{IsIn};
-ghost use Rattle.net_threads.specs.Verdicts.{trace_of, WasAnswered, IsOf, AreOf, IsLinked, AreLinked, IsStrange, HasStrange, IsGiven, AreGiven, HasUngiven, Holds};
+ghost use Rattle.net_threads.specs.Verdicts.{trace_of, far_trace, here, Decides, WasAnswered, IsOf, AreOf, IsLinked, AreLinked, IsStrange, HasStrange, IsGiven, AreGiven, IsUngiven, HasUngiven, Holds};
 
 use crate::ended::{Ended, LineEnd, SessionEnd, Verdict};
 use crate::puts::{AnswerPlaces, PutPlaces, has_answer_from, has_put};
@@ -26,7 +25,7 @@ struct Judged<'s, 'a> {
 
 /// Whether the node at the other end put the packet.
 fn was_put(judged: &Judged<'_, '_>, n: NodeNo, link: LinkNo, serial: u64, bytes: &[u8]) -> bool
-    ensures { MatchBool result (WasPut (trace_of judged.now.stations.now (other_end judged.now.tables.now n link)) link serial bytes.now) (¬ WasPut (trace_of judged.now.stations.now (other_end judged.now.tables.now n link)) link serial bytes.now) }
+    ensures { Decides result (WasPut (far_trace judged.now n link) link serial bytes.now) }
 {
     let other = judged.tables.other_end(n, link).place();
     if other >= judged.stations.len() {
@@ -44,7 +43,7 @@ fn was_put(judged: &Judged<'_, '_>, n: NodeNo, link: LinkNo, serial: u64, bytes:
 
 /// The link and serial of a packet that the input takes and that was not put.
 fn strange_take(judged: &Judged<'_, '_>, n: NodeNo, input: &Input) -> Option<(LinkNo, u64)>
-    ensures { MatchOption result (IsLinked judged.now.tables.now judged.now.stations.now n input.now) (λ p. IsStrange judged.now.tables.now judged.now.stations.now n p.0 p.1 input.now) }
+    ensures { MatchOption result (here judged.now IsLinked n input.now) (λ p. here judged.now IsStrange n p.0 p.1 input.now) }
 {
     match input.case() {
         Case::Take(link, serial, bytes) => {
@@ -60,7 +59,7 @@ fn strange_take(judged: &Judged<'_, '_>, n: NodeNo, input: &Input) -> Option<(Li
 
 /// The first of these entries.
 fn strange_entry(judged: &Judged<'_, '_>, n: NodeNo, entries: &[Entry]) -> Option<(LinkNo, u64)>
-    ensures { MatchOption result (All (λ e. IsLinked judged.now.tables.now judged.now.stations.now n e.input) entries.now) (λ p. (e : Entry) × IsIn e entries.now × IsStrange judged.now.tables.now judged.now.stations.now n p.0 p.1 e.input) }
+    ensures { MatchOption result (All (λ e. here judged.now IsLinked n e.input) entries.now) (λ p. (e : Entry) × IsIn e entries.now × here judged.now IsStrange n p.0 p.1 e.input) }
 {
     for entry in entries {
         if let Some(packet) = strange_take(judged, n, entry.input()) {
@@ -73,7 +72,7 @@ fn strange_entry(judged: &Judged<'_, '_>, n: NodeNo, entries: &[Entry]) -> Optio
 /// The first of all nodes.
 fn strange_link(judged: &Judged<'_, '_>) -> Option<(LinkNo, u64)>
     requires { length judged.now.stations.now ≤ 64 }
-    ensures { MatchOption result (AreLinked judged.now.tables.now judged.now.stations.now) (λ p. HasStrange judged.now.tables.now judged.now.stations.now p.0 p.1) }
+    ensures { MatchOption result (here judged.now AreLinked) (λ p. here judged.now HasStrange p.0 p.1) }
 {
     for (n, station) in judged.stations.iter().enumerate() {
         if let Some(packet) = strange_entry(judged, NodeNo::new(n), station.trace()) {
@@ -90,7 +89,7 @@ fn was_answered(
     bytes: &[u8],
     from: &mut usize,
 ) -> bool
-    ensures { MatchBool result (WasAnswered (trace_of stations.now n) bytes.now) (¬ WasAnswered (trace_of stations.now n) bytes.now) }
+    ensures { Decides result (WasAnswered (trace_of stations.now n) bytes.now) }
 {
     let place = n.place();
     if place >= stations.len() {
@@ -108,7 +107,7 @@ fn is_given(
     end: &LineEnd,
     from: &mut usize,
 ) -> bool
-    ensures { MatchBool result (IsGiven stations.now n end.now) (¬ IsGiven stations.now n end.now) }
+    ensures { Decides result (IsGiven stations.now n end.now) }
 {
     match end {
         LineEnd::Answer(bytes) => was_answered(stations, places, n, bytes.as_slice(), from),
@@ -122,7 +121,7 @@ fn strange_line(
     places: &[AnswerPlaces],
     session: &SessionEnd,
 ) -> Option<usize>
-    ensures { MatchOption result (All (IsGiven stations.now session.now.node) session.now.lines.items) (λ j. (end : _) × (slice_get session.now.lines.items j ≡ Some end) × ¬ IsGiven stations.now session.now.node end) }
+    ensures { MatchOption result (All (IsGiven stations.now session.now.node) session.now.lines.items) (IsUngiven stations.now session.now) }
 {
     let mut from = 0;
     for (j, end) in session.lines.iter().enumerate() {
@@ -151,7 +150,7 @@ fn strange_answer(
 
 /// Whether the station holds this node of the tables.
 fn is_of(tables: &Tables, n: NodeNo, station: &Station<'_>) -> bool
-    ensures { MatchBool result (IsOf tables.now n station.now) (¬ IsOf tables.now n station.now) }
+    ensures { Decides result (IsOf tables.now n station.now) }
 {
     station.place() == n && same_tables(station.tables(), tables)
 }

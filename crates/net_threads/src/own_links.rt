@@ -1,12 +1,12 @@
 //! Whether inputs are for a node.
-ghost use Rattle.std.specs.Prelude.{MatchBool};
 ghost use Rattle.network_law.specs.Runs.{NamesOwnLink};
 ghost use Rattle.switch_node.specs.Inputs.{input_of};
+ghost use Rattle.net_threads.specs.Verdicts.{Decides};
 
 use switch_node::{Case, Input, Node};
 
 fn is_own_case(node: &Node<'_>, case: &Case) -> bool
-    ensures { MatchBool result (NamesOwnLink node.now.t node.now.n (input_of case.now)) (¬ NamesOwnLink node.now.t node.now.n (input_of case.now)) }
+    ensures { Decides result (NamesOwnLink node.now.t node.now.n (input_of case.now)) }
 {
     match case {
         Case::Take(link, _, _) => node.has_link(*link),
@@ -18,7 +18,7 @@ fn is_own_case(node: &Node<'_>, case: &Case) -> bool
 
 /// Whether a link that an input names is one of the node's.
 pub(crate) fn is_own(node: &Node<'_>, input: &Input) -> bool
-    ensures { MatchBool result (NamesOwnLink node.now.t node.now.n input.now) (¬ NamesOwnLink node.now.t node.now.n input.now) }
+    ensures { Decides result (NamesOwnLink node.now.t node.now.n input.now) }
 {
     is_own_case(node, input.case())
 }

@@ -15,7 +15,6 @@ pub mod Approvals
 pub mod Late
 pub mod Provenance
 pub mod Reversals
-pub mod Books
 pub mod Fails
 pub mod Accounts
 pub mod AdviceMarks
@@ -27,18 +26,8 @@ pub mod Marks
 pub mod Leaves
 pub mod Plain
 pub mod PlainGrants
-pub mod StoredOrder
-pub mod PlainAdvices
-pub mod PlainContents
-pub mod PlainLate
-pub mod Acked
 pub mod Packets
 pub mod PacketsExact
 pub mod GrantTexts
 pub mod Written
 pub mod Reading
-pub mod Spelled
-pub mod WorkedRun
-pub mod TwoHops
-pub mod LateRun
-pub mod WorkedSteps

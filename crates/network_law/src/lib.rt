@@ -6,14 +6,8 @@
 //! (`specs/Runs`). What tables and ranks must keep stands in `specs/Checked`, and what is claimed in `specs/Claims`.
 #![tactic(auto)]
 
-mod declined;
 mod fault;
 mod grant;
-mod places;
-mod readings;
-mod spelling;
-mod words;
-mod worked;
 
 ghost use Rattle.std.specs.Prelude.{ℕ, ◌<◌, List, length};
 ghost use Rattle.net_rows.specs.Network.{Network};
@@ -23,21 +17,8 @@ ghost use Rattle.network_law.specs.Runs.{IsLegal, IsRun};
 ghost use Rattle.network_law.specs.Claims.{Safe, Covered, IsWithinLimits, BorrowedWasLent, OneContent};
 ghost use Rattle.network_law.specs.Legal.{FailsAreMarked, FailsAreReversed, IsReadAsDecided, ForwardsOnce, ReversalsLeaveLess, ReversalsDecide};
 
-pub use declined::{worked_declined_cards, worked_other_contents, worked_ways};
 pub use fault::StepFault;
 pub use grant::{Grant, GrantPacket, packet_bytes, read_packet};
-pub use places::{worked_full_node, worked_places};
-pub use readings::{worked_first_faults, worked_grants, worked_messages};
-pub use spelling::{worked_bytes, worked_faults_of_bytes};
-pub use words::{
-    plain_words, plain_words_of_advices, plain_words_of_contents, plain_words_of_late_approvals,
-    plain_words_of_lent_amounts,
-};
-pub use worked::{
-    worked_answers, worked_full_load, worked_late_run, worked_lent_amounts, worked_limits,
-    worked_partial_reversals, worked_refusals, worked_reversals, worked_run, worked_two_hops,
-    wrong_traces_are_not_legal,
-};
 
 /// Where the tables are sound, ranks fall along each route and limits stay within ceilings, every run is safe and nothing in it is
 /// lost, however steps interleave, links fail and packets are lost, repeated or late.

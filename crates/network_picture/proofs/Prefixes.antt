@@ -1,5 +1,5 @@
 -- The longest of classes, one class after the other.
-use Rattle.std.proofs.Common.{◌≡◌, ◌∙◌, ℕ, ◌<◌, ◌+◌, cond, List, [], ◌∷◌, ◌++◌, take, get_or, length, Option, sym, ap}
+use Rattle.std.proofs.Common.{◌≡◌, ◌∙◌, ℕ, ◌<◌, ◌+◌, cond, List, take, get_or, length, Option, sym, ap}
 use Rattle.std.proofs.lemmas.List.{take_more}
 use Rattle.card_digits.specs.Longest.{begins, kept, longest}
 use Rattle.card_digits.proofs.Deepest.{longest-push}

@@ -1,5 +1,5 @@
 -- The picture of a network at a class.
-use Rattle.std.specs.Prelude.{ℕ, ◌+◌, zero, suc, ◌==◌, Bool, false, List, [], ◌∷◌, ◌++◌, length, map, Option, Some, None, option_map, option_and_then, slice_get, unwrap_or, if◌then◌else◌}
+use Rattle.std.specs.Prelude.{ℕ, ◌+◌, zero, suc, ◌==◌, Bool, false, List, [], ◌∷◌, ◌++◌, length, map, Option, option_map, option_and_then, slice_get, unwrap_or, if◌then◌else◌}
 use Rattle.std.specs.Option.{option_map_or}
 use Rattle.net_rows.specs.Network.{Network, issuer, route, stand_in, other_end}
 use Rattle.net_rows.specs.declared.row.Issuer.{Issuer}

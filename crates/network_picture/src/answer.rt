@@ -1,9 +1,9 @@
 //! The answer to an input.
-ghost use Rattle.std.specs.Prelude.{◌≡◌, ◌++◌, ◌⊎◌, IfOk, string_bytes, Some, None};
+ghost use Rattle.std.specs.Prelude.{◌≡◌, ◌⊎◌, IfOk, string_bytes, Some, None};
 ghost use Rattle.bundle_text.specs.Answers.{NamesMemory};
 ghost use Rattle.table_checker.specs.Rules.{first_refusal};
 ghost use Rattle.network_picture.specs.Shown.{shown_class};
-ghost use Rattle.network_picture.specs.Answers.{head_text, body_text, picture_at, PictureAnswers, IsPictured};
+ghost use Rattle.network_picture.specs.Answers.{asked_picture, head_text, body_text, picture_at, picture_text, PictureAnswers, IsPictured};
 
 use crate::asked::{Drawing, PictureJob};
 use crate::class::shown_class;
@@ -60,7 +60,7 @@ fn drawn(
     line: &[u8],
     picture: &Picture,
 ) -> Result<Vec<u8>, AllocError>
-    ensures { IfOk result (λ v. v.items ≡ head_text drawing picture.now ++ line.now ++ body_text drawing picture.now) }
+    ensures { IfOk result (λ v. v.items ≡ picture_text drawing line.now picture.now) }
 {
     let head = head_text(alloc, drawing, picture)?;
     let body = body_text(alloc, drawing, picture)?;
@@ -94,7 +94,7 @@ fn picture_text(
     found: &[RowRefusal],
     line: &[u8],
 ) -> Result<Vec<u8>, AllocError>
-    ensures { let p = picture_at tables.now cert.now found.now (shown_class tables.now verdict.now job.now.prefix) in IfOk result (λ v. v.items ≡ head_text job.now.drawing p ++ line.now ++ body_text job.now.drawing p) }
+    ensures { IfOk result (λ v. v.items ≡ picture_text job.now.drawing line.now (asked_picture job.now tables.now cert.now verdict.now found.now)) }
 {
     let class = shown_class(alloc, tables, verdict, &job.prefix)?;
     let picture = picture_at(alloc, tables, cert, found, &class)?;

@@ -1,7 +1,7 @@
 //! The links of a picture, and the routes of its class.
 ghost use Rattle.std.specs.Prelude.{◌≡◌, ◌<◌, ◌≤◌, ◌++◌, length, IfOk};
 ghost use Rattle.std.specs.Option.{option_copied};
-ghost use Rattle.network_picture.specs.Made.{by_place, route_in, link_line, link_lines, choice_at, arrow, arrows_of, arrows_at, arrows_below};
+ghost use Rattle.network_picture.specs.Made.{route_in, link_line, link_lines, choice_at, arrow, arrows_of, arrows_at, arrows_below};
 
 use crate::marks::{has_link, has_route};
 use crate::nodes::AtClass;

@@ -17,7 +17,7 @@ use Rattle.pending_book.specs.declared.node.Standing.{Standing}
 use Rattle.pending_book.specs.Waits.{WaitsView, is_over, waits_by}
 use Rattle.kept_messages.specs.Ways.{output_key}
 use Rattle.pending_book.specs.Rows.{IsUnique, card_in}
-use Rattle.pending_book.specs.NodeKept.{AreKept, AreWaiting, HasWait, IsSameRequest, IsTimed, IsDueInTime, bit, is_waiting, place_of, standing_of}
+use Rattle.pending_book.specs.NodeKept.{AreKept, AreWaiting, HasWait, WaitsAnew, IsSameRequest, IsTimed, IsDueInTime, bit, is_waiting, place_of, standing_of}
 use Rattle.pending_book.proofs.At.{at_got, got_at, mapped_at, more_at, within}
 use Rattle.pending_book.proofs.NodePlaces.{count_more, found_none, place_found, place_last, place_same, places_after}
 use Rattle.pending_book.proofs.Unique.{quiet, unique_after, unique_more}
@@ -94,7 +94,7 @@ other_stays o rows place k x u at e ne = elim (cases_Bool (row_has (output_key o
 
 pub waiting_after : (w : WaitsView) (count : ℕ) (timely known : Bool) (o : ReadOutput) (rows : List Row) (place : ℕ) (d row : Row) (before : Standing) (old new : List (Option Wait)) → AreWaiting w count timely rows old → IsUnique rows
     → place_of (output_key o) rows ≡ Some place → place < length rows → before ≡ standing_of (get_or rows place d) → row ≡ row_after o (get_or rows place d)
-    → ((b : Bool) (r : Row) → IsSameRequest r row → standing_of r ≡ before → HasWait w count b r (wait_at old place) → HasWait w count (b && known) row (wait_at new place))
+    → WaitsAnew w count before row known (wait_at old place) (wait_at new place)
     → ((k : ℕ) → k ≢ place → wait_at new k ≡ wait_at old k) → length new ≡ length old → AreWaiting w count (timely && known) (map (row_after o) rows) new
 waiting_after w count timely known o rows place d row before old new a u at lt was is here others places = record {
   each =

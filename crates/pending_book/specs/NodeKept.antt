@@ -61,6 +61,11 @@ pub record HasWait (w : WaitsView) (count : ℕ) (timely : Bool) (r : Row) (wait
   pub waits : is_waiting r ≡ true → (v : Wait) × (wait ≡ Some v) × (v.link ≡ r.link) × (v.card ≡ card_in r.message) × (timely ≡ true → IsTimed w count r v) × IsDueInTime w r v
   pub rests : is_waiting r ≡ false → wait ≡ None
 
+-- a request that stood so before and had the old wait has the new one now, and the ticks of all are known where they were known before and
+-- its own is
+abbrev pub WaitsAnew : WaitsView → ℕ → Standing → Row → Bool → Option Wait → Option Wait → Type 0
+WaitsAnew w count before row known old new = (timely : Bool) (r : Row) → IsSameRequest r row → standing_of r ≡ before → HasWait w count timely r old → HasWait w count (timely && known) row new
+
 -- each request of some is waited for at its place
 pub record AreWaiting (w : WaitsView) (count : ℕ) (timely : Bool) (rows : List Row) (waits : List (Option Wait)) : Type 0 where
   pub each : (k : ℕ) (r : Row) → slice_get rows k ≡ Some r → HasWait w count timely r (wait_at waits k)

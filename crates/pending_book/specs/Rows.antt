@@ -1,5 +1,5 @@
 -- What contracts see of a node's requests.
-use Rattle.std.specs.Prelude.{◌≡◌, ◌==◌, ℕ, List, [], ◌∷◌, ◌++◌, Bool, true, false, ◌&&◌, ◌||◌, if◌then◌else◌, filter, length, slice_get, Option, Some, None, is_some, is_none, ⊤}
+use Rattle.std.specs.Prelude.{◌≡◌, ◌==◌, ℕ, List, [], ◌∷◌, ◌++◌, Bool, true, false, ◌&&◌, ◌||◌, if◌then◌else◌, length, slice_get, Option, Some, None, is_some, is_none, ⊤}
 use Rattle.std.specs.Cmp.Lexicographic.{pointwise}
 use Rattle.std.specs.Option.{option_map_or}
 use Rattle.card_digits.specs.declared.key.Key.{Key}
@@ -11,7 +11,7 @@ use Rattle.message_keys.specs.Keys.{key_of}
 use Rattle.iso_message.specs.Made.{has_own_key}
 use Rattle.network_law.specs.Traces.{Source, Gate, ByLink, is_link}
 use Rattle.node_machine.specs.Lists.{Row, Mark, of_key, row_key, row_pending}
-use Rattle.std.specs.List.{range_with_len}
+use Rattle.request_slots.specs.Waits.{places_among}
 use Rattle.pending_book.specs.Waits.{WaitsView}
 
 -- a source is the gate, or a link
@@ -63,4 +63,4 @@ waits_of card r = row_pending r && ((is_some r.link || r.asked) && option_map_or
 
 -- the places of the requests that pass a test, in opening order
 abbrev pub places_where : (Row → Bool) → List Row → List ℕ
-places_where p rows = filter (λ place. option_map_or p (slice_get rows place) false) (range_with_len 0 (length rows))
+places_where p rows = places_among (length rows) (slice_get rows) p

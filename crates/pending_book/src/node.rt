@@ -6,13 +6,13 @@ ghost use Rattle.std.specs.Option.{option_copied};
 ghost use Rattle.card_digits.specs.declared.key.Key.{Key};
 ghost use Rattle.message_keys.specs.Keys.{key_eq};
 ghost use Rattle.node_machine.specs.Lists.{row_after, of_key, row_pending, is_marked, left_marks};
-ghost use Rattle.std.specs.Prelude.{◌≢◌, ◌&&◌, ℕ, Bool};
+ghost use Rattle.std.specs.Prelude.{◌≢◌, ◌&&◌, ℕ};
 ghost use Rattle.node_machine.specs.Lists.{Row};
 ghost use Rattle.request_slots.specs.Waits.{wait_at};
 ghost use Rattle.kept_messages.specs.Ways.{output_key};
 ghost use Rattle.pending_book.specs.Rows.{IsUnique, opened, places_where, waits_of, waits_on};
 ghost use Rattle.pending_book.specs.Waits.{is_over};
-ghost use Rattle.pending_book.specs.NodeKept.{bit, is_waiting, place_of, standing_of, HasWait, IsSameRequest};
+ghost use Rattle.pending_book.specs.NodeKept.{bit, is_waiting, place_of, standing_of, HasWait, WaitsAnew};
 
 use crate::marks::{Mark, Marks};
 use crate::row::Row;
@@ -221,7 +221,7 @@ fn settle_anew(
 ) -> bool
     requires room { 0 < waiting.old.room }
     requires place { place < length waiting.old.waits }
-    ensures here { (timely : Bool) (r : Row) → IsSameRequest r row.now → standing_of r ≡ before → HasWait waits.now waiting.old.count timely r (wait_at waiting.old.waits place) → HasWait waits.now waiting.old.count (timely && result) row.now (wait_at waiting.new.waits place) }
+    ensures here { WaitsAnew waits.now waiting.old.count before row.now result (wait_at waiting.old.waits place) (wait_at waiting.new.waits place) }
     ensures others { (k : ℕ) → k ≢ place → wait_at waiting.new.waits k ≡ wait_at waiting.old.waits k }
     ensures places { length waiting.new.waits ≡ length waiting.old.waits }
     ensures count { waiting.new.count ≡ waiting.old.count }

@@ -1,5 +1,5 @@
 -- What somebody who reads a trace comes to, from where he has come on.
-use Rattle.std.specs.Prelude.{ℕ, ◌+◌, nat_lt, if◌then◌else◌, List, [], ◌∷◌, ◌++◌, drop, Option, Some, None, filter_map}
+use Rattle.std.specs.Prelude.{◌≡◌, ℕ, ◌+◌, ◌<◌, nat_lt, if◌then◌else◌, List, [], ◌∷◌, ◌++◌, length, drop, Option, Some, None, filter_map}
 use Rattle.std.specs.List.{flat_map}
 use Rattle.network_law.specs.Cards.{Bytes}
 use Rattle.network_law.specs.Entries.{Entry, Output, Ask}
@@ -15,6 +15,10 @@ outputs_after output (e ∷ es) = drop output e.outputs ++ flat_map (λ x. x.out
 -- what is looked for among the outputs of a trace, from a cursor on
 abbrev pub found_from : {X : Type 0} → (Output → Option X) → List Entry → Cursor → List X
 found_from looked trace c = filter_map looked (outputs_after c.output (drop c.entry trace))
+
+-- this is the first that is looked for among outputs from a place on, and stands at that other place
+abbrev pub IsFirst : {X : Type 0} → (Output → Option X) → List Output → ℕ → ℕ → X → Type 0
+IsFirst looked outputs from place x = (place < length outputs) × (filter_map looked (drop from outputs) ≡ x ∷ filter_map looked (drop (place + 1) outputs))
 
 -- a request to the host, with its number
 abbrev pub ask_of : Output → Option (ℕ × Bytes)

@@ -1,7 +1,7 @@
 -- Which answers may be the wanted one.
 use Rattle.std.specs.Prelude.{ℕ, ◌+◌, ◌%◌, ◌==◌, ◌&&◌, ◌||◌, nat_le, Bool, false, if◌then◌else◌, List, [], ◌∷◌, ◌++◌, length, Option, Some, None}
 use Rattle.std.specs.List.{starts_with}
-use Rattle.network_law.specs.Entries.{Output, Put, Answer, Ask, Post}
+use Rattle.network_law.specs.Entries.{Output, Answer}
 use Rattle.plan_state.specs.declared.wanted.Wanted.{Wanted}
 
 -- the type of the answer to a message of this type, as digits

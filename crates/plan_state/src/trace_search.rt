@@ -1,7 +1,7 @@
 //! What hosts and sessions wait for in a trace.
-ghost use Rattle.std.specs.Prelude.{◌≡◌, ◌+◌, ◌<◌, ◌^◌, ◌∷◌, [], None, IfSome, drop, filter_map, length};
+ghost use Rattle.std.specs.Prelude.{◌≡◌, ◌+◌, ◌<◌, ◌^◌, ◌∷◌, [], None, IfSome, drop, filter_map};
 ghost use Rattle.plan_state.specs.Cursors.{skipped};
-ghost use Rattle.plan_state.specs.Found.{answers_from, ask_of, asks_from, behind};
+ghost use Rattle.plan_state.specs.Found.{IsFirst, answers_from, ask_of, asks_from, behind};
 ghost use Rattle.plan_state.specs.Wanted.{answer_to};
 
 use crate::wanted::Wanted;
@@ -68,7 +68,7 @@ struct AskAt<'o> {
 
 /// The first request to the host among outputs from a place on.
 fn asked(outputs: &[Output], from: usize) -> Option<AskAt<'_>>
-    ensures found { IfSome result (λ a. (a.place < length outputs.now) × (filter_map ask_of (drop from outputs.now) ≡ (a.number, a.bytes.now) ∷ filter_map ask_of (drop (a.place + 1) outputs.now))) }
+    ensures found { IfSome result (λ a. IsFirst ask_of outputs.now from a.place (a.number, a.bytes.now)) }
     ensures none { result ≡ None → filter_map ask_of (drop from outputs.now) ≡ [] }
 {
     for place in from..outputs.len() {
@@ -93,7 +93,7 @@ struct AnswerAt<'o> {
 
 /// The first answer among outputs from a place on that may be the wanted one.
 fn answered<'o>(outputs: &'o [Output], from: usize, wanted: &Wanted) -> Option<AnswerAt<'o>>
-    ensures found { IfSome result (λ a. (a.place < length outputs.now) × (filter_map (answer_to wanted.now) (drop from outputs.now) ≡ a.bytes.now ∷ filter_map (answer_to wanted.now) (drop (a.place + 1) outputs.now))) }
+    ensures found { IfSome result (λ a. IsFirst (answer_to wanted.now) outputs.now from a.place a.bytes.now) }
     ensures none { result ≡ None → filter_map (answer_to wanted.now) (drop from outputs.now) ≡ [] }
 {
     for place in from..outputs.len() {

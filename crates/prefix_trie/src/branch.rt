@@ -1,6 +1,6 @@
 //! The branches of a trie, in one list. The root is the first.
 ghost use Rattle.std.specs.Prelude.{◌≡◌, ◌==◌, ◌&&◌, ◌<◌, ◌≤◌, ◌+◌, ℕ, false, length, All, OnOk, OnErr, IfOk, Some};
-ghost use Rattle.prefix_trie.specs.Walk.{behind, row_at, reach};
+ghost use Rattle.prefix_trie.specs.Walk.{behind, row_at, reach, bare, number_at};
 ghost use Rattle.prefix_trie.specs.Growth.{IsTree, IsSameTo};
 
 use std::alloc::AllocError;
@@ -25,8 +25,6 @@ impl Branch {
     }
 }
 
-ghost use Rattle.prefix_trie.specs.Walk.{bare};
-
 /// The branch behind a digit, or 0 where there is none.
 pub(crate) fn behind(branches: &[Branch], at: usize, digit: u8) -> usize
     ensures { result ≡ behind branches.now at digit }
@@ -45,8 +43,6 @@ fn number_at(numbers: &[u32], digit: u8) -> usize
         None => 0,
     }
 }
-
-ghost use Rattle.prefix_trie.specs.Walk.{number_at};
 
 /// The place of the row whose prefix ends at the branch.
 pub(crate) fn row_at(branches: &[Branch], at: usize) -> Option<usize>

@@ -1,5 +1,5 @@
 //! Pairs of a prefix and a value.
-ghost use Rattle.std.specs.Prelude.{◌≡◌, ◌≤◌, ◌+◌, [], length, is_some, true, None, IfOk, OnOk, OnErr, IfErr, option_map};
+ghost use Rattle.std.specs.Prelude.{◌≡◌, ◌≤◌, ◌+◌, [], length, is_some, true, None, IfOk, OnOk, OnErr, IfErr, option_map, option_and_then, slice_get};
 ghost use Rattle.std.specs.Option.{option_copied};
 ghost use Rattle.card_digits.specs.Longest.{longest};
 ghost use Rattle.prefix_trie.specs.Pairs.{prefix_of, pair_of, inserted, in_order};
@@ -180,8 +180,6 @@ fn walk<'t, T>(
     }
     (row_of(rows, found), looked)
 }
-
-ghost use Rattle.std.specs.Prelude.{option_and_then, slice_get};
 
 fn row_of<T>(rows: &[(Prefix, T)], place: Option<usize>) -> Option<&(Prefix, T)>
     ensures { option_copied result ≡ option_and_then (slice_get rows.now) place }

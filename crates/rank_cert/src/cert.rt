@@ -1,5 +1,5 @@
 //! Ranks of pairs of a node's name and a prefix.
-ghost use Rattle.std.specs.Prelude.{◌≡◌, ◌≢◌, [], ◌∷◌, ◌++◌, drop, Some, IfOk, IfSome, OnErr};
+ghost use Rattle.std.specs.Prelude.{◌≡◌, ◌≢◌, [], ◌∷◌, ◌++◌, drop, Some, IfOk, IfSome, OnErr, is_none, true, false, Ok, All};
 ghost use Rattle.rank_cert.specs.Ranks.{rank_of, is_new, like_rows, IsRow, IsCert, EndsWith};
 ghost use Rattle.rank_cert.specs.Runs.{IsRun};
 
@@ -225,5 +225,3 @@ impl Cert {
         self.kept.repeat_run(place, prefix, ranks)
     }
 }
-
-ghost use Rattle.std.specs.Prelude.{is_none, true, false, Ok, All};

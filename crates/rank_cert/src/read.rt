@@ -1,8 +1,9 @@
 //! Certificates from text.
-ghost use Rattle.std.specs.Prelude.{◌≡◌, [], codes};
+ghost use Rattle.std.specs.Prelude.{◌≡◌, [], codes, ◌≤◌, length, IfOk, IfErr};
 ghost use Rattle.card_digits.specs.Lines.{lines};
 ghost use Rattle.card_digits.specs.Attempts.{Gives, Fails};
-ghost use Rattle.rank_cert.specs.Reading.{is_line, new_row, line_behind, row_of, rows_in, cert_in, is_memory};
+ghost use Rattle.rank_cert.specs.Reading.{is_line, new_row, line_behind, row_of, rows_in, cert_in, is_memory, ended, rows_with};
+ghost use Rattle.rank_cert.specs.Ranks.{EndsWith};
 
 use crate::cert::Cert;
 use crate::fault::CertFault;
@@ -74,10 +75,6 @@ fn ended(cert: Cert, behind: &[u8]) -> Result<Cert, CertFault>
         Err(CertFault::AfterEnd)
     }
 }
-
-ghost use Rattle.std.specs.Prelude.{◌≤◌, length, IfOk, IfErr};
-ghost use Rattle.rank_cert.specs.Ranks.{EndsWith};
-ghost use Rattle.rank_cert.specs.Reading.{ended, rows_with};
 
 /// Adds the row of the next line, and with it those of lines behind it that have the names of the last prefix's rows. Gives the row's
 /// prefix, and what stands behind the lines.

@@ -6,6 +6,7 @@ ghost use Rattle.rank_cert.specs.Ranks.{rank_of, like_rows, IsCert, EndsWith};
 ghost use Rattle.rank_cert.specs.Runs.{rank_in_run, begins_with, has_name, begin_of, IsRun, HasNone, CanRepeat};
 ghost use Rattle.rank_cert.specs.Marks.{AreMarked};
 ghost use Rattle.rank_cert.specs.Greatest.{IsOf};
+ghost use Rattle.rank_cert.specs.Adding.{Adds};
 
 use crate::apart::ApartRows;
 use crate::cert::{NEAR, Rank};
@@ -230,8 +231,6 @@ fn has_name(rows: &[Rank], node: &Name) -> bool
 {
     rows.iter().any(|row| row.node == *node)
 }
-
-ghost use Rattle.rank_cert.specs.Adding.{Adds};
 
 /// Whether a row has the name, which none has where it has no mark, or comes behind the greatest.
 fn is_known(run: &[Rank], is_marked: bool, greatest: &mut Greatest, node: &Name) -> bool

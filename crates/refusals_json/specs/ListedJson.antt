@@ -57,12 +57,16 @@ with_node t n class fields = put (codes "prefix") (text (digits_text class)) (pu
 abbrev pub with_link : Network → ℕ → Members → Members
 with_link t l fields = put (codes "link") (text (link_name t l)) fields
 
+-- a PAN prefix, and the sum that is above a ceiling
+abbrev pub with_sum : List ℕ → ℕ → ℕ → Members → Members
+with_sum class sum ceiling fields = put (codes "ceiling") (count ceiling) (put (codes "sum") (count sum) (put (codes "prefix") (text (digits_text class)) fields))
+
 -- what a refusal speaks of
 abbrev pub with_subject : Network → Refusal → Members → Members
 with_subject t (refusals.NoRank n class) fields = with_node t n class fields
 with_subject t (refusals.NotLess n class l) fields = with_link t l (with_node t n class fields)
 with_subject t (refusals.NotNamed n class) fields = with_node t n class fields
-with_subject t (refusals.OverCeiling class sum ceiling) fields = put (codes "ceiling") (count ceiling) (put (codes "sum") (count sum) (put (codes "prefix") (text (digits_text class)) fields))
+with_subject t (refusals.OverCeiling class sum ceiling) fields = with_sum class sum ceiling fields
 with_subject t (refusals.NoIssuer n class) fields = with_node t n class fields
 with_subject t (refusals.AcquirerTwice id) fields = put (codes "acquirer") (text id) fields
 with_subject t (refusals.NodeIdTwice id) fields = put (codes "node_id") (text id) fields

@@ -1,9 +1,6 @@
 //! All refusals as JSON, an object on each line.
-ghost use Rattle.std.specs.Prelude.{◌≡◌, ◌++◌, IfOk, OnOk, codes, string_bytes};
+ghost use Rattle.std.specs.Prelude.{◌≡◌, ◌++◌, IfOk, OnOk, string_bytes};
 ghost use Rattle.serde_json.specs.View.{members_view, view};
-ghost use Rattle.serde_json.specs.Data.{put as with_field};
-ghost use Rattle.card_digits.specs.Digits.{digits_text};
-ghost use Rattle.refusals_json.specs.Json as texts;
 ghost use Rattle.refusals_json.specs.Json.{json_line};
 ghost use Rattle.refusals_json.specs.ListedJson as json;
 
@@ -118,7 +115,7 @@ fn add_sum(
     sum: u64,
     ceiling: u64,
 ) -> Result<(), AllocError>
-    ensures { OnOk result (members_view fields.new.entries ≡ with_field (codes "ceiling") (texts.count ceiling) (with_field (codes "sum") (texts.count sum) (with_field (codes "prefix") (texts.text (digits_text class.now)) (members_view fields.old.entries)))) }
+    ensures { OnOk result (members_view fields.new.entries ≡ json.with_sum class.now sum ceiling (members_view fields.old.entries)) }
 {
     let prefix = prefix_text(alloc, class)?;
     add_text(alloc, fields, "prefix", prefix)?;

@@ -61,7 +61,11 @@ way_text t (Post bytes) = codes "  post "
 abbrev pub output_text : Network → Output → Text
 output_text t o = way_text t o ++ bytes_of o ++ line_feed
 
--- the number of a step's line and the name of its node, and below what went out
+-- the number of a step's line and the name of its node
+abbrev pub heading_text : Network → ℕ → ℕ → Text
+heading_text t number node = concat (decimal number ∷ codes " " ∷ node_name t node ∷ codes "\n" ∷ [])
+
+-- the same, and below what went out
 abbrev pub step_text : Network → ℕ → Step → Text
 step_text t number s = decimal number ++ 32 ∷ node_name t s.node ++ line_feed ++ flat_map (output_text t) s.entry.outputs
 

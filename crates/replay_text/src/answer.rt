@@ -1,20 +1,17 @@
 //! The answer of `replay`.
 ghost use Rattle.std.specs.Prelude.{◌≡◌, List, map, Ok, Err, IfOk, OnOk};
-ghost use Rattle.std.specs.Io.KnownBytes.{Appends};
-ghost use Rattle.card_digits.specs.Stream.{AppendsFront};
 ghost use Rattle.net_tables.specs.Reading.{tables_in};
 ghost use Rattle.rank_cert.specs.Reading.{cert_in};
-ghost use Rattle.card_digits.specs.Lines.{lines};
 ghost use Rattle.table_checker.specs.Rules.{first_refusal};
-ghost use Rattle.net_replay.specs.Outcome.{outcome};
 ghost use Rattle.net_replay.specs.Steps.{Step};
 ghost use Rattle.net_replay.specs.Traces.{AreTraces};
+ghost use Rattle.replay_text.specs.Fronts.{AppendsText, AppendsTextFront};
 ghost use Rattle.replay_text.specs.Lines.{steps_text};
 ghost use Rattle.message_text.specs.Printed.{CountsPrinted};
-ghost use Rattle.bundle_text.specs.Answers.{Wrote, WroteFront, fault};
+ghost use Rattle.bundle_text.specs.Answers.{accepted_said, checked_said, fault};
 ghost use Rattle.bundle_text.specs.Lines.{table_fault_line, cert_fault_line};
 ghost use Rattle.replay_text.specs.Lines.{script_fault_line};
-ghost use Rattle.replay_text.specs.Answers.{WroteMade, WroteMadeFront, ReplayAnswers, outcome_said, checked_said, read_said, replay_parts, replay_said};
+ghost use Rattle.replay_text.specs.Answers.{WritesReplay, WroteMade, WroteMadeFront, WroteReplay, WroteReplayFront, replay_parts, replay_said, script_said};
 
 use crate::faults::script_fault_line;
 use crate::steps::write_traces;
@@ -87,8 +84,8 @@ fn write_kept<W: Sink>(
     trace_memory: TraceMemory,
     writer: &mut W,
 ) -> Result<(), PrintFault>
-    ensures ok { OnOk result ((steps : List Step) → AreTraces tables.now steps traces.entry → Appends (W.written writer.old) (W.written writer.new) (steps_text tables.now steps)) }
-    ensures write { result ≡ Err PrintFault.Write → (steps : List Step) → AreTraces tables.now steps traces.entry → AppendsFront (W.written writer.old) (W.written writer.new) (steps_text tables.now steps) }
+    ensures ok { OnOk result ((steps : List Step) → AreTraces tables.now steps traces.entry → AppendsText W.Sink writer.old writer.new (steps_text tables.now steps)) }
+    ensures write { result ≡ Err PrintFault.Write → (steps : List Step) → AreTraces tables.now steps traces.entry → AppendsTextFront W.Sink writer.old writer.new (steps_text tables.now steps) }
     ensures counts { CountsPrinted (W.failures writer.old) (W.failures writer.new) result }
     ensures memory { result ≡ Err PrintFault.Memory → W.written writer.new ≡ W.written writer.old }
 {
@@ -111,8 +108,8 @@ fn write_script<W: Sink>(
     writer: &mut W,
 ) -> Result<Status, PrintFault>
     requires { accepted.now ≡ tables.now }
-    ensures ok { IfOk result (Wrote (λ said. ReplayAnswers said (outcome_said tables.now (outcome tables.now (lines script.now)))) (W.written writer.old) (W.written writer.new)) }
-    ensures write { result ≡ Err PrintFault.Write → WroteFront (λ said. ReplayAnswers said (outcome_said tables.now (outcome tables.now (lines script.now)))) (W.written writer.old) (W.written writer.new) }
+    ensures ok { IfOk result (WroteReplay W.Sink writer.old writer.new (script_said script.now tables.now)) }
+    ensures write { result ≡ Err PrintFault.Write → WroteReplayFront W.Sink writer.old writer.new (script_said script.now tables.now) }
     ensures counts { CountsPrinted (W.failures writer.old) (W.failures writer.new) result }
     ensures memory { result ≡ Err PrintFault.Memory → W.written writer.new ≡ W.written writer.old }
 {
@@ -134,10 +131,7 @@ fn write_checked<W: Sink>(
     trace_memory: TraceMemory,
     writer: &mut W,
 ) -> Result<Status, PrintFault>
-    ensures ok { IfOk result (Wrote (λ said. ReplayAnswers said (checked_said tables.now (first_refusal tables.now cert.now) script.now)) (W.written writer.old) (W.written writer.new)) }
-    ensures write { result ≡ Err PrintFault.Write → WroteFront (λ said. ReplayAnswers said (checked_said tables.now (first_refusal tables.now cert.now) script.now)) (W.written writer.old) (W.written writer.new) }
-    ensures counts { CountsPrinted (W.failures writer.old) (W.failures writer.new) result }
-    ensures memory { result ≡ Err PrintFault.Memory → W.written writer.new ≡ W.written writer.old }
+    ensures { WritesReplay W.Sink writer.old writer.new (checked_said (script_said script.now) tables.now (first_refusal tables.now cert.now)) result }
 {
     match check(alloc, tables, cert) {
         Ok(accepted) => write_script(alloc, tables, &accepted, script, trace_memory, writer),
@@ -155,10 +149,7 @@ fn write_ranked<W: Sink>(
     trace_memory: TraceMemory,
     writer: &mut W,
 ) -> Result<Status, PrintFault>
-    ensures ok { IfOk result (Wrote (λ said. ReplayAnswers said (read_said (Ok tables.now) (cert_in ranks.now) script.now)) (W.written writer.old) (W.written writer.new)) }
-    ensures write { result ≡ Err PrintFault.Write → WroteFront (λ said. ReplayAnswers said (read_said (Ok tables.now) (cert_in ranks.now) script.now)) (W.written writer.old) (W.written writer.new) }
-    ensures counts { CountsPrinted (W.failures writer.old) (W.failures writer.new) result }
-    ensures memory { result ≡ Err PrintFault.Memory → W.written writer.new ≡ W.written writer.old }
+    ensures { WritesReplay W.Sink writer.old writer.new (accepted_said (script_said script.now) (Ok tables.now) (cert_in ranks.now)) result }
 {
     match read_cert(alloc, ranks) {
         Ok(cert) => write_checked(alloc, tables, &cert, script, trace_memory, writer),
@@ -175,10 +166,7 @@ fn write_read<W: Sink>(
     trace_memory: TraceMemory,
     writer: &mut W,
 ) -> Result<Status, PrintFault>
-    ensures ok { IfOk result (Wrote (λ said. ReplayAnswers said (read_said (tables_in tables.now) (cert_in ranks.now) script.now)) (W.written writer.old) (W.written writer.new)) }
-    ensures write { result ≡ Err PrintFault.Write → WroteFront (λ said. ReplayAnswers said (read_said (tables_in tables.now) (cert_in ranks.now) script.now)) (W.written writer.old) (W.written writer.new) }
-    ensures counts { CountsPrinted (W.failures writer.old) (W.failures writer.new) result }
-    ensures memory { result ≡ Err PrintFault.Memory → W.written writer.new ≡ W.written writer.old }
+    ensures { WritesReplay W.Sink writer.old writer.new (accepted_said (script_said script.now) (tables_in tables.now) (cert_in ranks.now)) result }
 {
     match read_tables(alloc, tables) {
         Ok(tables) => write_ranked(alloc, &tables, ranks, script, trace_memory, writer),
@@ -193,10 +181,7 @@ fn write_parts<W: Sink>(
     trace_memory: TraceMemory,
     writer: &mut W,
 ) -> Result<Status, PrintFault>
-    ensures ok { IfOk result (Wrote (λ said. ReplayAnswers said (replay_parts (map (λ p. p.now) parts.now))) (W.written writer.old) (W.written writer.new)) }
-    ensures write { result ≡ Err PrintFault.Write → WroteFront (λ said. ReplayAnswers said (replay_parts (map (λ p. p.now) parts.now))) (W.written writer.old) (W.written writer.new) }
-    ensures counts { CountsPrinted (W.failures writer.old) (W.failures writer.new) result }
-    ensures memory { result ≡ Err PrintFault.Memory → W.written writer.new ≡ W.written writer.old }
+    ensures { WritesReplay W.Sink writer.old writer.new (replay_parts (map (λ p. p.now) parts.now)) result }
 {
     if parts.len() != 3 {
         return write_made(writer, parts_fault(alloc));
@@ -213,8 +198,8 @@ pub fn write_replayed<W: Sink>(
     trace_memory: TraceMemory,
     writer: &mut W,
 ) -> Result<Status, PrintFault>
-    ensures ok { IfOk result (Wrote (λ said. ReplayAnswers said (replay_said input.now)) (W.written writer.old) (W.written writer.new)) }
-    ensures write { result ≡ Err PrintFault.Write → WroteFront (λ said. ReplayAnswers said (replay_said input.now)) (W.written writer.old) (W.written writer.new) }
+    ensures ok { IfOk result (WroteReplay W.Sink writer.old writer.new (replay_said input.now)) }
+    ensures write { result ≡ Err PrintFault.Write → WroteReplayFront W.Sink writer.old writer.new (replay_said input.now) }
     ensures counts { CountsPrinted (W.failures writer.old) (W.failures writer.new) result }
     ensures memory { result ≡ Err PrintFault.Memory → W.written writer.new ≡ W.written writer.old }
 {

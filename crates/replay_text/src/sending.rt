@@ -2,8 +2,7 @@
 ghost use Rattle.std.specs.Prelude.{◌≡◌, ◌++◌, [], map, OnOk, OnErr};
 ghost use Rattle.std.specs.List.{concat};
 ghost use Rattle.card_digits.specs.Stream.{CountsFailure};
-ghost use Rattle.message_text.specs.Printed.{Sends};
-ghost use Rattle.replay_text.specs.Fronts.{SendsFront};
+ghost use Rattle.replay_text.specs.Fronts.{SendsText, SendsTextFront};
 
 use bundle_text::{MOST_WAITING, add_text, send};
 use card_digits::{Sink, WriteFault};
@@ -41,8 +40,8 @@ fn add_each<W: Sink>(
     waiting: &mut Vec<u8>,
     pieces: &[&[u8]],
 ) -> Result<(), WriteFault>
-    ensures ok { OnOk result (Sends (W.written writer.old) (W.written writer.new) waiting.old.items (concat (map (λ p. p.now) pieces.now)) waiting.new.items) }
-    ensures err { OnErr result (SendsFront (W.written writer.old) (W.written writer.new) waiting.old.items (concat (map (λ p. p.now) pieces.now))) }
+    ensures ok { OnOk result (SendsText W.Sink writer.old writer.new waiting.old.items (concat (map (λ p. p.now) pieces.now)) waiting.new.items) }
+    ensures err { OnErr result (SendsTextFront W.Sink writer.old writer.new waiting.old.items (concat (map (λ p. p.now) pieces.now))) }
     ensures counts { CountsFailure (W.failures writer.old) (W.failures writer.new) result }
 {
     for piece in pieces {
@@ -57,8 +56,8 @@ pub(crate) fn add_pieces<W: Sink>(
     waiting: &mut Vec<u8>,
     pieces: &[&[u8]],
 ) -> Result<(), WriteFault>
-    ensures ok { OnOk result (Sends (W.written writer.old) (W.written writer.new) waiting.old.items (concat (map (λ p. p.now) pieces.now)) waiting.new.items) }
-    ensures err { OnErr result (SendsFront (W.written writer.old) (W.written writer.new) waiting.old.items (concat (map (λ p. p.now) pieces.now))) }
+    ensures ok { OnOk result (SendsText W.Sink writer.old writer.new waiting.old.items (concat (map (λ p. p.now) pieces.now)) waiting.new.items) }
+    ensures err { OnErr result (SendsTextFront W.Sink writer.old writer.new waiting.old.items (concat (map (λ p. p.now) pieces.now))) }
     ensures counts { CountsFailure (W.failures writer.old) (W.failures writer.new) result }
 {
     if push_pieces(waiting, pieces).is_err() {

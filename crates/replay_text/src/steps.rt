@@ -1,14 +1,12 @@
 //! What the nodes put out for the lines of a script.
-ghost use Rattle.std.specs.Prelude.{◌≡◌, ◌<◌, ◌^◌, List, [], ◌∷◌, length, codes, decimal, Err, OnOk, OnErr};
-ghost use Rattle.std.specs.List.{concat, flat_map};
-ghost use Rattle.bundle_text.specs.Lines.{node_name};
-ghost use Rattle.std.specs.Io.KnownBytes.{Appends};
-ghost use Rattle.card_digits.specs.Stream.{AppendsFront, CountsFailure};
-ghost use Rattle.message_text.specs.Printed.{CountsPrinted, Sends};
+ghost use Rattle.std.specs.Prelude.{◌≡◌, ◌<◌, ◌^◌, List, [], length, Err, OnOk, OnErr};
+ghost use Rattle.std.specs.List.{flat_map};
+ghost use Rattle.card_digits.specs.Stream.{CountsFailure};
+ghost use Rattle.message_text.specs.Printed.{CountsPrinted};
 ghost use Rattle.net_replay.specs.Steps.{Step};
 ghost use Rattle.net_replay.specs.Traces.{AreTraces};
-ghost use Rattle.replay_text.specs.Fronts.{SendsFront};
-ghost use Rattle.replay_text.specs.Lines.{ordered_text, output_text, step_text, steps_text};
+ghost use Rattle.replay_text.specs.Fronts.{AppendsText, AppendsTextFront, SendsText, SendsTextFront};
+ghost use Rattle.replay_text.specs.Lines.{heading_text, ordered_text, output_text, step_text, steps_text};
 
 use crate::row::{ROW, put_heading, put_way};
 use crate::sending::add_pieces;
@@ -26,8 +24,8 @@ fn add_output<W: Sink>(
     tables: &Tables,
     output: &Output,
 ) -> Result<(), WriteFault>
-    ensures ok { OnOk result (Sends (W.written writer.old) (W.written writer.new) waiting.old.items (output_text tables.now output.now) waiting.new.items) }
-    ensures err { OnErr result (SendsFront (W.written writer.old) (W.written writer.new) waiting.old.items (output_text tables.now output.now)) }
+    ensures ok { OnOk result (SendsText W.Sink writer.old writer.new waiting.old.items (output_text tables.now output.now) waiting.new.items) }
+    ensures err { OnErr result (SendsTextFront W.Sink writer.old writer.new waiting.old.items (output_text tables.now output.now)) }
     ensures counts { CountsFailure (W.failures writer.old) (W.failures writer.new) result }
 {
     let mut row = [0u8; ROW];
@@ -41,8 +39,8 @@ fn add_outputs<W: Sink>(
     tables: &Tables,
     outputs: &[Output],
 ) -> Result<(), WriteFault>
-    ensures ok { OnOk result (Sends (W.written writer.old) (W.written writer.new) waiting.old.items (flat_map (output_text tables.now) outputs.now) waiting.new.items) }
-    ensures err { OnErr result (SendsFront (W.written writer.old) (W.written writer.new) waiting.old.items (flat_map (output_text tables.now) outputs.now)) }
+    ensures ok { OnOk result (SendsText W.Sink writer.old writer.new waiting.old.items (flat_map (output_text tables.now) outputs.now) waiting.new.items) }
+    ensures err { OnErr result (SendsTextFront W.Sink writer.old writer.new waiting.old.items (flat_map (output_text tables.now) outputs.now)) }
     ensures counts { CountsFailure (W.failures writer.old) (W.failures writer.new) result }
 {
     for output in outputs {
@@ -59,8 +57,8 @@ fn add_heading<W: Sink>(
     number: u64,
     node: NodeNo,
 ) -> Result<(), WriteFault>
-    ensures ok { OnOk result (Sends (W.written writer.old) (W.written writer.new) waiting.old.items (concat (decimal number ∷ codes " " ∷ node_name tables.now node ∷ codes "\n" ∷ [])) waiting.new.items) }
-    ensures err { OnErr result (SendsFront (W.written writer.old) (W.written writer.new) waiting.old.items (concat (decimal number ∷ codes " " ∷ node_name tables.now node ∷ codes "\n" ∷ []))) }
+    ensures ok { OnOk result (SendsText W.Sink writer.old writer.new waiting.old.items (heading_text tables.now number node) waiting.new.items) }
+    ensures err { OnErr result (SendsTextFront W.Sink writer.old writer.new waiting.old.items (heading_text tables.now number node)) }
     ensures counts { CountsFailure (W.failures writer.old) (W.failures writer.new) result }
 {
     let mut row = [0u8; ROW];
@@ -77,8 +75,8 @@ fn add_step<W: Sink>(
     node: NodeNo,
     entry: &Entry,
 ) -> Result<(), WriteFault>
-    ensures ok { OnOk result (Sends (W.written writer.old) (W.written writer.new) waiting.old.items (step_text tables.now number (record { node = node; entry = entry.now })) waiting.new.items) }
-    ensures err { OnErr result (SendsFront (W.written writer.old) (W.written writer.new) waiting.old.items (step_text tables.now number (record { node = node; entry = entry.now }))) }
+    ensures ok { OnOk result (SendsText W.Sink writer.old writer.new waiting.old.items (step_text tables.now number (record { node = node; entry = entry.now })) waiting.new.items) }
+    ensures err { OnErr result (SendsTextFront W.Sink writer.old writer.new waiting.old.items (step_text tables.now number (record { node = node; entry = entry.now }))) }
     ensures counts { CountsFailure (W.failures writer.old) (W.failures writer.new) result }
 {
     add_heading(writer, waiting, tables, number, node)?;
@@ -94,8 +92,8 @@ fn write_steps<W: Sink>(
 ) -> Result<(), WriteFault>
     requires nothing { waiting.old.items ≡ [] }
     requires few { length steps.old < 2 ^ 63 }
-    ensures ok { OnOk result (Appends (W.written writer.old) (W.written writer.new) (ordered_text tables.now 1 steps.old)) }
-    ensures err { OnErr result (AppendsFront (W.written writer.old) (W.written writer.new) (ordered_text tables.now 1 steps.old)) }
+    ensures ok { OnOk result (AppendsText W.Sink writer.old writer.new (ordered_text tables.now 1 steps.old)) }
+    ensures err { OnErr result (AppendsTextFront W.Sink writer.old writer.new (ordered_text tables.now 1 steps.old)) }
     ensures counts { CountsFailure (W.failures writer.old) (W.failures writer.new) result }
 {
     let mut number = 0u64;
@@ -114,8 +112,8 @@ pub fn write_traces<W: Sink>(
     traces: &Traces<'_>,
     writer: &mut W,
 ) -> Result<(), PrintFault>
-    ensures ok { OnOk result ((steps : List Step) → AreTraces tables.now steps traces.now → Appends (W.written writer.old) (W.written writer.new) (steps_text tables.now steps)) }
-    ensures write { result ≡ Err PrintFault.Write → (steps : List Step) → AreTraces tables.now steps traces.now → AppendsFront (W.written writer.old) (W.written writer.new) (steps_text tables.now steps) }
+    ensures ok { OnOk result ((steps : List Step) → AreTraces tables.now steps traces.now → AppendsText W.Sink writer.old writer.new (steps_text tables.now steps)) }
+    ensures write { result ≡ Err PrintFault.Write → (steps : List Step) → AreTraces tables.now steps traces.now → AppendsTextFront W.Sink writer.old writer.new (steps_text tables.now steps) }
     ensures counts { CountsPrinted (W.failures writer.old) (W.failures writer.new) result }
     ensures memory { result ≡ Err PrintFault.Memory → W.written writer.new ≡ W.written writer.old }
 {

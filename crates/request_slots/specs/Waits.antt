@@ -26,9 +26,13 @@ with_wait waits place wait = slice_set waits place wait
 abbrev pub held_waits : Slab Wait → List (Option ℕ) → List (Option Wait)
 held_waits slab slots = map (λ slot. option_and_then (get slab) slot) slots
 
--- the places whose waits pass, in opening order
+-- of so many places those at which something stands that passes, in their order
+abbrev pub places_among : {A : Type 0} → ℕ → (ℕ → Option A) → (A → Bool) → List ℕ
+places_among count at passes = filter (λ place. option_map_or passes (at place) false) (range_with_len 0 count)
+
+-- the places whose waits pass
 abbrev pub places_where : (Wait → Bool) → List (Option Wait) → List ℕ
-places_where passes waits = filter (λ place. option_map_or passes (wait_at waits place) false) (range_with_len 0 (length waits))
+places_where passes waits = places_among (length waits) (wait_at waits) passes
 
 -- due at this count of ticks
 abbrev pub is_due : ℕ → Wait → Bool

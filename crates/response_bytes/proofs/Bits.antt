@@ -11,12 +11,10 @@ use Rattle.iso_message.specs.Finding.{put}
 use Rattle.iso_message.specs.Made.{is_one_of, kept, response_numbers}
 use Rattle.iso_message.specs.Spelling.{Ascends, bits}
 use Rattle.iso_message.proofs.Canonical.{marks_bits, weaker}
+use Rattle.response_bytes.specs.Taken.{numbers}
 
 abbrev pub carried : ℕ
 carried = 8224135876117037056
-
-abbrev pub numbers : List (ℕ × List ℕ) → List ℕ
-numbers es = map (λ e. e.0) es
 
 abbrev bit_here : ℕ → ℕ
 bit_here n = bit_at carried (64 - n)

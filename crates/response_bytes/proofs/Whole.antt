@@ -20,8 +20,7 @@ use Rattle.iso_message.proofs.Good.{marks_ascend}
 use Rattle.iso_message.proofs.MessageLemmas.{ascends_kept, ascends_put}
 use Rattle.iso_message.proofs.ReadingLaws as reading
 use Rattle.iso_message.proofs.Steps.{marks_down, marks_none}
-use Rattle.response_bytes.proofs.Bits.{numbers}
-use Rattle.response_bytes.specs.Taken.{Elements, AreUpTo, IsTaken}
+use Rattle.response_bytes.specs.Taken.{Elements, AreUpTo, IsTaken, numbers}
 
 -- ---- the code between the elements before it and those behind
 

@@ -1,13 +1,11 @@
 //! Making a response.
-ghost use Rattle.std.specs.Prelude.{◌≡◌, ℕ, ◌+◌, ◌-◌, ◌<◌, ◌≤◌, ◌^◌, ◌++◌, List, [], map, length, Ok, true, false, IfOk, IfSome, OnOk, OnErr, MatchOption, vec_len, vec_capacity};
+ghost use Rattle.std.specs.Prelude.{◌≡◌, ℕ, ◌+◌, ◌-◌, ◌<◌, ◌≤◌, ◌^◌, ◌++◌, List, [], length, Ok, true, false, IfOk, IfSome, OnOk, OnErr, MatchOption, vec_len, vec_capacity};
 ghost use Rattle.message_elements.specs.declared.kind.Kind.{Kind};
 ghost use Rattle.iso_message.specs.Fields.{Fields};
-ghost use Rattle.iso_message.specs.Finding.{put};
-ghost use Rattle.iso_message.specs.Made.{kept, response, response_numbers};
-ghost use Rattle.iso_message.specs.Messages.{marks};
+ghost use Rattle.iso_message.specs.Made.{response};
 ghost use Rattle.iso_message.specs.Spans.{IsLonger};
-ghost use Rattle.iso_message.specs.Spelling.{Ascends, AreGood, IsMessage, bits, high_numbers, numbers_of, pieces, spelling};
-ghost use Rattle.response_bytes.specs.Taken.{IsTaken};
+ghost use Rattle.iso_message.specs.Spelling.{Ascends, IsMessage, bits, high_numbers, numbers_of, pieces, spelling};
+ghost use Rattle.response_bytes.specs.Taken.{Elements, ForElements, ForMessage, IsTaken, WroteAll, answered, numbers};
 
 use crate::lengths::piece_length;
 use iso_message::{bit_map, is_in_response, map_digits, read_kind, take_mark};
@@ -32,7 +30,7 @@ const CODE: u64 = 1 << (64 - elements::RESPONSE_CODE);
 
 /// The first map of the response to a message with this first map.
 fn response_map(first: u64) -> u64
-    ensures { (es : List (ℕ × List ℕ)) (code : List ℕ) → Ascends 1 64 (map (λ e. e.0) es) → first ≡ bits 64 (map (λ e. e.0) es) → result ≡ bits 64 (map (λ e. e.0) (put 39 code (kept response_numbers es))) }
+    ensures { (es : Elements) (code : List ℕ) → Ascends 1 64 (numbers es) → first ≡ bits 64 (numbers es) → result ≡ bits 64 (numbers (answered code es)) }
 {
     first & CARRIED | CODE
 }
@@ -48,7 +46,7 @@ fn push_kept<'a>(
 ) -> Result<Option<&'a [u8]>, AllocError>
     requires least { 1 ≤ up_to }
     requires most { up_to ≤ 64 }
-    ensures taken { (es : List (ℕ × List ℕ)) → AreGood es → map (λ e. e.0) es ≡ marks 64 64 left.old → body.now ≡ pieces es → IfOk result (λ found. MatchOption found ⊥ (λ rest. IsTaken up_to es left.new rest.now out.old.items out.new.items)) }
+    ensures taken { ForElements left.old body.now (λ es. IfOk result (λ found. MatchOption found ⊥ (λ rest. IsTaken up_to es left.new rest.now out.old.items out.new.items))) }
     ensures longer { IsLonger out.old.items out.new.items }
     ensures capacity { vec_capacity out.old ≤ vec_capacity out.new }
     ensures room { IfOk result (λ found. IfSome found (λ rest. vec_len out.new + length rest.now ≤ vec_len out.old + length body.now)) }
@@ -73,7 +71,7 @@ fn push_kept<'a>(
 
 /// Writes the pieces of the response to a message of these elements. Returns whether the bytes have them all.
 fn push_pieces(first: u64, body: &[u8], code: Code, out: &mut Vec<u8>) -> Result<bool, AllocError>
-    ensures made { (es : List (ℕ × List ℕ)) → AreGood es → map (λ e. e.0) es ≡ marks 64 64 first → body.now ≡ pieces es → IfOk result (λ all. (all ≡ true) × (out.new.items ≡ out.old.items ++ pieces (put 39 code (kept response_numbers es)))) }
+    ensures made { ForElements first body.now (λ es. IfOk result (WroteAll out.old.items out.new.items (pieces (answered code es)))) }
     ensures longer { IsLonger out.old.items out.new.items }
     ensures full { OnErr result (vec_capacity out.old < vec_len out.old + (length body.now + 2)) }
 {
@@ -96,7 +94,7 @@ fn push_parts(
     code: Code,
     out: &mut Vec<u8>,
 ) -> Result<bool, AllocError>
-    ensures made { (m : Fields) → IsMessage m → high_numbers (numbers_of m) ≡ [] → kind ≡ m.kind → first ≡ bits 64 (numbers_of m) → body.now ≡ pieces m.elements → IfOk result (λ all. (all ≡ true) × (out.new.items ≡ out.old.items ++ spelling (response m code))) }
+    ensures made { ForMessage kind first body.now (λ m. IfOk result (WroteAll out.old.items out.new.items (spelling (response m code)))) }
     ensures longer { IsLonger out.old.items out.new.items }
     ensures full { OnErr result (vec_capacity out.old < vec_len out.old + (length body.now + 22)) }
 {

@@ -1,11 +1,10 @@
 //! The answer of `run`.
 ghost use Rattle.std.specs.Prelude.{◌≡◌, ◌⊎◌, map, Ok, IfOk};
-ghost use Rattle.card_digits.specs.Lines.{lines};
 ghost use Rattle.net_tables.specs.Reading.{tables_in};
 ghost use Rattle.rank_cert.specs.Reading.{cert_in};
 ghost use Rattle.table_checker.specs.Rules.{first_refusal};
-ghost use Rattle.bundle_text.specs.Answers.{NamesMemory};
-ghost use Rattle.run_report.specs.Printed.{said_of, IsOfPlan, IsOfChecked, IsOfRead, IsOfParts, RunAnswers};
+ghost use Rattle.bundle_text.specs.Answers.{IsOfAccepted, IsOfChecked, NamesMemory};
+ghost use Rattle.run_report.specs.Printed.{said_of, IsOfPlan, IsOfParts, RunAnswers};
 
 use crate::fault_lines::run_fault_line;
 use crate::text_run::{RunFault, run_plan_text};
@@ -41,7 +40,7 @@ fn plan_answer<R: Threads + Wait + Sync>(
     accepted: &Accepted<'_>,
     plan: &[u8],
 ) -> Result<Answer, AllocError>
-    ensures { IfOk result (IsOfPlan accepted.now (lines plan.now)) }
+    ensures { IfOk result (IsOfPlan plan.now accepted.now) }
 {
     said_of(alloc, run_plan_text(rt, alloc, accepted, plan))
 }
@@ -54,7 +53,7 @@ fn checked_answer<R: Threads + Wait + Sync>(
     cert: &Cert,
     plan: &[u8],
 ) -> Result<Answer, AllocError>
-    ensures { IfOk result (λ a. IsOfChecked tables.now plan.now (first_refusal tables.now cert.now) a ⊎ NamesMemory a) }
+    ensures { IfOk result (λ a. IsOfChecked (IsOfPlan plan.now) tables.now (first_refusal tables.now cert.now) a ⊎ NamesMemory a) }
 {
     match check(alloc, tables, cert) {
         Ok(accepted) => plan_answer(rt, alloc, &accepted, plan),
@@ -71,7 +70,7 @@ fn ranked_answer<R: Threads + Wait + Sync>(
     ranks: &[u8],
     plan: &[u8],
 ) -> Result<Answer, AllocError>
-    ensures { IfOk result (λ a. IsOfRead (Ok tables.now) (cert_in ranks.now) plan.now a ⊎ NamesMemory a) }
+    ensures { IfOk result (λ a. IsOfAccepted (IsOfPlan plan.now) (Ok tables.now) (cert_in ranks.now) a ⊎ NamesMemory a) }
 {
     match read_cert(alloc, ranks) {
         Ok(cert) => checked_answer(rt, alloc, tables, &cert, plan),
@@ -87,7 +86,7 @@ fn read_answer<R: Threads + Wait + Sync>(
     ranks: &[u8],
     plan: &[u8],
 ) -> Result<Answer, AllocError>
-    ensures { IfOk result (λ a. IsOfRead (tables_in tables.now) (cert_in ranks.now) plan.now a ⊎ NamesMemory a) }
+    ensures { IfOk result (λ a. IsOfAccepted (IsOfPlan plan.now) (tables_in tables.now) (cert_in ranks.now) a ⊎ NamesMemory a) }
 {
     match read_tables(alloc, tables) {
         Ok(tables) => ranked_answer(rt, alloc, &tables, ranks, plan),

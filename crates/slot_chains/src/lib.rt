@@ -8,7 +8,7 @@ ghost use Rattle.std.specs.Prelude.{◌≡◌, nat_le, nat_eq, if◌then◌else�
 ghost use Rattle.std.specs.Borrow.{sem};
 ghost use Rattle.std.specs.Option.{option_copied, option_copied_mut};
 ghost use Rattle.slab.specs.Slab.{get, slab_len, HasRoomFor, Updates, SameValues};
-ghost use Rattle.chain_links.specs.Lists.{LinksView, IsMember, AreApart, list_at, no_lists, with_heads, pushed, unlinked, popped, cleared};
+ghost use Rattle.chain_links.specs.Lists.{IsMember, AreApart, list_at, no_lists, with_heads, pushed, unlinked, popped, cleared};
 ghost use Rattle.slot_chains.specs.Chains.{lists_in, with_lists, with_slots, over, IsHeld, IsLoose};
 
 use crate::slot::{named, named_if};

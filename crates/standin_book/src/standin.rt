@@ -1,10 +1,10 @@
 //! The stand-in book.
-ghost use Rattle.std.specs.Prelude.{◌≡◌, ◌+◌, ◌-◌, ◌<◌, ◌≤◌, ◌^◌, [], ◌∷◌, ◌++◌, OnOk, length, set, get_or, true, if◌then◌else◌};
+ghost use Rattle.std.specs.Prelude.{◌≡◌, ◌+◌, ◌-◌, ◌<◌, ◌≤◌, ◌^◌, [], ◌∷◌, ◌++◌, OnOk, length, set, get_or, true};
 ghost use Rattle.std.specs.List.{list_any};
 ghost use Rattle.crowded_map.specs.Values.{spare};
 ghost use Rattle.std.specs.Vec.{vec_len, vec_capacity};
 ghost use Rattle.node_machine.specs.Lists.{Take, give_back_to, used};
-ghost use Rattle.book_index.specs.Found.{found, holds_at, Tells};
+ghost use Rattle.book_index.specs.Found.{found, holds_at, ChangesPlace, Tells};
 ghost use Rattle.standin_book.specs.Approvals.{lessened, used_on, is_of, times, without, counts_above, is_whole, skips, moved};
 ghost use Rattle.standin_book.specs.Sums.{AreSums};
 ghost use Rattle.message_keys.specs.Keys.{key_eq};
@@ -167,7 +167,7 @@ fn moved_to(known: Place, place: usize) -> Place
 
 /// A key that has one place has this one.
 fn move_place(places: &mut PlaceIndex<Key>, key: &Key, place: usize)
-    ensures found { (k : Key) → found (key_eq k) places.new.places.entries ≡ (if key_eq key.now k then moved place (found (key_eq key.now) places.old.places.entries) else found (key_eq k) places.old.places.entries) }
+    ensures found { ChangesPlace key_eq key.now (moved place) places.old.places.entries places.new.places.entries }
     ensures room { spare places.new.places ≡ spare places.old.places }
 {
     let moved = moved_to(places.find(key), place);

@@ -20,7 +20,6 @@ use Rattle.std.proofs.Math.ListN.{length-set}
 use Rattle.network_law.specs.Traces as messages
 use Rattle.kept_messages.specs.Ways.{message_of, output_of}
 use Rattle.node_machine.specs.Steps as steps
-use Rattle.node_machine.specs.Steps.{Progress}
 use Rattle.kept_messages.specs.declared.output.Way.{Way}
 use Rattle.kept_messages.specs.declared.output.Way.TheVariants as ways
 use Rattle.node_books.specs.declared.effect.Effect.{Effect}

@@ -9,7 +9,7 @@ use Rattle.network_law.specs.Traces.{added}
 use Rattle.node_machine.specs.Books.{Taken}
 use Rattle.node_machine.specs.Machine as machine
 use Rattle.node_machine.specs.Lists as lists
-use Rattle.node_machine.specs.Lists.{Take, Mark, Lists, LeftAsMarked, forget, give_back_to, is_among, leaves, view}
+use Rattle.node_machine.specs.Lists.{Take, Lists, LeftAsMarked, forget, give_back_to, is_among, leaves, view}
 use Rattle.node_machine.proofs.Calls.{used_is}
 use Rattle.node_books.specs.declared.effect.Effect.{Effect}
 use Rattle.node_books.specs.declared.effect.Effect.TheVariants as effects

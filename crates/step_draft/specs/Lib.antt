@@ -3,3 +3,4 @@ pub mod SoFar
 pub mod Used
 pub mod Failures
 pub mod Held
+pub mod Acting

@@ -10,6 +10,7 @@ ghost use Rattle.node_machine.specs.Machine.{own_way};
 ghost use Rattle.node_machine.specs.Steps.{emit, keep, is_sent, put_on, reply, send, store};
 ghost use Rattle.node_books.specs.Effects.{progress};
 ghost use Rattle.pending_book.specs.Rows.{source_of};
+ghost use Rattle.step_draft.specs.Acting.{Does};
 
 use crate::advice::Advice;
 use crate::draft::Draft;
@@ -194,7 +195,7 @@ impl Draft {
         advice: &Advice<'_>,
     ) -> Result<(), AllocError>
         ensures base { self.new.base ≡ self.old.base }
-        ensures ok { OnOk result (progress self.new ≡ keep tables.now node (view tables.now node self.old.base) advice.now.message (progress self.old)) }
+        ensures ok { OnOk result (Does tables.now node self.old self.new (λ b. keep tables.now node b advice.now.message)) }
     {
         if self.books.is_known(advice.id) {
             return Ok(());

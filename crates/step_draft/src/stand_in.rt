@@ -1,10 +1,11 @@
 //! Requests that a node answers by itself.
 ghost use Rattle.std.specs.Prelude.{◌≡◌, ℕ, Some, OnOk};
 ghost use Rattle.message_keys.specs.Keys.{key_of};
-ghost use Rattle.node_machine.specs.Lists.{LeftAsMarked, view};
+ghost use Rattle.node_machine.specs.Lists.{LeftAsMarked};
 ghost use Rattle.node_machine.specs.Steps.{fail, standin, standin_by, take};
 ghost use Rattle.node_books.specs.Effects.{progress};
 ghost use Rattle.pending_book.specs.Rows.{IsKeyOf, source_of};
+ghost use Rattle.step_draft.specs.Acting.{Does, opened_at};
 ghost use Rattle.step_draft.specs.Used.{IsQuiet};
 
 use crate::digits::{card_number, date_label};
@@ -42,7 +43,7 @@ impl Draft {
     ) -> Result<(), AllocError>
         requires { IsKeyOf key request.now }
         ensures base { self.new.base ≡ self.old.base }
-        ensures ok { OnOk result ((count : ℕ) → progress self.new ≡ standin_by tables.now node (view tables.now node self.old.base) (record { message = request.now; source = source_of source; count = count }) code (progress self.old)) }
+        ensures ok { OnOk result ((count : ℕ) → Does tables.now node self.old self.new (λ b. standin_by tables.now node b (opened_at request.now (source_of source) count) code)) }
     {
         let count = self.count_now();
         self.respond(source, key, request, code)?;
@@ -68,7 +69,7 @@ impl Draft {
         requires quiet { IsQuiet self.old.base (progress self.old).lists }
         requires left { LeftAsMarked self.old.base.marks self.old.base.takes }
         ensures base { self.new.base ≡ self.old.base }
-        ensures ok { OnOk result ((count : ℕ) → progress self.new ≡ standin tables.now node (view tables.now node self.old.base) (record { message = request.now; source = source_of source; count = count }) (progress self.old)) }
+        ensures ok { OnOk result ((count : ℕ) → Does tables.now node self.old self.new (λ b. standin tables.now node b (opened_at request.now (source_of source) count))) }
     {
         let code = self.standin_code(tables, node, request);
         self.stand_in_by(tables, node, key, request, source, code)
@@ -87,7 +88,7 @@ impl Draft {
         requires quiet { IsQuiet self.old.base (progress self.old).lists }
         requires left { LeftAsMarked self.old.base.marks self.old.base.takes }
         ensures base { self.new.base ≡ self.old.base }
-        ensures ok { OnOk result ((count : ℕ) → progress self.new ≡ fail tables.now node (view tables.now node self.old.base) (Some (record { message = request.now; source = source_of source; count = count })) (progress self.old)) }
+        ensures ok { OnOk result ((count : ℕ) → Does tables.now node self.old self.new (λ b. fail tables.now node b (Some (opened_at request.now (source_of source) count)))) }
     {
         let reversal = self.reversal(tables, node, key, request)?;
         let put = self.is_sent(tables, node, &reversal);

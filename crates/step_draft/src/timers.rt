@@ -1,10 +1,11 @@
 //! What ticks and links that go down do.
 ghost use Rattle.std.specs.Prelude.{◌≡◌, ◌<◌, ◌∷◌, [], OnOk, length};
 ghost use Rattle.network_law.specs.Traces.{LinkDown, Tick};
-ghost use Rattle.node_machine.specs.Lists.{LeftAsMarked, view};
+ghost use Rattle.node_machine.specs.Lists.{LeftAsMarked};
 ghost use Rattle.node_machine.specs.Machine.{due, failing};
 ghost use Rattle.node_machine.specs.Steps.{fail_all, send_all, send_due, send_grant};
 ghost use Rattle.node_books.specs.Effects.{progress};
+ghost use Rattle.step_draft.specs.Acting.{Does};
 ghost use Rattle.step_draft.specs.Used.{IsQuiet};
 ghost use Rattle.step_draft.specs.Failures.{cause_of, keys_at};
 ghost use Rattle.pending_book.specs.Rows.{IsUnique};
@@ -33,7 +34,7 @@ impl Draft {
         requires quiet { IsQuiet self.old.base (progress self.old).lists }
         requires left { LeftAsMarked self.old.base.marks self.old.base.takes }
         ensures base { self.new.base ≡ self.old.base }
-        ensures ok { OnOk result (progress self.new ≡ fail_all tables.now node (view tables.now node self.old.base) (keys_at self.old.base.rows (place ∷ [])) (progress self.old)) }
+        ensures ok { OnOk result (Does tables.now node self.old self.new (λ b. fail_all tables.now node b (keys_at self.old.base.rows (place ∷ [])))) }
     {
         let row = &self.books.rows()[place];
         let key = row.key();
@@ -52,7 +53,7 @@ impl Draft {
         requires quiet { IsQuiet self.old.base (progress self.old).lists }
         requires left { LeftAsMarked self.old.base.marks self.old.base.takes }
         ensures base { self.new.base ≡ self.old.base }
-        ensures ok { OnOk result (progress self.new ≡ fail_all tables.now node (view tables.now node self.old.base) (failing tables.now (view tables.now node self.old.base) (cause_of cause.now)) (progress self.old)) }
+        ensures ok { OnOk result (Does tables.now node self.old self.new (λ b. fail_all tables.now node b (failing tables.now b (cause_of cause.now)))) }
     {
         let places = self.failing_places(tables, cause)?;
         let _ = self.row_count();
@@ -119,7 +120,7 @@ impl Draft {
         requires { IsQuiet self.old.base (progress self.old).lists }
         ensures base { self.new.base ≡ self.old.base }
         ensures quiet { OnOk result (IsQuiet self.old.base (progress self.new).lists) }
-        ensures ok { OnOk result (progress self.new ≡ send_all tables.now node (due tables.now (view tables.now node self.old.base)) (progress self.old)) }
+        ensures ok { OnOk result (Does tables.now node self.old self.new (λ b. send_all tables.now node (due tables.now b))) }
     {
         let now = self.books.count() + 1;
         let items = self.books.due(tables.settings().advice_ticks, now)?;

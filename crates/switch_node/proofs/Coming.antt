@@ -14,7 +14,7 @@ use Rattle.message_elements.specs.Codes.{code_00}
 use Rattle.net_rows.specs.Network.{Network}
 use Rattle.network_law.specs.Cards.{Bytes}
 use Rattle.network_law.specs.Traces as messages
-use Rattle.network_law.specs.Traces.{Source, ByLink, Handled, is_link}
+use Rattle.network_law.specs.Traces.{Source, ByLink, Handled}
 use Rattle.node_machine.specs.Lists.{Lists, Row, view, new_row}
 use Rattle.iso_message.specs.Made.{without_forwarder}
 use Rattle.node_machine.specs.Books.{Stored, Advised, Granted}

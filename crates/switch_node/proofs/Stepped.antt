@@ -22,7 +22,7 @@ use Rattle.network_law.specs.Refusals.{refusal}
 use Rattle.network_law.specs.Entries.{Input, Entry, read_input, read_as, packet_or, history, spelled, newest_outputs}
 use Rattle.network_law.specs.Runs.{IsLegal, NamesOwnLink, IsTyped, step_refusal, step_outputs, fault_of}
 use Rattle.node_machine.specs.Machine.{refuse}
-use Rattle.node_machine.specs.Lists.{Lists, view, Fine, RoutesFit, InputFits}
+use Rattle.node_machine.specs.Lists.{Lists, view, RoutesFit, InputFits}
 use Rattle.node_machine.specs.Steps as steps
 use Rattle.node_machine.specs.Steps.{Progress, Ran}
 use Rattle.node_machine.specs.Claim.{AreOf, Decides}

@@ -1,17 +1,19 @@
 -- What a message does as it comes.
-use Rattle.std.specs.Prelude.{[], ℕ, Option, Some, None, Bool, true, ◌&&◌, not, is_none, if◌then◌else◌}
+use Rattle.std.specs.Prelude.{[], ℕ, Option, Some, None, Bool, true, false, ◌&&◌, not, is_none, if◌then◌else◌}
 use Rattle.card_digits.specs.declared.key.Key.{Key}
 use Rattle.message_elements.specs.declared.kind.Group.{Group}
 use Rattle.message_elements.specs.declared.kind.Group.TheVariants as groups
 use Rattle.message_elements.specs.Codes.{code_00, code_05, code_14, code_92, code_94, code_96}
 use Rattle.iso_message.specs.Fields.{Fields, el, has}
+use Rattle.iso_message.specs.Made.{made_reversal}
 use Rattle.message_keys.specs.Keys.{has_key, has_identity}
 use Rattle.net_rows.specs.Network.{Network, issuer}
 use Rattle.network_law.specs.Cards.{Bytes, card_of, is_good_card}
+use Rattle.network_law.specs.Tables.{node_id}
 use Rattle.network_law.specs.Traces.{Handled, is_link}
 use Rattle.node_machine.specs.Books.{Books}
 use Rattle.node_machine.specs.Lists.{Lists, open_row}
-use Rattle.node_machine.specs.Steps.{Progress, on_code}
+use Rattle.node_machine.specs.Steps.{Progress, keep, on_code, store}
 
 -- a request opens its key
 abbrev pub opened_start : Lists → Handled → Progress
@@ -46,6 +48,10 @@ counts_by (Some l) put = is_link l put
 abbrev pub for_duplicate : Option ℕ → Bytes
 for_duplicate None = code_05
 for_duplicate (Some l) = code_96
+
+-- a reversal of a request is stored, and goes out as all that are kept do
+abbrev pub take_back : Network → ℕ → Books → Fields → Progress → Progress
+take_back t n b request d = keep t n b (made_reversal request (node_id t n)) (store t n true (made_reversal request (node_id t n)) b.count false d)
 
 -- a code for a key, of the host's or by a link
 abbrev pub on_code_by : Network → ℕ → Books → Key → Bytes → Option ℕ → Progress → Progress

@@ -1,17 +1,13 @@
 //! Answers to what the node forwarded or asked.
 ghost use Rattle.std.specs.Prelude.{◌≡◌, true, false, OnOk};
-ghost use Rattle.iso_message.specs.Made.{made_reversal};
-ghost use Rattle.network_law.specs.Tables.{node_id};
-ghost use Rattle.node_machine.specs.Lists.{view};
-ghost use Rattle.node_machine.specs.Steps.{keep, on_host, store};
-ghost use Rattle.node_books.specs.Effects.{progress};
+ghost use Rattle.node_machine.specs.Steps.{on_host};
 ghost use Rattle.pending_book.specs.Rows.{IsKeyOf};
-ghost use Rattle.switch_node.specs.Coming.{counts_by, for_duplicate, on_code_by};
+ghost use Rattle.switch_node.specs.Coming.{counts_by, for_duplicate, on_code_by, take_back};
+ghost use Rattle.step_draft.specs.Acting.{Does};
 
 use card_digits::{Key, LinkNo, NodeNo};
 use iso_message::Message;
 use message_elements::{Code, response_codes};
-use message_keys::code_of;
 use net_rows::Tables;
 use pending_book::Row;
 use std::alloc::AllocError;
@@ -29,7 +25,7 @@ fn take_back(
 ) -> Result<(), AllocError>
     requires { IsKeyOf key request.now }
     ensures base { draft.new.base ≡ draft.old.base }
-    ensures ok { OnOk result (progress draft.new ≡ keep tables.now node (view tables.now node draft.old.base) (made_reversal request.now (node_id tables.now node)) (store tables.now node true (made_reversal request.now (node_id tables.now node)) (view tables.now node draft.old.base).count false (progress draft.old))) }
+    ensures ok { OnOk result (Does tables.now node draft.old draft.new (λ b. take_back tables.now node b request.now)) }
 {
     let reversal = draft.reversal(tables, node, key, request)?;
     let count = draft.books().count();
@@ -73,7 +69,7 @@ pub(crate) fn on_code(
     room: &mut Message,
 ) -> Result<(), AllocError>
     ensures base { draft.new.base ≡ draft.old.base }
-    ensures ok { OnOk result (progress draft.new ≡ on_code_by tables.now node (view tables.now node draft.old.base) key code by (progress draft.old)) }
+    ensures ok { OnOk result (Does tables.now node draft.old draft.new (λ b. on_code_by tables.now node b key code by)) }
 {
     let Some(row) = draft.books().of_key(key) else {
         return Ok(());
@@ -107,7 +103,7 @@ pub(crate) fn on_host(
     room: &mut Message,
 ) -> Result<(), AllocError>
     ensures base { draft.new.base ≡ draft.old.base }
-    ensures ok { OnOk result (progress draft.new ≡ on_host tables.now node (view tables.now node draft.old.base) code ((view tables.now node draft.old.base).ask_key ask) (progress draft.old)) }
+    ensures ok { OnOk result (Does tables.now node draft.old draft.new (λ b. on_host tables.now node b code (b.ask_key ask))) }
 {
     match draft.books().ask(ask) {
         Some(key) => on_code(draft, tables, node, key, None, code, room),

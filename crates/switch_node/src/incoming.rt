@@ -9,10 +9,11 @@ ghost use Rattle.iso_message.specs.Made.{without_forwarder};
 ghost use Rattle.net_rows.specs.Network.{Network};
 ghost use Rattle.network_law.specs.Cards.{text_of};
 ghost use Rattle.network_law.specs.Traces.{ByLink, Enter, Take, is_ack, dated};
-ghost use Rattle.node_machine.specs.Lists.{LeftAsMarked, view};
+ghost use Rattle.node_machine.specs.Lists.{LeftAsMarked};
 ghost use Rattle.node_machine.specs.Steps.{on_advice, on_answer, on_group, on_request, on_reversal, step};
 ghost use Rattle.node_books.specs.Effects.{progress};
 ghost use Rattle.pending_book.specs.Rows.{IsKeyOf, source_of};
+ghost use Rattle.step_draft.specs.Acting.{Does};
 ghost use Rattle.step_draft.specs.Used.{IsQuiet};
 ghost use Rattle.switch_node.specs.Coming.{opened_start, is_complete};
 
@@ -143,7 +144,7 @@ fn on_answer(
     requires key { has_key m.old ≡ true }
     requires code { has m.old 39 ≡ true }
     ensures base { draft.new.base ≡ draft.old.base }
-    ensures ok { OnOk result (progress draft.new ≡ on_answer tables.now node (view tables.now node draft.old.base) m.old (ByLink link) (progress draft.old)) }
+    ensures ok { OnOk result (Does tables.now node draft.old draft.new (λ b. on_answer tables.now node b m.old (ByLink link))) }
 {
     let Some(key) = key_of(m) else {
         unreachable!();
@@ -169,7 +170,7 @@ fn on_keyed_request(
     requires quiet { IsQuiet draft.old.base (progress draft.old).lists }
     requires left { LeftAsMarked draft.old.base.marks draft.old.base.takes }
     ensures base { draft.new.base ≡ draft.old.base }
-    ensures ok { OnOk result (progress draft.new ≡ on_request tables.now node (view tables.now node draft.old.base) m.now (source_of source) ((view tables.now node draft.old.base).opening (key_of m.now)) (progress draft.old)) }
+    ensures ok { OnOk result (Does tables.now node draft.old draft.new (λ b. on_request tables.now node b m.now (source_of source) (b.opening (key_of m.now)))) }
 {
     match opened {
         Some(Opened { key, kept }) => on_request(draft, tables, node, key, m, Some(kept), source),
@@ -188,8 +189,8 @@ fn on_identified(
     requires advice { is_advice_group (group m.now.kind) ≡ true }
     requires identity { has_identity m.now ≡ true }
     ensures base { draft.new.base ≡ draft.old.base }
-    ensures reversal { OnOk result (reverses ≡ true → progress draft.new ≡ on_reversal tables.now node (view tables.now node draft.old.base) m.now (source_of source) (progress draft.old)) }
-    ensures stand_in { OnOk result (reverses ≡ false → progress draft.new ≡ on_advice tables.now node (view tables.now node draft.old.base) m.now (source_of source) (progress draft.old)) }
+    ensures reversal { OnOk result (reverses ≡ true → Does tables.now node draft.old draft.new (λ b. on_reversal tables.now node b m.now (source_of source))) }
+    ensures stand_in { OnOk result (reverses ≡ false → Does tables.now node draft.old draft.new (λ b. on_advice tables.now node b m.now (source_of source))) }
 {
     let id = identity(m);
     if reverses {
@@ -215,7 +216,7 @@ fn on_message(
     requires quiet { IsQuiet draft.old.base (progress draft.old).lists }
     requires left { LeftAsMarked draft.old.base.marks draft.old.base.takes }
     ensures base { draft.new.base ≡ draft.old.base }
-    ensures ok { OnOk result (progress draft.new ≡ on_group tables.now node (view tables.now node draft.old.base) m.old (source_of source) (group m.old.kind) (progress draft.old)) }
+    ensures ok { OnOk result (Does tables.now node draft.old draft.new (λ b. on_group tables.now node b m.old (source_of source) (group m.old.kind))) }
 {
     match m.kind().group() {
         Group::AuthorizationRequest => on_keyed_request(draft, tables, node, m, opened, source),

@@ -8,7 +8,7 @@ ghost use Rattle.network_law.specs.Runs.{IsLegal, NamesOwnLink, step_refusal, st
 ghost use Rattle.network_law.specs.declared.fault.StepFault.TheVariants.{Memory};
 ghost use Rattle.std.specs.Prelude.{reverse, if◌then◌else◌};
 ghost use Rattle.step_draft.specs.Outputs.{spelled_in};
-ghost use Rattle.switch_node.specs.Node.{newest_outputs, IsNode};
+ghost use Rattle.switch_node.specs.Node.{newest_outputs, with_entry, IsNode};
 
 use crate::entry::Entry;
 use crate::input::Input;
@@ -118,7 +118,7 @@ impl State {
         requires none { out.old ≡ [] }
         ensures is_node { IsNode tables.now self.new.node (reverse self.new.trace.items) self.new.draft }
         ensures same { self.new.node ≡ self.old.node }
-        ensures entry { OnOk result (reverse self.new.trace.items ≡ record { input = input; outputs = step_outputs tables.now self.old.node (reverse self.old.trace.items) input } ∷ reverse self.old.trace.items) }
+        ensures entry { OnOk result (reverse self.new.trace.items ≡ with_entry tables.now self.old.node (reverse self.old.trace.items) input) }
         ensures accepted { OnOk result (step_refusal tables.now self.old.node (reverse self.old.trace.items) input ≡ None) }
         ensures lent { OnOk result (out.new ≡ if lends then step_outputs tables.now self.old.node (reverse self.old.trace.items) input else []) }
         ensures err { OnErr result ((self.new.trace.items ≡ self.old.trace.items) × (out.new ≡ [])) }
@@ -219,7 +219,7 @@ impl<'a> Node<'a> {
     pub fn advance(&mut self, input: Input) -> Result<(), StepFault>
         requires own { NamesOwnLink self.old.t self.old.n input }
         ensures same { (self.new.t ≡ self.old.t) × (self.new.n ≡ self.old.n) }
-        ensures entry { OnOk result (self.new.trace ≡ record { input = input; outputs = step_outputs self.old.t self.old.n self.old.trace input } ∷ self.old.trace) }
+        ensures entry { OnOk result (self.new.trace ≡ with_entry self.old.t self.old.n self.old.trace input) }
         ensures accepted { OnOk result (step_refusal self.old.t self.old.n self.old.trace input ≡ None) }
         ensures err { OnErr result (self.new ≡ self.old) }
         ensures fault { IfErr result (λ f. (f ≡ Memory) ⊎ (step_refusal self.old.t self.old.n self.old.trace input ≡ Some f)) }
@@ -233,7 +233,7 @@ impl<'a> Node<'a> {
         requires own { NamesOwnLink self.old.t self.old.n input }
         requires none { out.old ≡ [] }
         ensures same { (self.new.t ≡ self.old.t) × (self.new.n ≡ self.old.n) }
-        ensures entry { OnOk result (self.new.trace ≡ record { input = input; outputs = step_outputs self.old.t self.old.n self.old.trace input } ∷ self.old.trace) }
+        ensures entry { OnOk result (self.new.trace ≡ with_entry self.old.t self.old.n self.old.trace input) }
         ensures accepted { OnOk result (step_refusal self.old.t self.old.n self.old.trace input ≡ None) }
         ensures lent { OnOk result (out.new ≡ if lends then step_outputs self.old.t self.old.n self.old.trace input else []) }
         ensures err { OnErr result ((self.new ≡ self.old) × (out.new ≡ [])) }

@@ -3,12 +3,12 @@ ghost use Rattle.std.specs.Prelude.{◌≡◌, true, OnOk};
 ghost use Rattle.message_elements.specs.Codes.{code_68};
 ghost use Rattle.message_elements.specs.Groups.{group, is_advice_group};
 ghost use Rattle.message_keys.specs.Keys.{identity_of};
-ghost use Rattle.node_machine.specs.Lists.{leaves, view};
+ghost use Rattle.node_machine.specs.Lists.{leaves};
 ghost use Rattle.node_machine.specs.Machine.{is_pending};
 ghost use Rattle.node_machine.specs.Steps.{accept, answer_pending, on_advice, on_reversal};
-ghost use Rattle.node_books.specs.Effects.{progress};
 ghost use Rattle.pending_book.specs.Rows.{source_of};
 ghost use Rattle.switch_node.specs.Coming.{refusal_code};
+ghost use Rattle.step_draft.specs.Acting.{Does};
 
 use card_digits::{Amount, Key, LinkNo, NodeNo};
 use iso_message::Message;
@@ -43,7 +43,7 @@ fn accept(
     requires id { id ≡ identity_of m.now }
     requires advice { is_advice_group (group m.now.kind) ≡ true }
     ensures base { draft.new.base ≡ draft.old.base }
-    ensures ok { OnOk result (progress draft.new ≡ accept tables.now node (view tables.now node draft.old.base) m.now (source_of source) (progress draft.old)) }
+    ensures ok { OnOk result (Does tables.now node draft.old draft.new (λ b. accept tables.now node b m.now (source_of source))) }
 {
     let kept = draft.kept(m)?;
     let approved = Code::new(response_codes::APPROVED);
@@ -63,7 +63,7 @@ fn answer_pending(
     key: Key,
 ) -> Result<(), AllocError>
     ensures base { draft.new.base ≡ draft.old.base }
-    ensures ok { OnOk result (progress draft.new ≡ answer_pending tables.now node (is_pending (view tables.now node draft.old.base) key) ((view tables.now node draft.old.base).opening key) code_68 (progress draft.old)) }
+    ensures ok { OnOk result (Does tables.now node draft.old draft.new (λ b. answer_pending tables.now node (is_pending b key) (b.opening key) code_68)) }
 {
     let Some(row) = draft.books().of_key(key) else {
         return Ok(());
@@ -115,7 +115,7 @@ pub(crate) fn on_reversal(
     requires id { id ≡ identity_of m.now }
     requires advice { is_advice_group (group m.now.kind) ≡ true }
     ensures base { draft.new.base ≡ draft.old.base }
-    ensures ok { OnOk result (progress draft.new ≡ on_reversal tables.now node (view tables.now node draft.old.base) m.now (source_of source) (progress draft.old)) }
+    ensures ok { OnOk result (Does tables.now node draft.old draft.new (λ b. on_reversal tables.now node b m.now (source_of source))) }
 {
     let other = other_content(draft.books(), id.key, m)?;
     let known = draft.books().is_known(id);
@@ -139,7 +139,7 @@ pub(crate) fn on_advice(
     requires id { id ≡ identity_of m.now }
     requires advice { is_advice_group (group m.now.kind) ≡ true }
     ensures base { draft.new.base ≡ draft.old.base }
-    ensures ok { OnOk result (progress draft.new ≡ on_advice tables.now node (view tables.now node draft.old.base) m.now (source_of source) (progress draft.old)) }
+    ensures ok { OnOk result (Does tables.now node draft.old draft.new (λ b. on_advice tables.now node b m.now (source_of source))) }
 {
     let known = draft.books().is_known(id);
     if let Some(code) = refusal(tables, m, false, known) {

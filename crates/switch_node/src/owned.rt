@@ -1,10 +1,10 @@
 //! A node that owns its tables.
-ghost use Rattle.std.specs.Prelude.{◌≡◌, ◌≢◌, ◌⊎◌, ◌<◌, [], ◌∷◌, length, OnOk, OnErr, IfErr, IfOk, Some, None};
-ghost use Rattle.network_law.specs.Runs.{NamesOwnLink, step_refusal, step_outputs};
+ghost use Rattle.std.specs.Prelude.{◌≡◌, ◌≢◌, ◌⊎◌, ◌<◌, [], length, OnOk, OnErr, IfErr, IfOk, Some, None};
+ghost use Rattle.network_law.specs.Runs.{NamesOwnLink, step_refusal};
 ghost use Rattle.network_law.specs.Tables.{is_link_of};
 ghost use Rattle.network_law.specs.declared.fault.StepFault.TheVariants.{Memory};
 ghost use Rattle.table_checker.specs.Rules.{first_refusal};
-ghost use Rattle.switch_node.specs.Node.{newest_outputs, IsNode};
+ghost use Rattle.switch_node.specs.Node.{newest_outputs, with_entry, IsNode};
 
 use crate::input::Input;
 use crate::node::State;
@@ -105,7 +105,7 @@ impl OwnedNode {
     pub fn advance(&mut self, input: Input) -> Result<(), StepFault>
         requires own { NamesOwnLink self.old.t self.old.n input }
         ensures same { (self.new.t ≡ self.old.t) × (self.new.n ≡ self.old.n) }
-        ensures entry { OnOk result (self.new.trace ≡ record { input = input; outputs = step_outputs self.old.t self.old.n self.old.trace input } ∷ self.old.trace) }
+        ensures entry { OnOk result (self.new.trace ≡ with_entry self.old.t self.old.n self.old.trace input) }
         ensures accepted { OnOk result (step_refusal self.old.t self.old.n self.old.trace input ≡ None) }
         ensures err { OnErr result (self.new ≡ self.old) }
         ensures fault { IfErr result (λ f. (f ≡ Memory) ⊎ (step_refusal self.old.t self.old.n self.old.trace input ≡ Some f)) }

@@ -15,6 +15,7 @@ ghost use Rattle.network_law.specs.Decision.{same_source};
 ghost use Rattle.iso_message.specs.Made.{response};
 ghost use Rattle.node_books.specs.Effects.{progress};
 ghost use Rattle.pending_book.specs.Rows.{IsAnswerOf, IsKeyOf, source_of};
+ghost use Rattle.step_draft.specs.Acting.{Does};
 ghost use Rattle.step_draft.specs.Used.{IsQuiet};
 
 use card_digits::{Key, LinkNo, NodeNo};
@@ -125,7 +126,7 @@ fn forward(
     requires quiet { IsQuiet draft.old.base (progress draft.old).lists }
     requires left { LeftAsMarked draft.old.base.marks draft.old.base.takes }
     ensures base { draft.new.base ≡ draft.old.base }
-    ensures ok { OnOk result (progress draft.new ≡ on_forward tables.now node (view tables.now node draft.old.base) m.now (source_of source) (find (view tables.now node draft.old.base).is_up (route_links tables.now node (card_of m.now))) (progress draft.old)) }
+    ensures ok { OnOk result (Does tables.now node draft.old draft.new (λ b. on_forward tables.now node b m.now (source_of source) (find b.is_up (route_links tables.now node (card_of m.now))))) }
 {
     match way_of(draft, tables, node, m) {
         Some(link) => {
@@ -151,7 +152,7 @@ fn take_request(
     requires quiet { IsQuiet draft.old.base (progress draft.old).lists }
     requires left { LeftAsMarked draft.old.base.marks draft.old.base.takes }
     ensures base { draft.new.base ≡ draft.old.base }
-    ensures ok { OnOk result (progress draft.new ≡ on_issuer tables.now node (view tables.now node draft.old.base) m.now (source_of source) (issuer tables.now (card_of m.now)) (progress draft.old)) }
+    ensures ok { OnOk result (Does tables.now node draft.old draft.new (λ b. on_issuer tables.now node b m.now (source_of source) (issuer tables.now (card_of m.now)))) }
 {
     let Some(issuer) = issuer_of(tables, m) else {
         return draft.respond(
@@ -191,7 +192,7 @@ fn on_new_request(
     requires quiet { IsQuiet draft.old.base (progress draft.old).lists }
     requires left { LeftAsMarked draft.old.base.marks draft.old.base.takes }
     ensures base { draft.new.base ≡ draft.old.base }
-    ensures ok { OnOk result (progress draft.new ≡ on_request tables.now node (view tables.now node draft.old.base) m.now (source_of source) None (progress draft.old)) }
+    ensures ok { OnOk result (Does tables.now node draft.old draft.new (λ b. on_request tables.now node b m.now (source_of source) None)) }
 {
     if draft.books().is_marked(key) {
         return draft.respond(
@@ -224,7 +225,7 @@ fn on_repeat(
     requires key { IsKeyOf key m.now }
     requires there { is_some (of_key key draft.old.base.rows) ≡ true }
     ensures base { draft.new.base ≡ draft.old.base }
-    ensures ok { OnOk result (progress draft.new ≡ on_request tables.now node (view tables.now node draft.old.base) m.now (source_of source) ((view tables.now node draft.old.base).opening (key_of m.now)) (progress draft.old)) }
+    ensures ok { OnOk result (Does tables.now node draft.old draft.new (λ b. on_request tables.now node b m.now (source_of source) (b.opening (key_of m.now)))) }
 {
     let Some(row) = draft.books().of_key(key) else {
         return Ok(());
@@ -280,7 +281,7 @@ pub(crate) fn on_request(
     requires quiet { IsQuiet draft.old.base (progress draft.old).lists }
     requires left { LeftAsMarked draft.old.base.marks draft.old.base.takes }
     ensures base { draft.new.base ≡ draft.old.base }
-    ensures ok { OnOk result (progress draft.new ≡ on_request tables.now node (view tables.now node draft.old.base) m.now (source_of source) ((view tables.now node draft.old.base).opening (key_of m.now)) (progress draft.old)) }
+    ensures ok { OnOk result (Does tables.now node draft.old draft.new (λ b. on_request tables.now node b m.now (source_of source) (b.opening (key_of m.now)))) }
 {
     if draft.books().has_key(key) {
         on_repeat(draft, tables, node, key, m, source)

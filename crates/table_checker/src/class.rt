@@ -34,11 +34,12 @@ impl At<'_> {
     ghost use Rattle.table_checker.specs.Rules.{not_named, over_ceiling, node_refusal, has_row, no_issuer};
     ghost use Rattle.table_checker.specs.Search.{first_below};
     ghost use Rattle.table_checker.specs.Known.{HasRows};
+    ghost use Rattle.table_checker.specs.Here.{here};
 
     /// The refusal of a node that may approve so much by itself, and so isn't among the named.
     fn not_named(&self, named: &[NodeNo], node: NodeNo, day: u64) -> Option<Refusal>
         requires { day ≡ day_of self.now.tables.now node self.now.class }
-        ensures { result ≡ not_named self.now.tables.now self.now.cert.now self.now.class named.now node }
+        ensures { result ≡ here self.now not_named named.now node }
     {
         if day > 0 && !named.contains(&node) {
             Some(Refusal::NotNamed(node, self.class))
@@ -50,7 +51,7 @@ impl At<'_> {
     /// Adds the refusal of a node that may approve so much to those of the nodes before it.
     fn add_day(&self, first: &mut Option<Refusal>, named: &[NodeNo], node: NodeNo, day: u64)
         requires { day ≡ day_of self.now.tables.now node self.now.class }
-        ensures { first.new ≡ option_or first.old (not_named self.now.tables.now self.now.cert.now self.now.class named.now node) }
+        ensures { first.new ≡ option_or first.old (here self.now not_named named.now node) }
     {
         if day == 0 || first.is_some() {
             return;
@@ -61,7 +62,7 @@ impl At<'_> {
     /// The refusal of amounts that add up to so much.
     fn over_ceiling(&self, ceiling: u64, total: u64) -> Option<Refusal>
         requires { total ≡ sum_below (λ n. day_of self.now.tables.now n self.now.class) (length self.now.tables.now.nodes) }
-        ensures { result ≡ over_ceiling self.now.tables.now self.now.cert.now self.now.class ceiling }
+        ensures { result ≡ here self.now over_ceiling ceiling }
     {
         if total > ceiling {
             Some(Refusal::OverCeiling(self.class, total, ceiling))
@@ -85,7 +86,7 @@ impl At<'_> {
     fn no_day(&self, ceiling: u64) -> ByDay
         requires { self.now.tables.now.stand_ins ≡ [] }
         ensures not_named { result.not_named ≡ None }
-        ensures over_ceiling { result.over_ceiling ≡ over_ceiling self.now.tables.now self.now.cert.now self.now.class ceiling }
+        ensures over_ceiling { result.over_ceiling ≡ here self.now over_ceiling ceiling }
     {
         ByDay {
             not_named: None,
@@ -96,8 +97,8 @@ impl At<'_> {
     /// What nodes may approve by themselves, each looked up once.
     pub fn by_day(&self, issuer: &Issuer) -> ByDay
         requires { HasRows self.now }
-        ensures not_named { result.not_named ≡ first_below (node_refusal self.now.tables.now self.now.cert.now self.now.class Kind.NotNamed issuer.now) (length self.now.tables.now.nodes) }
-        ensures over_ceiling { result.over_ceiling ≡ over_ceiling self.now.tables.now self.now.cert.now self.now.class issuer.now.ceiling }
+        ensures not_named { result.not_named ≡ first_below (here self.now node_refusal Kind.NotNamed issuer.now) (length self.now.tables.now.nodes) }
+        ensures over_ceiling { result.over_ceiling ≡ here self.now over_ceiling issuer.now.ceiling }
     {
         if self.tables.stand_ins().is_empty() {
             return self.no_day(issuer.ceiling.value());
@@ -117,14 +118,14 @@ impl At<'_> {
     }
 
     fn has_row(&self, node: NodeNo) -> bool
-        ensures { result ≡ has_row self.now.tables.now self.now.cert.now self.now.class node }
+        ensures { result ≡ here self.now has_row node }
     {
         has_route(self.tables.routes(), node, &self.class)
             || has_stand_in(self.tables.stand_ins(), node, &self.class)
     }
 
     fn no_issuer(&self, node: NodeNo) -> Option<Refusal>
-        ensures { result ≡ no_issuer self.now.tables.now self.now.cert.now self.now.class node }
+        ensures { result ≡ here self.now no_issuer node }
     {
         if self.has_row(node) {
             Some(Refusal::NoIssuer(node, self.class))
@@ -135,7 +136,7 @@ impl At<'_> {
 
     /// The first row at the class, where no issuer's prefix begins it.
     pub fn first_without_issuer(&self) -> Option<Refusal>
-        ensures { result ≡ first_below (no_issuer self.now.tables.now self.now.cert.now self.now.class) (length self.now.tables.now.nodes) }
+        ensures { result ≡ first_below (here self.now no_issuer) (length self.now.tables.now.nodes) }
     {
         for i in 0..self.tables.nodes().len() {
             let found = self.no_issuer(NodeNo::new(i));

@@ -5,6 +5,7 @@ ghost use Rattle.table_checker.specs.Firsts.{of_kind};
 ghost use Rattle.table_checker.specs.Rules.{refusal_at, kind_refusal, kinds};
 ghost use Rattle.table_checker.specs.Search.{first_some};
 ghost use Rattle.table_checker.specs.Known.{AreFalling, HasRows};
+ghost use Rattle.table_checker.specs.Here.{here};
 
 use crate::class::At;
 use crate::known::Known;
@@ -82,10 +83,10 @@ impl Firsts {
     fn add_with_issuer(&mut self, at: &At, known: &mut Known, issuer: &Issuer)
         requires rows { HasRows at.now }
         requires falling { AreFalling at.now.tables.now known.old.ranks known.old.falling }
-        ensures no_rank { self.new.no_rank ≡ option_or self.old.no_rank (kind_refusal at.now.tables.now at.now.cert.now at.now.class Kind.NoRank (Some issuer.now)) }
-        ensures not_less { self.new.not_less ≡ option_or self.old.not_less (kind_refusal at.now.tables.now at.now.cert.now at.now.class Kind.NotLess (Some issuer.now)) }
-        ensures not_named { self.new.not_named ≡ option_or self.old.not_named (kind_refusal at.now.tables.now at.now.cert.now at.now.class Kind.NotNamed (Some issuer.now)) }
-        ensures over_ceiling { self.new.over_ceiling ≡ option_or self.old.over_ceiling (kind_refusal at.now.tables.now at.now.cert.now at.now.class Kind.OverCeiling (Some issuer.now)) }
+        ensures no_rank { self.new.no_rank ≡ option_or self.old.no_rank (here at.now kind_refusal Kind.NoRank (Some issuer.now)) }
+        ensures not_less { self.new.not_less ≡ option_or self.old.not_less (here at.now kind_refusal Kind.NotLess (Some issuer.now)) }
+        ensures not_named { self.new.not_named ≡ option_or self.old.not_named (here at.now kind_refusal Kind.NotNamed (Some issuer.now)) }
+        ensures over_ceiling { self.new.over_ceiling ≡ option_or self.old.over_ceiling (here at.now kind_refusal Kind.OverCeiling (Some issuer.now)) }
         ensures no_issuer { self.new.no_issuer ≡ self.old.no_issuer }
         ensures falling { AreFalling at.now.tables.now known.new.ranks known.new.falling }
     {
@@ -97,8 +98,8 @@ impl Firsts {
     fn add_by_rank(&mut self, at: &At, known: &mut Known, issuer: &Issuer)
         requires rows { HasRows at.now }
         requires falling { AreFalling at.now.tables.now known.old.ranks known.old.falling }
-        ensures no_rank { self.new.no_rank ≡ option_or self.old.no_rank (kind_refusal at.now.tables.now at.now.cert.now at.now.class Kind.NoRank (Some issuer.now)) }
-        ensures not_less { self.new.not_less ≡ option_or self.old.not_less (kind_refusal at.now.tables.now at.now.cert.now at.now.class Kind.NotLess (Some issuer.now)) }
+        ensures no_rank { self.new.no_rank ≡ option_or self.old.no_rank (here at.now kind_refusal Kind.NoRank (Some issuer.now)) }
+        ensures not_less { self.new.not_less ≡ option_or self.old.not_less (here at.now kind_refusal Kind.NotLess (Some issuer.now)) }
         ensures not_named { self.new.not_named ≡ self.old.not_named }
         ensures over_ceiling { self.new.over_ceiling ≡ self.old.over_ceiling }
         ensures no_issuer { self.new.no_issuer ≡ self.old.no_issuer }
@@ -115,8 +116,8 @@ impl Firsts {
     /// Adds those that come of what nodes may approve, in the same way.
     fn add_by_day(&mut self, at: &At, issuer: &Issuer)
         requires { HasRows at.now }
-        ensures not_named { self.new.not_named ≡ option_or self.old.not_named (kind_refusal at.now.tables.now at.now.cert.now at.now.class Kind.NotNamed (Some issuer.now)) }
-        ensures over_ceiling { self.new.over_ceiling ≡ option_or self.old.over_ceiling (kind_refusal at.now.tables.now at.now.cert.now at.now.class Kind.OverCeiling (Some issuer.now)) }
+        ensures not_named { self.new.not_named ≡ option_or self.old.not_named (here at.now kind_refusal Kind.NotNamed (Some issuer.now)) }
+        ensures over_ceiling { self.new.over_ceiling ≡ option_or self.old.over_ceiling (here at.now kind_refusal Kind.OverCeiling (Some issuer.now)) }
         ensures no_rank { self.new.no_rank ≡ self.old.no_rank }
         ensures not_less { self.new.not_less ≡ self.old.not_less }
         ensures no_issuer { self.new.no_issuer ≡ self.old.no_issuer }
@@ -131,7 +132,7 @@ impl Firsts {
 
     // All rows are walked for it, and so only at the first such class.
     fn add_without_issuer(&mut self, at: &At)
-        ensures no_issuer { self.new.no_issuer ≡ option_or self.old.no_issuer (kind_refusal at.now.tables.now at.now.cert.now at.now.class Kind.NoIssuer None) }
+        ensures no_issuer { self.new.no_issuer ≡ option_or self.old.no_issuer (here at.now kind_refusal Kind.NoIssuer None) }
         ensures no_rank { self.new.no_rank ≡ self.old.no_rank }
         ensures not_less { self.new.not_less ≡ self.old.not_less }
         ensures not_named { self.new.not_named ≡ self.old.not_named }

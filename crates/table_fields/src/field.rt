@@ -1,5 +1,5 @@
 //! The fields of a row.
-ghost use Rattle.std.specs.Prelude.{◌≡◌, ◌≤◌, ◌<◌, ◌^◌, length, IfOk};
+ghost use Rattle.std.specs.Prelude.{◌≡◌, ◌≤◌, ◌<◌, ◌^◌, IfOk};
 
 use crate::fault::TableFault;
 use crate::keys::{get, has_only};

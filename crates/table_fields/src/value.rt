@@ -1,11 +1,11 @@
 //! What a value of the tree is, where it is of a field's form.
-ghost use Rattle.std.specs.Prelude.{◌≡◌, ◌≤◌, ◌<◌, ◌^◌, length, option_map, IfSome, IfOk};
+ghost use Rattle.std.specs.Prelude.{◌≡◌, ◌≤◌, ◌<◌, ◌^◌, option_map, IfSome, IfOk};
 ghost use Rattle.std.specs.List.{list_all};
-ghost use Rattle.toml.specs.View.{view};
+ghost use Rattle.toml.specs.View.{view, items_view};
 ghost use Rattle.card_digits.specs.Digits.{IsDateLabel, IsId};
-ghost use Rattle.table_fields.specs.Values.{whole_in, name_in, id_in, prefix_in, currency_in, date_in, ends_in, is_printable};
+ghost use Rattle.table_fields.specs.Values.{whole_in, name_in, id_in, prefix_in, currency_in, date_in, ends_in, is_printable, whole, currency_text, two_names, all_names};
 
-use card_digits::{DateLabel, Id, Name, Prefix, ShortBytes, all_digits};
+use card_digits::{DateLabel, Id, Name, Prefix, ShortBytes};
 use std::alloc::{AllocError, Global};
 use toml::Value;
 
@@ -16,8 +16,6 @@ pub(crate) fn whole_of(value: &Value, least: u64, most: u64) -> Option<u64>
 {
     within(value.as_integer()?, least, most)
 }
-
-ghost use Rattle.table_fields.specs.Values.{whole};
 
 fn within(number: i64, least: u64, most: u64) -> Option<u64>
     ensures value { result ≡ whole least most number }
@@ -59,8 +57,6 @@ fn all_printable(text: &[u8]) -> bool
     text.iter().all(|byte| *byte >= 0x20 && *byte <= 0x7e)
 }
 
-ghost use Rattle.table_fields.specs.Values.{currency_text};
-
 fn currency_text(text: &[u8]) -> Option<ShortBytes<3>>
     ensures { result ≡ currency_text text.now }
 {
@@ -85,9 +81,6 @@ pub(crate) fn date_of(value: &Value) -> Option<DateLabel>
     DateLabel::read(value.as_str()?.as_bytes()).ok()
 }
 
-ghost use Rattle.toml.specs.View.{items_view};
-ghost use Rattle.table_fields.specs.Values.{two_names};
-
 /// Two different names.
 pub(crate) fn ends_of(value: &Value) -> Option<(Name, Name)>
     ensures { result ≡ ends_in (view value.now) }
@@ -109,8 +102,6 @@ fn two_names(values: &[Value]) -> Option<(Name, Name)>
     }
     Some((first, second))
 }
-
-ghost use Rattle.table_fields.specs.Values.{all_names};
 
 /// The names that the values are, where each is one.
 pub(crate) fn all_names(alloc: Global, values: &[Value]) -> Result<Option<Vec<Name>>, AllocError>

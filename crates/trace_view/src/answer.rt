@@ -4,10 +4,11 @@ ghost use Rattle.std.specs.Option.{option_copied};
 ghost use Rattle.card_digits.specs.Lines.{lines};
 ghost use Rattle.net_tables.specs.Reading.{tables_in};
 ghost use Rattle.rank_cert.specs.Reading.{cert_in};
-ghost use Rattle.trace_view.specs.Answers.{AnswersTrace, IsTable, read_said, table_said, trace_parts, trace_said};
+ghost use Rattle.bundle_text.specs.Answers.{accepted_said};
+ghost use Rattle.trace_view.specs.Answers.{AnswersTrace, IsTable, table_said, trace_parts, trace_said, traced_said};
 ghost use Rattle.trace_view.specs.Inputs.{lines_now};
 ghost use Rattle.trace_view.specs.Rows.{heading};
-ghost use Rattle.trace_view.specs.Table.{rows_onto, table_in};
+ghost use Rattle.trace_view.specs.Table.{rows_onto};
 
 use crate::fault::trace_fault_line;
 use crate::inputs::lines_of;
@@ -45,7 +46,7 @@ fn table(
     script: Option<&[u8]>,
     trace: &[u8],
 ) -> Result<Answer, AllocError>
-    ensures { IfOk result (λ a. AnswersTrace a (table_said (table_in tables.now (option_copied script.entry) trace.now))) }
+    ensures { IfOk result (λ a. AnswersTrace a (traced_said (option_copied script.entry) trace.now tables.now)) }
 {
     match script {
         Some(script) => {
@@ -64,7 +65,7 @@ struct TraceQuestion<'a> {
 }
 
 impl AcceptedQuestion for TraceQuestion<'_> {
-    ghost is_answer_to = { λ asked t. IsTable t (option_copied asked.script) asked.trace.now };
+    ghost is_answer_to = { λ asked. IsTable (option_copied asked.script) asked.trace.now };
 
     fn answer_to(
         &self,
@@ -85,7 +86,7 @@ fn of_read(
     script: Option<&[u8]>,
     trace: &[u8],
 ) -> Result<Answer, AllocError>
-    ensures { IfOk result (λ a. AnswersTrace a (read_said (tables_in tables.now) (cert_in ranks.now) (option_copied script.entry) trace.now)) }
+    ensures { IfOk result (λ a. AnswersTrace a (accepted_said (traced_said (option_copied script.entry) trace.now) (tables_in tables.now) (cert_in ranks.now))) }
 {
     accepted_answer(alloc, &TraceQuestion { script, trace }, tables, ranks)
 }

@@ -1,4 +1,4 @@
-use Rattle.std.proofs.Common.{◌≡◌, ℕ, ◌≤◌, ◌++◌, ◌∙◌, List, length, ap, arith}
+use Rattle.std.proofs.Common.{ℕ, ◌≤◌, ◌++◌, ◌∙◌, List, length, ap, arith}
 use Rattle.std.proofs.lemmas.List.{take_all}
 use Rattle.all_refusals.specs.declared.row.RowRefusal.{RowRefusal}
 use Rattle.serde_json.specs.Data.{Data}

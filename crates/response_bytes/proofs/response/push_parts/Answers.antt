@@ -5,7 +5,7 @@ use Rattle.message_elements.specs.Types.{kind_text}
 use Rattle.iso_message.specs.Finding.{put}
 use Rattle.iso_message.specs.Made.{kept, response, response_numbers}
 use Rattle.iso_message.specs.Spelling.{bits, map_text, pieces, spelling, IsMessage}
-use Rattle.response_bytes.proofs.Bits.{numbers}
+use Rattle.response_bytes.specs.Taken.{numbers}
 use Rattle.response_bytes.proofs.Whole.{low_marks, low_order, parts_whole}
 use Rattle.response_bytes.proofs.response.push_parts.Goals as goal
 

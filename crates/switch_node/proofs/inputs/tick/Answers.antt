@@ -1,4 +1,4 @@
-use Rattle.std.proofs.Common.{◌≡◌, refl, sym, subst, ◌∙◌, [], ◌∷◌}
+use Rattle.std.proofs.Common.{◌≡◌, refl, sym, subst, ◌∙◌}
 use Rattle.node_machine.specs.Lists.{Lists}
 use Rattle.node_books.specs.Effects.{progress}
 use Rattle.node_books.specs.declared.effect.Effect.TheVariants as effects

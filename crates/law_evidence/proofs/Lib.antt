@@ -1,0 +1,11 @@
+pub mod Books
+pub mod StoredOrder
+pub mod PlainAdvices
+pub mod PlainContents
+pub mod PlainLate
+pub mod Acked
+pub mod Spelled
+pub mod WorkedRun
+pub mod TwoHops
+pub mod LateRun
+pub mod WorkedSteps

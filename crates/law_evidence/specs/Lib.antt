@@ -1,0 +1,11 @@
+pub mod PlainAdvices
+pub mod PlainContents
+pub mod PlainLate
+pub mod Worked
+pub mod WorkedRequest
+pub mod WorkedLimits
+pub mod WorkedPlaces
+pub mod WorkedDeclined
+pub mod WorkedLate
+pub mod WorkedReadings
+pub mod WorkedBytes
