@@ -234,8 +234,8 @@ typedef struct cs_step {
 /*
  * Tells a node an input. CS_DONE: the node made its step, which has step->outputs outputs. CS_REFUSED: the node refuses the input, and *step says
  * why. CS_UNKNOWN: these numbers and bytes are no input of this node: the kind is none, the link isn't the node's, or the bytes are no code, date or
- * order. CS_NO_MEMORY: there was no memory; the same call may be tried again. CS_EMPTY: the handle holds no node. Unless it is CS_DONE the node is as
- * it was, and its newest step is still the one before.
+ * order. CS_NO_MEMORY: there was no memory; the same call may be tried again. CS_EMPTY: the handle holds no node. In these three cases all
+ * numbers of *step are 0. Unless it is CS_DONE the node is as it was, and its newest step is still the one before.
  */
 uint8_t cs_node_step(cs_node *node, const cs_input *input, const uint8_t *bytes, size_t bytes_length, cs_step *step);
 
@@ -265,16 +265,21 @@ typedef struct cs_output {
 /*
  * Gives the output at a place, from 0, among those of the node's newest step, any number of times. CS_DONE: output->length bytes stand at the front of
  * `bytes`. CS_TOO_SMALL: the output has output->length bytes, which are more than `bytes_capacity`. CS_UNKNOWN: there are not so many outputs.
- * CS_EMPTY: the handle holds no node. Unless it is CS_DONE the buffer is as it was; behind the output it always is.
+ * CS_EMPTY: the handle holds no node. In these two cases *output is as it was. Unless it is CS_DONE the buffer is as it was; behind the output it
+ * always is.
  */
 uint8_t cs_node_output(cs_node *node, size_t place, uint8_t *bytes, size_t bytes_capacity, cs_output *output);
 
-/* Finds a link of the tables by its name. CS_DONE: its place there, from 0, is in *link. CS_UNKNOWN: there is none. CS_EMPTY: the handle holds no node. */
+/*
+ * Finds a link of the tables by its name. CS_DONE: its place there, from 0, is in *link. CS_UNKNOWN: there is none. CS_EMPTY: the handle holds no node.
+ * In these two cases *link is as it was.
+ */
 uint8_t cs_node_link(cs_node *node, const uint8_t *name, size_t name_length, size_t *link);
 
 /*
  * Gives the name of the link at a place of the tables, 1 to 8 letters and digits; no zero byte ends it. CS_DONE: *name_length bytes stand at the front of
- * `name`. CS_TOO_SMALL: it has *name_length bytes. CS_UNKNOWN: there are not so many links. CS_EMPTY: the handle holds no node.
+ * `name`. CS_TOO_SMALL: it has *name_length bytes. CS_UNKNOWN: there are not so many links. CS_EMPTY: the handle holds no node. In
+ * these two cases *name_length is as it was. Unless it is CS_DONE the buffer is as it was; behind the name it always is.
  */
 uint8_t cs_node_link_name(cs_node *node, size_t link, uint8_t *name, size_t name_capacity, size_t *name_length);
 
