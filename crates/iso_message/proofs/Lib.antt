@@ -5,16 +5,14 @@ pub mod ReadingLaws
 pub mod FaultLaws
 pub mod Finding
 pub mod Canonical
-pub mod HexLanes
 pub mod Maps
 pub mod Good
 pub mod Changes
 pub mod MessageLemmas
 pub mod Found
-pub mod LaneLemmas
-pub mod KnownLemmas
 pub mod PartLemmas
 pub mod Together
 pub mod RunLemmas
 pub mod MemoryFault
 pub mod ReadOn
+pub mod Behind

@@ -6,9 +6,7 @@ pub mod Messages
 pub mod Unread
 pub mod Heads
 pub mod Grammar
-pub mod HexDigits
 pub mod Spelling
 pub mod Made
-pub mod Known
 pub mod Parts
 pub mod Carried

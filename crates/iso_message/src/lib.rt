@@ -3,12 +3,10 @@
 
 mod carried;
 mod elements;
-mod hex_digits;
 pub mod laws;
 mod made;
 mod message;
 mod reading;
-mod runs;
 mod unread;
 mod writing;
 

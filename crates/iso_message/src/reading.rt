@@ -6,7 +6,7 @@ ghost use Rattle.message_elements.specs.Types.{kind_of};
 ghost use Rattle.message_elements.specs.Values.{fits};
 ghost use Rattle.iso_message.specs.Elements.{content_at, length_at, counted_at, binary_at, field_at, with_next, with_all};
 ghost use Rattle.message_elements.specs.Table.{form_of};
-ghost use Rattle.iso_message.specs.Known.{IsKnown};
+ghost use Rattle.message_bytes.specs.Known.{IsKnown};
 ghost use Rattle.iso_message.specs.Parts.{IsEnd};
 ghost use Rattle.message_elements.specs.declared.form.Class.TheVariants.{Digits};
 ghost use Rattle.message_elements.specs.declared.fault.DecodeFault.TheVariants.{Memory};
@@ -17,11 +17,10 @@ ghost use Rattle.card_digits.specs.Attempts.{Gives};
 ghost use Rattle.iso_message.specs.Messages.{marks, kind_at, map_at, second_at, read, Reads, is_memory};
 
 use crate::elements::{Elements, Parts};
-use crate::hex_digits::bytes_of_digits;
 use crate::message::Message;
-use crate::runs::Known;
 use card_digits::decimal;
 use hex::FromHexError;
+use message_bytes::{Known, bytes_of_digits};
 use message_elements::{Class, DecodeFault, Form, Kind, form_at};
 use std::alloc::Global;
 

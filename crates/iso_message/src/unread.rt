@@ -3,13 +3,13 @@ ghost use Rattle.std.specs.Prelude.{◌≡◌, ◌≤◌, ◌==◌, true, false,
 ghost use Rattle.message_elements.specs.Table.{form_of};
 ghost use Rattle.iso_message.specs.Elements.{element_at};
 ghost use Rattle.iso_message.specs.Heads.{HasFault, HasHead, HasValue, parted, value_behind};
-ghost use Rattle.iso_message.specs.Known.{IsKnown};
+ghost use Rattle.message_bytes.specs.Known.{IsKnown};
 ghost use Rattle.iso_message.specs.Messages.{Reads, read};
 ghost use Rattle.iso_message.specs.Spelling.{Ascends, is_binary};
 ghost use Rattle.iso_message.specs.Unread.{read_on};
 
 use crate::reading::{binary_of, bit_map, length_of, read_kind, second_map, take_mark};
-use crate::runs::Known;
+use message_bytes::Known;
 use message_elements::{Class, DecodeFault, FixedForm, Form, Kind, fixed_form_at, form_at};
 use std::marker::Model;
 
@@ -24,7 +24,7 @@ pub struct Unread<'a> {
 
 impl<'a> Model for Unread<'a> {
     ghost use Rattle.std.specs.Prelude.{◌++◌};
-    ghost use Rattle.iso_message.specs.Known.{IsKnown};
+    ghost use Rattle.message_bytes.specs.Known.{IsKnown};
     ghost use Rattle.iso_message.specs.Messages.{marks};
     ghost use Rattle.iso_message.specs.Unread.{Left};
 

@@ -7,7 +7,7 @@ ghost use Rattle.message_elements.specs.Table.{form_of};
 ghost use Rattle.iso_message.specs.Grammar.{Spells};
 ghost use Rattle.iso_message.specs.Spelling.{two_digits, three_digits, length_text, HasLength, is_binary, piece, map_text, IsGood, IsMessage, spelling};
 
-use crate::hex_digits::digits_of_bytes;
+use message_bytes::digits_of_bytes;
 use message_elements::{Form, form_at};
 use std::alloc::AllocError;
 

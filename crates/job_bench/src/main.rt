@@ -2,22 +2,13 @@
 //! a third word `small` asks for a thousandth of each input.
 #![tactic(auto)]
 
-mod captures;
 mod digest;
-mod digits;
-mod messages;
-mod network;
-mod plans;
-mod random;
-mod rank_line;
 mod running;
-mod scripts;
-mod text;
 mod workload;
 
-use crate::random::Random;
 use crate::running::Answers;
 use crate::workload::{Desk, Workload, workload_of};
+use bench_inputs::Random;
 use std::io;
 
 /// What the program's words ask for.

@@ -1,6 +1,6 @@
 //! Runs of jobs over inputs, and what came of them.
 use crate::digest::Digest;
-use crate::text::Text;
+use bench_inputs::Text;
 use bundle_jobs::run_bundle;
 use card_digits::Counted;
 use command_line::Job;

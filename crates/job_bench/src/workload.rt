@@ -1,11 +1,9 @@
 //! The inputs of each workload.
-use crate::captures::{Capture, frames};
-use crate::network::{Network, Order, Shape, Twist, push_ranks, push_tables};
-use crate::plans::Load;
-use crate::random::Random;
 use crate::running::Answers;
-use crate::scripts::Traffic;
-use crate::text::Text;
+use bench_inputs::{
+    Capture, Load, Network, Order, Random, Shape, Text, Traffic, Twist, frames, push_ranks,
+    push_tables,
+};
 use command_line::Job;
 use std::alloc::{AllocError, Global};
 use std::sync::Wait;

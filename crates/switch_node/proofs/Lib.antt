@@ -1,9 +1,3 @@
 pub mod Stepped
-pub mod Messages
-pub mod Parts
-pub mod Few
-pub mod Requested
 pub mod Starts
-pub mod Coming
 pub mod Reading
-pub mod Complete

@@ -17,6 +17,7 @@ use Rattle.node_machine.specs.Steps as steps
 use Rattle.node_books.specs.Effects.{Drafted, progress, with_effect}
 use Rattle.node_books.specs.declared.effect.Effect.{Effect}
 use Rattle.step_draft.specs.Used.{IsQuiet}
+use Rattle.message_steps.proofs.Stays.{stays, zero_plus}
 use Rattle.switch_node.specs.Node.{Does, fault_in}
 
 pub does_up : (t : Network) (n l : ℕ) (before after : Drafted) → progress after ≡ steps.step t n before.base (messages.LinkUp l) → Does t n (entries.LinkUp l) before after
@@ -26,14 +27,6 @@ does_up t n l before after e = record { read = messages.LinkUp l; reads = refl; 
 pub does_dated : (t : Network) (n : ℕ) (date : List ℕ) (before after : Drafted) → progress after ≡ steps.step t n before.base (messages.NewDate date) → Does t n (entries.NewDate date) before after
 unfolding read_input refuse
 does_dated t n date before after e = record { read = messages.NewDate date; reads = refl; accepted = refl; done = e }
-
-pub zero_plus : (n : ℕ) → 0 + n ≡ n
-zero_plus n = omega arith
-
--- an input that acknowledges nothing leaves the store
-pub stays : (i : messages.ReadInput) → ((a : Stored) → machine.acks i a ≡ false) → (xs : List Stored) → filter (λ a. not (machine.acks i a)) xs ≡ xs
-stays i none [] = refl
-stays i none (a ∷ xs) = rw (none a, stays i none xs) refl
 
 up_acks : (l : ℕ) (a : Stored) → machine.acks (messages.LinkUp l) a ≡ false
 up_acks l (Advised a) = refl

@@ -1,4 +1,3 @@
 pub use Rattle.step_draft.specs.Outputs
 pub mod Inputs
 pub mod Node
-pub mod Coming

@@ -12,12 +12,11 @@ ghost use Rattle.node_machine.specs.Steps.{on_packet, step};
 ghost use Rattle.node_books.specs.Effects.{progress};
 ghost use Rattle.switch_node.specs.Node.{Does, fault_in, unread};
 
-use crate::answers::on_host;
-use crate::incoming::{enter, take_message};
 use crate::input::{Case, Input};
 use card_digits::{Amount, Card, DateLabel, LinkNo, NodeNo};
 use iso_message::Message;
 use message_elements::{Code, DecodeFault};
+use message_steps::{enter, on_host, take_message};
 use net_rows::Tables;
 use network_law::{Grant, GrantPacket, StepFault, read_packet};
 use node_books::{Effect, KeptGrant};

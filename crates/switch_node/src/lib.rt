@@ -1,15 +1,11 @@
 //! One node of the network: what it does for each input, and its trace.
 #![tactic(auto)]
 
-mod answers;
 mod entry;
-mod incoming;
 mod input;
 mod inputs;
 mod node;
-mod notices;
 mod owned;
-mod requests;
 
 pub use entry::Entry;
 pub use input::{BoxedLending, Case, Input};

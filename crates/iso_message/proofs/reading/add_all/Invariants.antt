@@ -1,7 +1,7 @@
 use Rattle.std.proofs.Common.{◌≡◌, length}
 use Rattle.iso_message.specs.Elements.{with_all}
 use Rattle.iso_message.specs.Messages.{marks}
-use Rattle.iso_message.specs.Known.{IsKnown}
+use Rattle.message_bytes.specs.Known.{IsKnown}
 use Rattle.iso_message.specs.Parts.{IsEnd}
 use Rattle.iso_message.proofs.reading.add_all.Given as goal
 

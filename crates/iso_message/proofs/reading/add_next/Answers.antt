@@ -2,7 +2,7 @@ use Rattle.std.proofs.Common.{◌≡◌, Some}
 use Rattle.message_elements.specs.Table.{form_of}
 use Rattle.message_elements.specs.declared.form.Form.TheVariants.{Fixed, Llvar, Lllvar}
 use Rattle.iso_message.specs.Parts.{IsPart}
-use Rattle.iso_message.proofs.KnownLemmas.{binary_behind}
+use Rattle.iso_message.proofs.Behind.{binary_behind}
 use Rattle.iso_message.proofs.PartLemmas.{fixed_part, two_part, three_part, end_of_part, end_of_binary}
 use Rattle.iso_message.proofs.reading.add_next.Goals as goal
 

@@ -1,4 +1,4 @@
-use Rattle.iso_message.proofs.KnownLemmas.{known_dropped}
+use Rattle.message_bytes.proofs.KnownLemmas.{known_dropped}
 use Rattle.iso_message.proofs.reading.content_of.Goals as goal
 
 pub returns-clause-known : goal.returns-clause-known

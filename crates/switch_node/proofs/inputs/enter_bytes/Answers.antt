@@ -1,6 +1,6 @@
 use Rattle.std.proofs.Common.{inr, sym, ◌∙◌}
 use Rattle.switch_node.proofs.Reading.{faults_enter}
-use Rattle.switch_node.proofs.Complete.{entered_complete}
+use Rattle.message_steps.proofs.Complete.{entered_complete}
 use Rattle.node_machine.specs.Lists.{view}
 use Rattle.switch_node.proofs.inputs.enter_bytes.Goals as goal
 

@@ -3,7 +3,7 @@ use Rattle.network_law.specs.Traces.{Take}
 use Rattle.node_machine.specs.Machine.{refuse}
 use Rattle.node_machine.specs.Lists.{Lists, view}
 use Rattle.switch_node.proofs.Reading.{does_take, faults_take}
-use Rattle.switch_node.proofs.Complete.{taken_complete}
+use Rattle.message_steps.proofs.Complete.{taken_complete}
 use Rattle.switch_node.proofs.inputs.take_text.Goals as goal
 
 pub returns-in-Some-clause-fault : goal.returns-in-Some-clause-fault

@@ -1,4 +1,4 @@
-use Rattle.iso_message.proofs.KnownLemmas.{binary_behind}
+use Rattle.iso_message.proofs.Behind.{binary_behind}
 use Rattle.iso_message.proofs.unread.Unread.take_binary.Goals as goal
 
 pub invariant_of-self : goal.invariant_of-self

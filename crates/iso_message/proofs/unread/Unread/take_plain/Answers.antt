@@ -1,4 +1,4 @@
-use Rattle.iso_message.proofs.KnownLemmas.{known_dropped}
+use Rattle.message_bytes.proofs.KnownLemmas.{known_dropped}
 use Rattle.iso_message.proofs.unread.Unread.take_plain.Goals as goal
 
 pub invariant_of-self : goal.invariant_of-self

@@ -1,5 +1,0 @@
-use Rattle.switch_node.proofs.Requested.{two_more}
-use Rattle.switch_node.proofs.requests.is_full.Goals as goal
-
-pub returns : goal.returns
-returns c t n = rw (← c.books.ensures) (two_more t n c.books.result.now.lists c.load.result (c.load.ensures t n))
