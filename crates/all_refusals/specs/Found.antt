@@ -9,7 +9,7 @@ use Rattle.net_rows.specs.declared.row.Issuer.{Issuer}
 use Rattle.net_rows.specs.declared.row.Link.{Link}
 use Rattle.net_rows.specs.declared.row.Route.{Route}
 use Rattle.net_rows.specs.declared.row.StandIn.{StandIn}
-use Rattle.rank_cert.specs.declared.cert.Rank.{Rank}
+use Rattle.rank_rows.specs.declared.rank.Rank.{Rank}
 use Rattle.rows_in_force.specs.Own.{own_row}
 use Rattle.table_checker.specs.declared.refusal.Refusal.{Refusal}
 use Rattle.table_checker.specs.declared.refusal.Refusal.TheVariants.{NoIssuer, AcquirerTwice, NodeIdTwice, TimerTooLong}

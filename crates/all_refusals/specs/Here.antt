@@ -1,7 +1,7 @@
 -- The rules at what is at hand.
 use Rattle.std.specs.Prelude.{ℕ, List}
 use Rattle.net_rows.specs.Network.{Network}
-use Rattle.rank_cert.specs.declared.cert.Rank.{Rank}
+use Rattle.rank_rows.specs.declared.rank.Rank.{Rank}
 use Rattle.all_refusals.specs.declared.at.At.{At}
 
 -- a rule at the tables, the ranks and the class that are at hand

@@ -1,7 +1,7 @@
 -- Numbers of parts other than two.
 use Rattle.std.proofs.Common.{◌≡◌, ◌≢◌, ℕ, List, [], ◌∷◌, map, length, Bor, arith}
 use Rattle.net_rows.specs.Network.{Network}
-use Rattle.rank_cert.specs.declared.cert.Rank.{Rank}
+use Rattle.rank_rows.specs.declared.rank.Rank.{Rank}
 use Rattle.bundle_text.specs.Answers.{Said, parts_fault}
 use Rattle.answer_input.specs.OfTables.{IsOfParts}
 

@@ -3,7 +3,7 @@ use Rattle.std.specs.Prelude.{◌≡◌, ◌⊎◌, ℕ, List, [], ◌∷◌}
 use Rattle.net_rows.specs.Network.{Network}
 use Rattle.net_tables.specs.Reading.{tables_in}
 use Rattle.rank_cert.specs.Reading.{cert_in}
-use Rattle.rank_cert.specs.declared.cert.Rank.{Rank}
+use Rattle.rank_rows.specs.declared.rank.Rank.{Rank}
 use Rattle.bundle_text.specs.Answers.{Said, IsOfRead, NamesMemory, parts_fault}
 use Rattle.bundle_text.specs.Parts.{parts_of}
 

@@ -4,7 +4,7 @@ use Rattle.net_rows.specs.Network.{Network}
 use Rattle.net_tables.specs.Reading.{tables_in}
 use Rattle.table_fields.specs.declared.fault.TableFault.{TableFault}
 use Rattle.rank_cert.specs.Reading.{cert_in}
-use Rattle.rank_cert.specs.declared.cert.Rank.{Rank}
+use Rattle.rank_rows.specs.declared.rank.Rank.{Rank}
 use Rattle.rank_cert.specs.declared.fault.CertFault.{CertFault}
 use Rattle.table_checker.specs.Rules.{first_refusal}
 use Rattle.table_checker.specs.declared.refusal.Refusal.{Refusal}

@@ -19,7 +19,7 @@ use table_checker::{Accepted, Refusal, check};
 pub trait TablesQuestion {
     ghost use Rattle.std.specs.Prelude.{List, ◌⊎◌, IfOk};
     ghost use Rattle.net_rows.specs.Network.{Network};
-    ghost use Rattle.rank_cert.specs.declared.cert.Rank.{Rank};
+    ghost use Rattle.rank_rows.specs.declared.rank.Rank.{Rank};
     ghost use Rattle.bundle_text.specs.Answers.{Said, NamesMemory};
 
     /// What an answer to tables and ranks is.

@@ -7,7 +7,7 @@ use Rattle.net_rows.specs.declared.row.Acquirer.{Acquirer}
 use Rattle.net_rows.specs.declared.row.Issuer.{Issuer}
 use Rattle.net_rows.specs.declared.row.Route.{Route}
 use Rattle.net_rows.specs.declared.row.StandIn.{StandIn}
-use Rattle.rank_cert.specs.declared.cert.Rank.{Rank}
+use Rattle.rank_rows.specs.declared.rank.Rank.{Rank}
 use Rattle.table_checker.specs.declared.refusal.Refusal.{Refusal}
 use Rattle.bundle_text.specs.Lines.{Text, node_name, link_name}
 use Rattle.serde_json.specs.Data.{Data, null, boolean, object, member, no_members}

@@ -10,7 +10,7 @@ use Rattle.net_rows.specs.declared.row.Issuer.{Issuer}
 use Rattle.net_rows.specs.declared.row.Route.{Route}
 use Rattle.net_rows.specs.declared.row.StandIn.{StandIn}
 use Rattle.network_law.specs.Checked.{sum_below}
-use Rattle.rank_cert.specs.declared.cert.Rank.{Rank}
+use Rattle.rank_rows.specs.declared.rank.Rank.{Rank}
 use Rattle.table_checker.specs.Ranks.{rank_at}
 use Rattle.bundle_text.specs.Lines.{Text, line_feed, node_name, link_name}
 

@@ -2,7 +2,7 @@
 use Rattle.std.proofs.Common.{◌≡◌, ◌∙◌, ℕ, suc, ◌+◌, List, [], ◌∷◌, ◌++◌, map, length, length-append, Option, slice_get, unwrap_or, refl, ap, sym, subst, append_assoc, arith}
 use Rattle.net_rows.specs.Network.{Network}
 use Rattle.net_rows.specs.declared.row.Node.{Node}
-use Rattle.rank_cert.specs.declared.cert.Rank.{Rank}
+use Rattle.rank_rows.specs.declared.rank.Rank.{Rank}
 use Rattle.all_refusals.specs.declared.row.RowRefusal.{RowRefusal}
 use Rattle.picture_text.specs.declared.parts.Corner.{Corner}
 use Rattle.picture_text.specs.declared.parts.NodeBox.{NodeBox}

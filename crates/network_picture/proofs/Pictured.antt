@@ -1,7 +1,7 @@
 -- Pictures of tables that are accepted, and of tables that are refused.
 use Rattle.std.proofs.Common.{◌≡◌, ◌∙◌, ℕ, List, [], ◌++◌, map, codes, Option, None, Some, ap, sym}
 use Rattle.net_rows.specs.Network.{Network}
-use Rattle.rank_cert.specs.declared.cert.Rank.{Rank}
+use Rattle.rank_rows.specs.declared.rank.Rank.{Rank}
 use Rattle.table_checker.specs.declared.refusal.Refusal.{Refusal}
 use Rattle.table_checker.specs.Rules.{first_refusal}
 use Rattle.all_refusals.specs.declared.row.RowRefusal.{RowRefusal}

@@ -1,7 +1,7 @@
 -- What is answered to an input.
 use Rattle.std.specs.Prelude.{◌≡◌, ℕ, List, ◌++◌, map, Option}
 use Rattle.net_rows.specs.Network.{Network}
-use Rattle.rank_cert.specs.declared.cert.Rank.{Rank}
+use Rattle.rank_rows.specs.declared.rank.Rank.{Rank}
 use Rattle.table_checker.specs.Rules.{first_refusal}
 use Rattle.table_checker.specs.declared.refusal.Refusal.{Refusal}
 use Rattle.all_refusals.specs.declared.row.RowRefusal.{RowRefusal}

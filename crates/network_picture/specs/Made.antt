@@ -7,8 +7,8 @@ use Rattle.net_rows.specs.declared.row.Node.{Node}
 use Rattle.net_rows.specs.declared.row.Link.{Link}
 use Rattle.net_rows.specs.declared.row.Route.{Route}
 use Rattle.net_rows.specs.declared.row.StandIn.{StandIn}
-use Rattle.rank_cert.specs.declared.cert.Rank.{Rank}
-use Rattle.rank_cert.specs.Ranks.{rank_of}
+use Rattle.rank_rows.specs.declared.rank.Rank.{Rank}
+use Rattle.rank_rows.specs.Ranks.{rank_of}
 use Rattle.all_refusals.specs.declared.row.RowRefusal.{RowRefusal}
 use Rattle.picture_text.specs.declared.parts.NodeBox.{NodeBox}
 use Rattle.picture_text.specs.declared.parts.LinkLine.{LinkLine}

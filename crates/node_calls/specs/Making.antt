@@ -1,7 +1,7 @@
 -- What a node is made of.
 use Rattle.std.specs.Prelude.{ℕ, List, [], Option, Some, None, Result, Ok, Err}
 use Rattle.net_rows.specs.Network.{Network}
-use Rattle.rank_cert.specs.declared.cert.Rank.{Rank}
+use Rattle.rank_rows.specs.declared.rank.Rank.{Rank}
 use Rattle.rank_cert.specs.declared.fault.CertFault.{CertFault}
 use Rattle.rank_cert.specs.Reading.{cert_in}
 use Rattle.table_fields.specs.declared.fault.TableFault.{TableFault}

@@ -12,8 +12,8 @@ use Rattle.std.proofs.lemmas.Str.Parse.{IsNumeralModel, numerals_by_fold}
 use Rattle.card_digits.specs.Digits.{AreDigits, IsPrefix, digits_of}
 use Rattle.card_digits.specs.Numbers.{decimal_from}
 use Rattle.card_digits.specs.Reading.{name_of, read_digits}
-use Rattle.rank_cert.specs.declared.cert.Rank.{Rank}
-use Rattle.rank_cert.specs.Ranks.{rank_of, IsRow, AddsRows, IsCert}
+use Rattle.rank_rows.specs.declared.rank.Rank.{Rank}
+use Rattle.rank_rows.specs.Ranks.{rank_of, IsRow, AddsRows, IsCert}
 use Rattle.card_digits.specs.Lines.{lines}
 use Rattle.card_digits.proofs.LineCuts.{lines-at}
 use Rattle.rank_cert.specs.Reading.{fields, three, number_of, row_of, is_line, rows_in, cert_in}

@@ -1,7 +1,7 @@
 -- The lines behind the header, read one after the other.
 use Rattle.std.proofs.Common.{◌≡◌, ℕ, ◌==◌, true, false, cond, List, [], ◌∷◌, Err, refl, length}
 use Rattle.std.specs.List.{onto_first}
-use Rattle.rank_cert.specs.declared.cert.Rank.{Rank}
+use Rattle.rank_rows.specs.declared.rank.Rank.{Rank}
 use Rattle.rank_cert.specs.declared.fault.CertFault.TheVariants.{AfterEnd}
 use Rattle.card_digits.specs.Lines.{lines}
 use Rattle.rank_cert.specs.Reading.{ended}

@@ -2,12 +2,12 @@
 use Rattle.std.proofs.Common.{◌≡◌, ℕ, ◌+◌, ◌<◌, ◌≤◌, ◌++◌, List, [], ◌∷◌, Some, refl, sym, ap, ◌∙◌, arith, length, take, drop, set, get_or, append_assoc, append-nil}
 use Rattle.std.proofs.lemmas.List.{take_more_set, length-take-le}
 use Rattle.card_digits.specs.Lines.{lines}
-use Rattle.rank_cert.specs.declared.cert.Rank.{Rank}
-use Rattle.rank_cert.specs.Ranks.{like_rows, AddsRows, IsCert}
+use Rattle.rank_rows.specs.declared.rank.Rank.{Rank}
+use Rattle.rank_rows.specs.Ranks.{like_rows, AddsRows, IsCert}
 use Rattle.rank_cert.specs.Reading.{rows_in, rows_with}
 use Rattle.rank_cert.specs.Like.{IsLike, AreLike}
 use Rattle.rank_cert.proofs.LineFields.{one_more}
-use Rattle.rank_cert.proofs.Repeated.{like_some, like-push, IsCert-behind}
+use Rattle.rank_rows.proofs.Repeated.{like_some, like-push, IsCert-behind}
 
 -- ---- the lines are read one after the other
 

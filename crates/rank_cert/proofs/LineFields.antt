@@ -18,10 +18,10 @@ use Rattle.card_digits.specs.Steps.{◌>>=◌}
 use Rattle.card_digits.specs.Lines.{lines}
 use Rattle.card_digits.proofs.Cuts.{Others}
 use Rattle.card_digits.proofs.LineCuts.{lines-at}
-use Rattle.rank_cert.specs.declared.cert.Rank.{Rank}
+use Rattle.rank_rows.specs.declared.rank.Rank.{Rank}
 use Rattle.rank_cert.specs.declared.fault.CertFault.TheVariants.{Twice}
 use Rattle.rank_cert.specs.Like.{IsSpelled, IsNamed, IsRanked, IsLike}
-use Rattle.rank_cert.specs.Ranks.{rank_of}
+use Rattle.rank_rows.specs.Ranks.{rank_of}
 use Rattle.rank_cert.specs.Reading.{fields, three, number_of, prefix_of, row_of, is_line, line_behind, new_row, then_rows, rows_in}
 use Rattle.rank_cert.proofs.Cuts.{fields-at, fields-one}
 use Rattle.rank_cert.proofs.Again.{others_from, name_passes, digits_pass, prefix_again}

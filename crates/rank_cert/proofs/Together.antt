@@ -2,8 +2,8 @@
 use Rattle.std.proofs.Common.{◌≡◌, ℕ, zero, suc, ◌==◌, ◌++◌, Bool, true, false, cond, List, [], ◌∷◌, Some, None, is_some, refl, sym, drop}
 use Rattle.std.specs.Cmp.Lexicographic.{pointwise, same_text}
 use Rattle.std.proofs.lemmas.Bool.{and_parts}
-use Rattle.rank_cert.specs.declared.cert.Rank.{Rank}
-use Rattle.rank_cert.specs.Ranks.{is_of, rank_of, AddsRows, IsCert}
+use Rattle.rank_rows.specs.declared.rank.Rank.{Rank}
+use Rattle.rank_rows.specs.Ranks.{is_of, rank_of, AddsRows, IsCert}
 
 -- a rank stays behind more rows
 still_ranked : (done : List Rank) (r : Rank) (name prefix : List ℕ) → is_some (rank_of done name prefix) ≡ true → is_some (rank_of (done ++ r ∷ []) name prefix) ≡ true

@@ -1,12 +1,4 @@
-pub mod Adding
-pub mod Apart
-pub mod Found
-pub mod Greatest
-pub mod Kept
 pub mod Like
-pub mod Marks
-pub mod Ranks
 pub mod Reading
-pub mod Runs
 pub mod Words
 pub mod Writing

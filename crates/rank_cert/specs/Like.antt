@@ -4,7 +4,7 @@ use Rattle.card_digits.specs.Cut.{IsCut}
 use Rattle.card_digits.specs.Reading.{name_of}
 use Rattle.card_digits.specs.Digits.{IsPrefix, digits_text}
 use Rattle.card_digits.specs.Lines.{lines}
-use Rattle.rank_cert.specs.declared.cert.Rank.{Rank}
+use Rattle.rank_rows.specs.declared.rank.Rank.{Rank}
 use Rattle.rank_cert.specs.Reading.{number_of, row_of}
 
 -- the text is the digits of the prefix and a space

@@ -8,10 +8,10 @@ use Rattle.card_digits.specs.Lines.{lines}
 use Rattle.card_digits.specs.Numbers.{decimal}
 use Rattle.card_digits.specs.Reading.{name_of, read_digits}
 use Rattle.card_digits.specs.Steps.{◌>>=◌}
-use Rattle.rank_cert.specs.declared.cert.Rank.{Rank}
+use Rattle.rank_rows.specs.declared.rank.Rank.{Rank}
 use Rattle.rank_cert.specs.declared.fault.CertFault.{CertFault}
 use Rattle.rank_cert.specs.declared.fault.CertFault.TheVariants.{Header, Line, Twice, NoEnd, AfterEnd, Memory}
-use Rattle.rank_cert.specs.Ranks.{rank_of}
+use Rattle.rank_rows.specs.Ranks.{rank_of}
 
 -- the parts of a line round its spaces
 abbrev pub fields : List ℕ → List (List ℕ)

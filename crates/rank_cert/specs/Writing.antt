@@ -2,7 +2,7 @@
 use Rattle.std.specs.Prelude.{ℕ, List, [], ◌∷◌, ◌++◌, codes}
 use Rattle.std.specs.Fmt.{decimal}
 pub use Rattle.card_digits.specs.Digits.{digits_text}
-use Rattle.rank_cert.specs.declared.cert.Rank.{Rank}
+use Rattle.rank_rows.specs.declared.rank.Rank.{Rank}
 
 -- a name, a prefix and a rank, with a space between them
 abbrev pub line_of : Rank → List ℕ

@@ -1,21 +1,12 @@
 //! Ranks of pairs of a node's name and a prefix.
 ghost use Rattle.std.specs.Prelude.{◌≡◌, ◌≢◌, [], ◌∷◌, ◌++◌, drop, Some, IfOk, IfSome, OnErr, is_none, true, false, Ok, All};
-ghost use Rattle.rank_cert.specs.Ranks.{rank_of, is_new, like_rows, IsRow, IsCert, EndsWith};
-ghost use Rattle.rank_cert.specs.Runs.{IsRun};
+ghost use Rattle.rank_rows.specs.Ranks.{rank_of, is_new, like_rows, IsRow, IsCert, EndsWith};
+ghost use Rattle.rank_rows.specs.Runs.{IsRun};
 
-use crate::kept::Kept;
-use crate::runs::rows_from;
 use card_digits::{Name, Prefix};
+use rank_rows::{Kept, NEAR, Rank, rows_from};
 use std::alloc::{AllocError, Global};
 use std::marker::Model;
-
-/// The rank of the node of that name at a prefix.
-#[derive(Clone, Copy, Debug)]
-pub struct Rank {
-    pub node: Name,
-    pub prefix: Prefix,
-    pub rank: u16,
-}
 
 /// Ranks in the order in which they were added, at most one for a pair of a name and a prefix. Where the rows of each prefix are added
 /// one after the other, at most 64 of them, a row whose name may be there already is compared with them, and only the first of them costs
@@ -27,9 +18,9 @@ pub struct Cert {
 
 impl Model for Cert {
     ghost use Rattle.std.specs.Prelude.{List};
-    ghost use Rattle.rank_cert.specs.declared.cert.Rank.{Rank};
-    ghost use Rattle.rank_cert.specs.Ranks.{IsCert};
-    ghost use Rattle.rank_cert.specs.Kept.{rows_of};
+    ghost use Rattle.rank_rows.specs.declared.rank.Rank.{Rank};
+    ghost use Rattle.rank_rows.specs.Ranks.{IsCert};
+    ghost use Rattle.rank_rows.specs.Kept.{rows_of};
 
     ghost Value = { List Rank };
 
@@ -159,9 +150,6 @@ fn first_rank(rows: &[Rank], node: &Name, prefix: &Prefix) -> Option<u16>
         None
     }
 }
-
-/// The most rows of one prefix that are gone through: as many as a network has nodes.
-pub(crate) const NEAR: usize = 64;
 
 /// The rank of a pair, where the first of some rows that is of its name has it.
 fn rank_in(rows: &[Rank], node: &Name, prefix: &Prefix) -> Option<u16>

@@ -1,21 +1,15 @@
 //! Certificates: ranks of nodes at prefixes, and their text.
 #![tactic(auto)]
 
-mod apart;
 mod cert;
 mod fault;
-mod found;
-mod greatest;
-mod kept;
-mod marks;
 mod page;
-mod pair;
 mod read;
 mod row;
-mod runs;
 mod write;
 
-pub use cert::{Cert, Rank};
+pub use cert::Cert;
 pub use fault::CertFault;
+pub use rank_rows::Rank;
 pub use read::read_cert;
 pub use write::write_cert;

@@ -3,7 +3,7 @@ ghost use Rattle.std.specs.Prelude.{◌≡◌, [], codes, ◌≤◌, length, IfO
 ghost use Rattle.card_digits.specs.Lines.{lines};
 ghost use Rattle.card_digits.specs.Attempts.{Gives, Fails};
 ghost use Rattle.rank_cert.specs.Reading.{is_line, new_row, line_behind, row_of, rows_in, cert_in, is_memory, ended, rows_with};
-ghost use Rattle.rank_cert.specs.Ranks.{EndsWith};
+ghost use Rattle.rank_rows.specs.Ranks.{EndsWith};
 
 use crate::cert::Cert;
 use crate::fault::CertFault;

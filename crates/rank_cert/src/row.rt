@@ -2,15 +2,15 @@
 ghost use Rattle.std.specs.Prelude.{◌≡◌, ℕ, List, ◌==◌, ◌<◌, ◌≤◌, ◌++◌, ◌∷◌, true, false, length, take, drop, get_or, Some, All, IfSome, IfOk, IfErr, MatchOption, option_map};
 ghost use Rattle.card_digits.specs.Cut.{IsCut};
 ghost use Rattle.card_digits.specs.Lines.{lines};
-ghost use Rattle.rank_cert.specs.Ranks.{like_rows, IsRow, EndsWith};
+ghost use Rattle.rank_rows.specs.Ranks.{like_rows, IsRow, EndsWith};
 ghost use Rattle.card_digits.specs.Attempts.{Fails};
 ghost use Rattle.rank_cert.specs.Reading.{row_of, number_of, rows_in, rows_with, is_memory};
 ghost use Rattle.rank_cert.specs.Like.{IsNamed, IsRanked, IsLike, AreLike};
 
-use crate::cert::{Cert, NEAR, Rank};
+use crate::cert::Cert;
 use crate::fault::CertFault;
-use crate::runs::rows_from;
 use card_digits::{Name, Prefix, all_digits, decimal, same_bytes};
+use rank_rows::{NEAR, Rank, rows_from};
 use std::marker::Model;
 
 /// A prefix, and how it is spelled between a name and a rank: in digits, and a space.

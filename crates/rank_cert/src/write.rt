@@ -1,14 +1,15 @@
 //! The text of a certificate.
 ghost use Rattle.std.specs.Prelude.{◌≡◌, ◌+◌, ◌≤◌, [], ◌∷◌, ◌++◌, length, take, IfOk, OnOk, Ok, All};
 ghost use Rattle.std.specs.Fmt.{decimal};
-ghost use Rattle.rank_cert.specs.Ranks.{IsRow};
+ghost use Rattle.rank_rows.specs.Ranks.{IsRow};
 ghost use Rattle.rank_cert.specs.Reading.{cert_in};
 ghost use Rattle.rank_cert.specs.Writing.{line_of, lines_of, text_of};
 
-use crate::cert::{Cert, Rank};
+use crate::cert::Cert;
 use crate::page::{put_digits, put_few};
 use card_digits::put;
 use itoa::Buffer;
+use rank_rows::Rank;
 use std::alloc::{AllocError, Global};
 
 /// The text of a certificate.

@@ -1,8 +1,8 @@
 -- Rows of a class that are added one by one or at once.
 use Rattle.std.proofs.Common.{◌≡◌, ℕ, zero, suc, ◌+◌, ◌-◌, ◌≤◌, List, [], ◌∷◌, ◌++◌, length, drop, append-nil, append_assoc, length-append, length-drop, refl, ap, ◌∙◌, arith}
-use Rattle.rank_cert.specs.declared.cert.Rank.{Rank}
-use Rattle.rank_cert.specs.Ranks.{like_rows}
-use Rattle.rank_cert.specs.Runs.{AreOf}
+use Rattle.rank_rows.specs.declared.rank.Rank.{Rank}
+use Rattle.rank_rows.specs.Ranks.{like_rows}
+use Rattle.rank_rows.specs.Runs.{AreOf}
 use Rattle.rank_maker.specs.Adding.{AddsOf}
 
 pub none_added : (class : List ℕ) (rows : List Rank) → AddsOf class 0 rows rows

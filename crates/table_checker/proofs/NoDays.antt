@@ -3,7 +3,7 @@ use Rattle.std.proofs.Common.{◌≡◌, ℕ, zero, suc, List, [], ◌∷◌, No
 use Rattle.std.proofs.lemmas.Bool.{eqb-true}
 use Rattle.net_rows.specs.Network.{Network, day}
 use Rattle.network_law.specs.Checked.{sum_below}
-use Rattle.rank_cert.specs.declared.cert.Rank.{Rank}
+use Rattle.rank_rows.specs.declared.rank.Rank.{Rank}
 use Rattle.net_rows.specs.declared.row.Issuer.{Issuer}
 use Rattle.table_checker.specs.declared.refusal.Kind.TheVariants as kind
 use Rattle.table_checker.specs.Search.{first_below}

@@ -14,7 +14,7 @@ use Rattle.net_rows.specs.declared.row.Link.{Link}
 use Rattle.net_rows.specs.declared.row.Acquirer.{Acquirer}
 use Rattle.net_rows.specs.Network.{Network}
 use Rattle.net_rows.specs.Sound as rows
-use Rattle.rank_cert.specs.declared.cert.Rank.{Rank}
+use Rattle.rank_rows.specs.declared.rank.Rank.{Rank}
 use Rattle.network_law.specs.Checked.{IsChecked}
 use Rattle.table_checker.specs.Rules.{repeated_behind, first_repeated, acquirer_twice, node_id_twice, timer_too_long, first_of_kind, first_refusal, kinds}
 use Rattle.table_checker.specs.declared.refusal.Refusal.TheVariants.{AcquirerTwice, NodeIdTwice, TimerTooLong}

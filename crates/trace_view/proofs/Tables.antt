@@ -2,7 +2,7 @@
 use Rattle.std.proofs.Common.{ℕ, ◌⊎◌, List, Option, Result, inl, inr}
 use Rattle.net_rows.specs.Network.{Network}
 use Rattle.table_fields.specs.declared.fault.TableFault.{TableFault}
-use Rattle.rank_cert.specs.declared.cert.Rank.{Rank}
+use Rattle.rank_rows.specs.declared.rank.Rank.{Rank}
 use Rattle.rank_cert.specs.declared.fault.CertFault.{CertFault}
 use Rattle.bundle_text.specs.Answers.{Said, IsOfAccepted, NamesMemory, accepted_said}
 use Rattle.bundle_text.proofs.Verdicts.{of_accepted}

@@ -1,5 +1,5 @@
 use Rattle.std.proofs.Common.{◌≡◌, drop}
-use Rattle.rank_cert.specs.Ranks.{rank_of}
+use Rattle.rank_rows.specs.Ranks.{rank_of}
 use Rattle.rank_cert.proofs.cert.rank_in.Given as goal
 
 abbrev pub invariant-loop-i : goal.invariant-loop-i

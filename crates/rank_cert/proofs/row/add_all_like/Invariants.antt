@@ -1,6 +1,6 @@
 use Rattle.std.proofs.Common.{◌≡◌, ◌≤◌, length}
 use Rattle.card_digits.specs.Lines.{lines}
-use Rattle.rank_cert.specs.Ranks.{EndsWith}
+use Rattle.rank_rows.specs.Ranks.{EndsWith}
 use Rattle.rank_cert.specs.Reading.{rows_in}
 use Rattle.rank_cert.proofs.row.add_all_like.Given as goal
 

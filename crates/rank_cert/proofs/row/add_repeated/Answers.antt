@@ -1,9 +1,9 @@
 use Rattle.std.proofs.Common.{◌≡◌, List, ◌<◌, ◌++◌, ◌∷◌, true, refl, ◌∙◌, length, take, drop, get_or, arith, rules}
 use Rattle.std.proofs.lemmas.List.{length-take-le, get_or-take}
-use Rattle.rank_cert.specs.declared.cert.Rank.{Rank}
-use Rattle.rank_cert.specs.Ranks.{like_rows}
+use Rattle.rank_rows.specs.declared.rank.Rank.{Rank}
+use Rattle.rank_rows.specs.Ranks.{like_rows}
 use Rattle.rank_cert.specs.Like.{AreLike}
-use Rattle.rank_cert.proofs.Repeated.{ends_like}
+use Rattle.rank_rows.proofs.Repeated.{ends_like}
 use Rattle.rank_cert.proofs.Fresh.{with_all, are_shorter}
 use Rattle.rank_cert.proofs.row.add_repeated.Goals as goal
 

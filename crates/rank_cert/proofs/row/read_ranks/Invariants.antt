@@ -1,5 +1,5 @@
 use Rattle.std.proofs.Common.{◌≡◌, take, drop, get_or}
-use Rattle.rank_cert.specs.Ranks.{like_rows}
+use Rattle.rank_rows.specs.Ranks.{like_rows}
 use Rattle.rank_cert.specs.Like.{AreLike}
 use Rattle.rank_cert.proofs.row.read_ranks.Given as goal
 

@@ -1,5 +1,5 @@
-use Rattle.rank_cert.specs.Kept.{rows_of}
-use Rattle.rank_cert.proofs.Pairs.{IsCert-add}
+use Rattle.rank_rows.specs.Kept.{rows_of}
+use Rattle.rank_rows.proofs.Pairs.{IsCert-add}
 use Rattle.rank_cert.proofs.cert.Cert.add_to_last.Goals as goal
 
 pub invariant_of-self : goal.invariant_of-self

@@ -1,7 +1,7 @@
 use Rattle.std.proofs.Common.{ℕ, ◌<◌, get_or, arith}
 use Rattle.card_digits.specs.Digits.{IsPrefix}
-use Rattle.rank_cert.specs.Kept.{rows_of}
-use Rattle.rank_cert.proofs.Repeated.{IsCert-repeat}
+use Rattle.rank_rows.specs.Kept.{rows_of}
+use Rattle.rank_rows.proofs.Repeated.{IsCert-repeat}
 use Rattle.rank_cert.proofs.cert.Cert.repeat_front.Goals as goal
 
 pub invariant_of-self : goal.invariant_of-self

@@ -1,4 +1,4 @@
-use Rattle.rank_cert.proofs.Pairs.{each_row}
+use Rattle.rank_rows.proofs.Pairs.{each_row}
 use Rattle.rank_cert.proofs.cert.Cert.rows.Goals as goal
 
 pub returns-clause-each : goal.returns-clause-each

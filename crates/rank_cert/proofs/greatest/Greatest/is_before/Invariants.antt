@@ -1,6 +1,0 @@
-use Rattle.std.proofs.Common.{◌≡◌, drop}
-use Rattle.rank_cert.specs.Greatest.{greatest_from, greatest_of}
-use Rattle.rank_cert.proofs.greatest.Greatest.is_before.Given as goal
-
-abbrev pub invariant-loop-row : goal.invariant-loop-row
-invariant-loop-row l = greatest_from l.name (drop l.row-index (drop l.fn.self.rows l.run)) ≡ greatest_of l.run
