@@ -4,6 +4,8 @@
 #[cfg(test)]
 mod blocks;
 #[cfg(test)]
+mod bytes;
+#[cfg(test)]
 mod changed;
 #[cfg(test)]
 mod fixtures;
