@@ -107,7 +107,7 @@ impl At<'_> {
         self.add_unranked_over(found, ranks, node, place, row)
     }
 
-    /// Adds each link of the route row at a place whose other end has no lesser rank.
+    /// Adds each link of the route row at a place whose other end has no lower rank.
     fn add_not_less_of(
         &self,
         found: &mut Vec<RowRefusal>,
@@ -193,7 +193,7 @@ impl At<'_> {
         Ok(())
     }
 
-    /// Adds each link of a route in force whose other end has no lesser rank.
+    /// Adds each link of a route in force whose other end has no lower rank.
     pub fn add_not_less(
         &self,
         found: &mut Vec<RowRefusal>,

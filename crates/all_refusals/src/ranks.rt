@@ -9,7 +9,7 @@ use card_digits::{MOST_NODES, NodeNo};
 /// What is known of a node's rank.
 #[derive(Clone, Copy, Debug)]
 pub(crate) enum Lookup {
-    /// It wasn't sought yet.
+    /// It wasn't looked up yet.
     Open,
     /// The rank, or none where the node has none.
     Done(Option<u16>),
@@ -31,7 +31,7 @@ impl Ranks {
         self.found[node.place()]
     }
 
-    /// A node's rank was sought.
+    /// A node's rank was looked up.
     fn set(&mut self, node: NodeNo, rank: Option<u16>)
         ensures { self.new.found ≡ slice_set self.old.found node (Lookup.Done rank) }
     {
@@ -66,7 +66,7 @@ impl At<'_> {
         }
     }
 
-    /// A node's rank, sought among the rows of the class.
+    /// A node's rank, looked up among the rows of the class.
     fn rank_sought(&self, near: usize, node: NodeNo) -> Option<u16>
         ensures { result ≡ rank_at self.now.tables.now self.now.cert.now node self.now.class }
     {
@@ -75,7 +75,7 @@ impl At<'_> {
         self.cert.rank_near(&mut near, &row.name, &self.class)
     }
 
-    /// A node's rank, sought where nothing is known of it.
+    /// A node's rank, looked up where nothing is known of it.
     fn rank_by(&self, lookup: Lookup, near: usize, node: NodeNo) -> Option<u16>
         requires { IsFound (rank_at self.now.tables.now self.now.cert.now node self.now.class) lookup }
         ensures { result ≡ rank_at self.now.tables.now self.now.cert.now node self.now.class }
@@ -94,7 +94,7 @@ impl At<'_> {
         self.rank_by(ranks.at(node), ranks.near, node)
     }
 
-    /// Looks a node's rank up, where it wasn't sought yet.
+    /// Looks a node's rank up, where that wasn't done yet.
     fn look_up(&self, ranks: &mut Ranks, node: NodeNo)
         requires { AreRanks self.now ranks.old }
         ensures { AreRanks self.now ranks.new }

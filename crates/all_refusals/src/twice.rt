@@ -50,7 +50,7 @@ fn id_again(table: IdTable, before: &[Id], id: &Id) -> Option<Refusal>
     }
 }
 
-/// Adds each row whose id stands behind an equal one. There are at most 1,024, so that each may be sought among those before it.
+/// Adds each row whose id stands behind an equal one. There are at most 1,024, so each is compared with all before it.
 fn add_repeated(found: &mut Vec<RowRefusal>, table: IdTable, ids: &[Id]) -> Result<(), AllocError>
     ensures { IfOk result (λ _. (t : Network) → Adds t found.old.items found.new.items (repeated (id_refusal table) (id_row table) [] ids.now)) }
 {

@@ -155,6 +155,7 @@ fn greatest_of(classes: &[Class]) -> Class {
 }
 
 impl Network {
+    /// A network of this shape, whose numbers come of a seed.
     pub fn new(
         alloc: Global,
         random: &mut Random,

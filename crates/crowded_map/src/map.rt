@@ -179,7 +179,7 @@ fn counts_of<K: Eq + Hash + Copy + Drop, V: Copy + Drop>(
     Ok(counts)
 }
 
-/// The table has grown: its stretches are counted anew.
+/// The table has grown: its stretches are counted again.
 #[inline(never)]
 fn recount<K: Eq + Hash + Copy + Drop, V: Copy + Drop>(
     alloc: Global,

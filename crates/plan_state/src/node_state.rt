@@ -10,7 +10,7 @@ use std::sync::atomic::{AtomicBool, AtomicU64};
 pub(crate) struct NodeState {
     /// How many of its pump and its host have not ended.
     pub working: AtomicU64,
-    /// How many entries of its trace need not be gone along any more. Changes under the lock of its station alone.
+    /// How many entries of its trace need no look any more. Changes under the lock of its station alone.
     pub told: AtomicU64,
     /// Behind all entries that may have requests to its host.
     pub asked: AtomicU64,

@@ -8,7 +8,7 @@ use switch_node::Case;
 #[derive(Drop)]
 pub struct Service {
     pub turns: ClockTurns,
-    /// How far the trace was gone along.
+    /// How far the trace was read.
     pub cursor: Cursor,
     /// A request that was found there, and was not put to the host yet.
     pub next: Option<Ask>,

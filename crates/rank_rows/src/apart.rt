@@ -101,7 +101,7 @@ impl ApartRows {
         Some(found.rank)
     }
 
-    /// The same. `near` is moved to where the rows begin that stand together with the pair's and have its prefix.
+    /// The rank of a pair. `near` is moved to where the rows begin that stand together with the pair's and have its prefix.
     pub fn rank_near(&self, near: &mut usize, node: &Name, prefix: &Prefix) -> Option<u16>
         ensures { result ≡ rank_of self.now node.now prefix.now }
     {

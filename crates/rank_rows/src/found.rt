@@ -172,7 +172,7 @@ impl FoundPairs {
         }
     }
 
-    /// The same. Where nothing is, this is found from then on. Where memory is refused, nothing has changed.
+    /// What is found by a pair. Where nothing is, this is found from then on. Where memory is refused, nothing has changed.
     pub fn get_or_insert(&mut self, pair: Pair, found: Found) -> Result<Option<Found>, AllocError>
         ensures old { IfOk result (λ had. had ≡ found_of self.old pair) }
         ensures updates { IfOk result (λ had. (q : Pair) → found_of self.new q ≡ cond (is_none had && is_same_pair pair q) (Some found) (found_of self.old q)) }

@@ -14,7 +14,7 @@ pub(crate) struct Ends {
     to: NodeNo,
 }
 
-/// The ends of all links of a network, in two bytes each: so they are near while routes are gone along.
+/// The ends of all links of a network, in two bytes each: so they stay in the cache while routes are walked.
 #[derive(Debug, Drop)]
 pub struct LinkEnds {
     ends: [Ends; MOST_LINKS],

@@ -6,7 +6,7 @@ ghost use Rattle.table_checker.specs.Known.{AreFalling, IsCodeOf, code_at, code_
 use crate::trail::Trail;
 use card_digits::{MOST_NODES, NodeNo};
 
-/// The code of no rank. Those of ranks are lesser.
+/// The code of no rank. Those of ranks are lower.
 pub(crate) const NO_RANK: u32 = 65_536;
 
 /// The code of a rank that was not looked up.
@@ -15,7 +15,7 @@ pub(crate) const UNKNOWN: u32 = 65_537;
 /// The codes of ranks, by node.
 pub(crate) type Codes = [u32; MOST_NODES];
 
-/// What was looked up at a class. Where the ranks of the next are the same, the routes along which they fall aren't gone along again.
+/// What was looked up at a class. Where the ranks of the next are the same, the routes along which they fall aren't walked again.
 #[derive(Clone, Copy, Debug)]
 pub(crate) struct Known {
     pub ranks: Codes,

@@ -5,7 +5,7 @@ use card_digits::{MOST_NODES, NodeNo};
 /// So many more ranks may stand elsewhere than where they were guessed before no place is guessed any more: those of a few classes.
 const PATIENCE: u16 = 256;
 
-/// Where the rank of each node is likely to stand, in a certificate whose rows don't stand by prefix. Nothing hangs on it, since each
+/// Where the rank of each node is likely to stand, in a certificate whose rows don't stand by prefix. A wrong guess costs time alone, since each
 /// row is compared with the pair. Two orders are guessed: where every node has its prefixes in one order, the rows of a class are as far
 /// from each other as at the class before; where a node's prefixes come in the order of the classes, its next row is at the next class.
 #[derive(Clone, Copy, Debug)]

@@ -9,7 +9,7 @@ use card_digits::{Id, LinkNo};
 use net_rows::{Link, MOST_TICKS, Tables};
 use std::alloc::{AllocError, Global};
 
-/// The first id that stands behind an equal one. There are at most 1,024 ids, so that each may be sought among those before it.
+/// The first id that stands behind an equal one. There are at most 1,024 ids, so each is compared with all before it.
 fn first_repeated(ids: &[Id]) -> Option<Id>
     ensures { result ≡ first_repeated ids.now }
 {

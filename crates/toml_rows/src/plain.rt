@@ -66,7 +66,7 @@ fn after_any_equals<'a>(s: &'a str, word: &str) -> Option<&'a str>
     Some(skip_ws(skip(rest, 1)))
 }
 
-/// The same. Mostly there is one space before and behind the `=`, so this is looked for first.
+/// What `after_any_equals` gives. Mostly there is one space before and behind the `=`, so this is looked for first.
 #[inline(always)]
 fn after_equals<'a>(s: &'a str, word: &str) -> Option<&'a str>
     requires some { 0 < length word.now }
