@@ -4,9 +4,7 @@
     card_switch.py LIBRARY check|make|replay|decode      does a job on standard input, as the program does
     card_switch.py LIBRARY nodes TABLES RANKS SCRIPT     runs a script on nodes, and prints what `replay` prints for it
 
-LIBRARY is a shared library, which a C compiler makes of the static one:
-
-    cc -shared -o libcard_switch.so -Wl,--whole-archive libcard_switch.a -Wl,--no-whole-archive"""
+LIBRARY is the shared library, release/libcard_switch.so.1."""
 
 import contextlib
 import ctypes
@@ -17,6 +15,7 @@ CS_DONE, CS_REFUSED, CS_TOO_SMALL, CS_NO_MEMORY = 0, 1, 3, 4
 CS_ENTER, CS_TAKE, CS_LINK_UP, CS_LINK_DOWN, CS_TICK, CS_HOST_ANSWER, CS_NEW_DATE, CS_LEND = range(1, 9)
 CS_PUT, CS_ANSWER, CS_ASK, CS_POST = range(1, 5)
 CS_MOST_OUTPUT = 13218
+CS_MOST_ELEMENTS = 127
 BYTES = ctypes.c_char_p
 LENGTH = ctypes.c_size_t
 REST = [BYTES, LENGTH, BYTES, LENGTH, ctypes.POINTER(LENGTH)]
@@ -28,6 +27,18 @@ class Handle(ctypes.Structure):
 
 class Input(ctypes.Structure):
     _fields_ = [("number", ctypes.c_uint64), ("link", LENGTH), ("kind", ctypes.c_uint8)]
+
+
+class Element(ctypes.Structure):
+    _fields_ = [("start", LENGTH), ("length", LENGTH), ("number", ctypes.c_uint8)]
+
+
+class Reading(ctypes.Structure):
+    _fields_ = [("count", LENGTH), ("fault", ctypes.c_uint8), ("element", ctypes.c_uint8)]
+
+
+class Writing(ctypes.Structure):
+    _fields_ = [("length", LENGTH), ("fault", ctypes.c_uint8), ("element", ctypes.c_uint8)]
 
 
 class Step(ctypes.Structure):
@@ -46,6 +57,11 @@ NODE_FUNCTIONS = {
     "cs_node_link": [HANDLE, BYTES, LENGTH, ctypes.POINTER(LENGTH)],
     "cs_node_link_name": [HANDLE, LENGTH, BYTES, LENGTH, ctypes.POINTER(LENGTH)],
 }
+ELEMENTS = ctypes.POINTER(Element)
+MESSAGE_FUNCTIONS = {
+    "cs_message_read": [BYTES, LENGTH, ELEMENTS, LENGTH, ctypes.POINTER(Reading)],
+    "cs_message_write": [BYTES, LENGTH, BYTES, LENGTH, ELEMENTS, LENGTH, BYTES, LENGTH, ctypes.POINTER(Writing)],
+}
 
 
 class NodeFault(Exception):
@@ -60,9 +76,9 @@ class Library:
         for name in ("cs_check", "cs_make", "cs_replay"):
             getattr(self.library, name).argtypes = REST
         self.library.cs_decode.argtypes = [ctypes.c_bool, *REST]
-        for name, arguments in NODE_FUNCTIONS.items():
+        for name, arguments in (*NODE_FUNCTIONS.items(), *MESSAGE_FUNCTIONS.items()):
             getattr(self.library, name).argtypes = arguments
-        for name in ("cs_check", "cs_make", "cs_replay", "cs_decode", *NODE_FUNCTIONS):
+        for name in ("cs_check", "cs_make", "cs_replay", "cs_decode", *NODE_FUNCTIONS, *MESSAGE_FUNCTIONS):
             getattr(self.library, name).restype = ctypes.c_uint8
         self.library.cs_node_free.argtypes = [HANDLE]
         self.library.cs_node_free.restype = None
@@ -90,6 +106,29 @@ class Library:
 
     def decode(self, data, frames=False):
         return self._text(lambda *rest: self.library.cs_decode(frames, *rest), data)
+
+    def read_message(self, message):
+        """The fault of a message and the element that it names, none where it is right; and each element's number, start and length."""
+        elements, reading = (Element * CS_MOST_ELEMENTS)(), Reading()
+        status = self.library.cs_message_read(message, len(message), elements, CS_MOST_ELEMENTS, ctypes.byref(reading))
+        if status != CS_DONE:
+            return (reading.fault, reading.element), []
+        return None, [(element.number, element.start, element.length) for element in elements[: reading.count]]
+
+    def write_message(self, kind, values):
+        """The fault of a type and elements, none where they are right; and the message. Each element is its number and its value."""
+        elements, text = (Element * len(values))(), b"".join(value for _, value in values)
+        start = 0
+        for element, (number, value) in zip(elements, values):
+            element.number, element.start, element.length = number, start, len(value)
+            start += len(value)
+        output, writing = ctypes.create_string_buffer(CS_MOST_OUTPUT), Writing()
+        status = self.library.cs_message_write(kind, len(kind), text, len(text), elements, len(values), output, CS_MOST_OUTPUT, ctypes.byref(writing))
+        if status == CS_NO_MEMORY:
+            raise MemoryError
+        if status != CS_DONE:
+            return (writing.fault, writing.element), b""
+        return None, output.raw[: writing.length]
 
 
 class Node:
