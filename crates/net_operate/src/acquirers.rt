@@ -235,6 +235,17 @@ impl<'s, 't, 'p> Acquirer<'s, 't, 'p> {
         }
     }
 
+    /// Counts the turn in which a line is entered, unless another is due before it: then the session waits for that turn.
+    fn count_turn(&self, state: &mut SessionState) -> Result<(), u64> {
+        let clock = self.worker.shared.clock();
+        let turn = state.next_counted(clock.turns());
+        if !clock.may_count(turn) {
+            return Err(turn);
+        }
+        state.counted = turn;
+        Ok(())
+    }
+
     /// Goes on with the session until it waits, has ended, or was gone on with for so many lines.
     pub(crate) fn go_on<H: Host, R: Wait>(
         &self,
@@ -248,7 +259,12 @@ impl<'s, 't, 'p> Acquirer<'s, 't, 'p> {
                 return Progress::Ended;
             };
             let line = match state.awaiting.take() {
-                None => self.enter(rt, hosts, line, calls),
+                None => {
+                    if let Err(due) = self.count_turn(state) {
+                        return Progress::Waits(due);
+                    }
+                    self.enter(rt, hosts, line, calls)
+                }
                 Some(awaiting) => self.hear_more(rt, hosts, line, awaiting, calls),
             };
             match line {

@@ -5,20 +5,27 @@ use crate::worker::{Locking, Turn, Worker};
 use link_rings::Held;
 use net_threads::Station;
 use plan_threads::{Calls, Pump, PumpTurns};
+use run_plan::Plan;
+use std::alloc::{AllocError, Global};
 use std::sync::Wait;
 use switch_node::{Case, Input};
 
 impl<'s, 't, 'p> Worker<'s, 't, 'p> {
-    /// Takes out what the pump of the node keeps, unless somebody has it, and counts the turns that have passed.
+    /// Takes out what the pump of the node keeps, unless somebody has it, and counts the turns that have passed before this one.
     fn take_pump<R: Wait>(&self, rt: &R) -> Option<Pump> {
         let mut pump = self.shared.take_pump(rt, self.n)?;
-        pump.catch_up(self.shared.clock().turns());
+        pump.catch_up(self.shared.clock().turns().saturating_sub(1));
         Some(pump)
     }
 
-    /// Puts it back, and says whether somebody wanted it meanwhile. From here on the node's pump wakes up by itself when something happens.
-    fn put_pump<R: Wait>(&self, rt: &R, pump: Pump) -> bool {
-        self.shared.clock().set_due(self.n, pump.due());
+    /// Puts it back after a turn, and says whether somebody wanted it meanwhile. From here on the node's pump wakes up by itself when something
+    /// happens, or for the turn that it couldn't make yet.
+    fn put_pump<R: Wait>(&self, rt: &R, pump: Pump, turn: Turn) -> bool {
+        let due = match turn {
+            Turn::Later => pump.next_counted(),
+            _ => pump.due(),
+        };
+        self.shared.clock().set_due(self.n, due);
         self.shared.put_pump(rt, self.n, pump)
     }
 
@@ -33,7 +40,7 @@ impl<'s, 't, 'p> Worker<'s, 't, 'p> {
         more
     }
 
-    /// The same where there is a turn left and the station is to be had.
+    /// Makes a turn where one is left, nobody is due before it and the station is to be had.
     fn try_pump<R: Wait>(
         &self,
         rt: &R,
@@ -43,6 +50,9 @@ impl<'s, 't, 'p> Worker<'s, 't, 'p> {
     ) -> Turn {
         if pump.is_over() {
             return Turn::Over;
+        }
+        if !self.shared.clock().may_count(pump.next_counted()) {
+            return Turn::Later;
         }
         match self.try_station(rt, locking) {
             Some(mut station) => Turn::made(self.pump_turn(&mut station, pump, calls)),
@@ -64,9 +74,9 @@ impl<'s, 't, 'p> Worker<'s, 't, 'p> {
             return;
         };
         let turn = self.pump(rt, Locking::GoesOn, &mut pump, calls);
-        let wanted = self.put_pump(rt, pump);
+        let wanted = self.put_pump(rt, pump, turn);
         match turn.or_more(wanted) {
-            Turn::Done => {}
+            Turn::Done | Turn::Later => {}
             Turn::More => calls.add_pump(self.n),
             Turn::Locked => self.miss(self.n, calls),
             Turn::Over => self.shared.clock().tell(self.n),
@@ -82,7 +92,7 @@ impl<'s, 't, 'p> Worker<'s, 't, 'p> {
         if let Turn::Over = turn {
             return turn;
         }
-        let wanted = self.put_pump(rt, pump);
+        let wanted = self.put_pump(rt, pump, turn);
         let turn = turn.or_more(wanted);
         self.hand_on(rt, hosts, turn, calls);
         turn
@@ -90,13 +100,13 @@ impl<'s, 't, 'p> Worker<'s, 't, 'p> {
 
     fn pump_all<H: Host, R: Wait>(&self, rt: &R, hosts: &[H]) {
         let mut calls = Calls::none(self.alloc);
-        for _ in 0..self.plan.turns {
+        for _ in rt.forever() {
             self.listen();
             if self.shared.is_over() {
                 break;
             }
             match self.pump_own(rt, hosts, &mut calls) {
-                Turn::Done => {
+                Turn::Done | Turn::Later => {
                     let _ = self.sleep(rt, hosts, &mut calls);
                 }
                 Turn::More | Turn::Locked => {}
@@ -106,17 +116,23 @@ impl<'s, 't, 'p> Worker<'s, 't, 'p> {
     }
 }
 
+/// What the pump of a station keeps before its first turn, where so many rings come in.
+pub(crate) fn first_pump(
+    alloc: Global,
+    plan: &Plan<'_>,
+    rings: usize,
+    now: u64,
+) -> Result<Pump, AllocError> {
+    let held = Held::new(alloc, rings)?;
+    let turns = PumpTurns::new(plan.turns, plan.tick_every);
+    Ok(Pump::new(turns, held, now))
+}
+
 /// Pumps a station, with a tick after so many turns. It sleeps while nothing lies on its rings, no packet that was held back is due, and
 /// no tick.
 pub(crate) fn run_pump<H: Host, R: Wait>(rt: &R, worker: Worker<'_, '_, '_>, hosts: &[H]) {
-    let count = worker.station.lock(rt).count_in();
-    if let Ok(held) = Held::new(worker.alloc, count) {
-        let turns = PumpTurns::new(worker.plan.turns, worker.plan.tick_every);
-        let pump = Pump::new(turns, held, worker.shared.clock().turns());
-        let _ = worker.put_pump(rt, pump);
-        // Packets may lie there already.
-        worker.pump_all(rt, hosts);
-    }
+    // Packets may lie there already.
+    worker.pump_all(rt, hosts);
     worker.shared.ends(worker.n);
     worker.shared.clock().leave(rt);
 }

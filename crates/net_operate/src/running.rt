@@ -3,7 +3,7 @@ ghost use Rattle.std.specs.Prelude.{IfOk};
 ghost use Rattle.std.specs.List.{AllZip};
 ghost use Rattle.net_operate.specs.Sessions.{SessionFits};
 
-use crate::pumping::run_pump;
+use crate::pumping::{first_pump, run_pump};
 use crate::serving::run_host;
 use crate::session_ends::fitted;
 use crate::sessions::run_session;
@@ -124,12 +124,28 @@ fn session_at<'s, 't, 'p>(
     Some(Worker { thread, ..pump })
 }
 
-/// Notes how many entries each station has before the threads start.
-fn begin_all<R: Wait>(rt: &R, stations: &Vec<Mutex<Station<'_>>>, shared: &PlanState) {
+/// How many rings come into a station, once it was noted how many entries it has.
+fn begin_at<R: Wait>(rt: &R, station: &Mutex<Station<'_>>, n: usize, shared: &PlanState) -> usize {
+    let station = station.lock(rt);
+    shared.begin_at(n, station.trace().len());
+    station.count_in()
+}
+
+/// Notes how many entries each station has, and when its pump is due, before the threads start.
+fn begin_all<R: Wait>(
+    rt: &R,
+    alloc: Global,
+    stations: &Vec<Mutex<Station<'_>>>,
+    plan: &Plan<'_>,
+    shared: &PlanState,
+) -> Result<(), AllocError> {
     for n in 0..stations.len() {
-        let station = stations[n].lock(rt);
-        shared.begin_at(n, station.trace().len());
+        let rings = begin_at(rt, &stations[n], n, shared);
+        let pump = first_pump(alloc, plan, rings, shared.clock().turns())?;
+        shared.clock().set_due(n, pump.due());
+        let _ = shared.put_pump(rt, n, pump);
     }
+    Ok(())
 }
 
 /// Makes the loans, and runs the threads.
@@ -145,7 +161,9 @@ fn lend_and_run<H: Host + Sync, R: Threads + Wait + Sync>(
         return Err(OperateFault::Memory);
     }
     let stations = network.stations();
-    begin_all(rt, stations, shared);
+    if begin_all(rt, alloc, stations, plan, shared).is_err() {
+        return Err(OperateFault::Memory);
+    }
     run_all(rt, alloc, stations, plan, hosts, shared)
 }
 
@@ -240,9 +258,10 @@ fn ended(
 /// A thread that has nothing to do sleeps. Whoever makes a step carries on what comes of it: he pumps at the other end of a link, and puts
 /// requests to hosts that answer at once, where no other does at that moment; he tells the sessions that have an answer, and the threads of
 /// other hosts. A thread that has more to do for itself leaves that to the threads that are there for it. One session is gone on with at a
-/// time, and the thread that went on with one goes on with the next that has something to do. While anybody works, no turn
-/// passes for those who sleep; one in which a pump works counts for it alone. Where all sleep, as many turns pass at once as the first of
-/// them waits for: those until a tick, until a packet that was held back is taken, or until a wait or the plan is over. Steps that others
+/// time, and the thread that went on with one goes on with the next that has something to do. Time is common: a turn in which a pump works, and
+/// one in which a session enters a line, is counted for it ahead of the clock, but never behind a turn at which another is due. Where all
+/// sleep, as many turns pass at once as the first of them waits for: those until a tick, until a packet that was held back is taken, until a
+/// turn that somebody couldn't count before, or until a wait or the plan is over. Steps that others
 /// make by `step_at`, `pump_once` and `pump_with` of the network wake its node's pump. Another plan on the same network is not told of what
 /// this one does, nor this one of that, beyond what their own threads find.
 pub fn operate<H: Host + Sync, R: Threads + Wait + Sync>(

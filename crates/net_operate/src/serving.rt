@@ -134,7 +134,7 @@ impl<'s, 't, 'p> Worker<'s, 't, 'p> {
         let turn = self.serve(rt, host, Locking::GoesOn, &mut service, calls);
         let wanted = self.put_service(rt, thread, service);
         match turn.or_more(wanted) {
-            Turn::Done => {}
+            Turn::Done | Turn::Later => {}
             Turn::More => calls.add_host(thread),
             Turn::Locked => self.miss(thread, calls),
             Turn::Over => self.shared.clock().tell(thread),
@@ -164,13 +164,13 @@ impl<'s, 't, 'p> Worker<'s, 't, 'p> {
 
     fn serve_all<H: Host, R: Wait>(&self, rt: &R, hosts: &[H], host: &H) {
         let mut calls = Calls::none(self.alloc);
-        for _ in 0..self.plan.turns {
+        for _ in rt.forever() {
             self.listen();
             if self.shared.is_over() {
                 break;
             }
             match self.serve_own(rt, hosts, host, &mut calls) {
-                Turn::Done => {
+                Turn::Done | Turn::Later => {
                     let _ = self.sleep(rt, hosts, &mut calls);
                 }
                 Turn::More | Turn::Locked => {}

@@ -6,6 +6,7 @@ use plan_threads::Calls;
 use run_plan::Plan;
 use std::alloc::Global;
 use std::sync::{Mutex, MutexGuard, Wait};
+use turn_clock::Helped;
 
 /// How often a thread pumps or asks a host at most behind a step of its own, before it wakes the threads that are there for it.
 const MOST_CARRIED: usize = 32;
@@ -17,6 +18,8 @@ pub(crate) enum Turn {
     Done,
     /// It was made, and there is more to do.
     More,
+    /// Another is due before it: it is made once the clock has come so far.
+    Later,
     /// Another has the node's station.
     Locked,
     /// No turn is left.
@@ -65,8 +68,8 @@ impl<'s, 't, 'p> Worker<'s, 't, 'p> {
     }
 
     /// Sleeps until it is told of something, or it is due. Where all threads of the plan sleep and turns pass until pumps are due, the last one
-    /// pumps there, and no pump wakes up for a tick. If it is the thread of a session and one waits for its turn then, it doesn't sleep any
-    /// longer, and that one's turn it is: so no thread wakes up for that either.
+    /// pumps there, and no pump wakes up for a tick. If it is the thread of a session and one waits for its turn or is due then, it doesn't sleep
+    /// any longer, and that one's turn it is: so no thread wakes up for that either.
     pub(crate) fn sleep<H: Host, R: Wait>(
         &self,
         rt: &R,
@@ -74,12 +77,11 @@ impl<'s, 't, 'p> Worker<'s, 't, 'p> {
         calls: &mut Calls,
     ) -> Option<usize> {
         let clock = self.shared.clock();
-        let pumps = self.shared.threads().pumps;
-        for _ in 0..self.plan.turns {
-            if !clock.sleep_or_help(rt, self.thread, pumps) {
+        for _ in rt.forever() {
+            if !clock.sleep_or_help(rt, self.thread, self.helped()) {
                 return None;
             }
-            self.pump_due(rt, hosts, calls);
+            self.help_due(rt, hosts, calls);
             let next = self.begin_turn(rt);
             if next.is_some() || clock.is_due(self.thread) {
                 return next;
@@ -106,12 +108,40 @@ impl<'s, 't, 'p> Worker<'s, 't, 'p> {
         None
     }
 
-    /// Pumps wherever a pump is due, and carries on what comes of it.
-    fn pump_due<H: Host, R: Wait>(&self, rt: &R, hosts: &[H], calls: &mut Calls) {
+    /// Whose work the thread does while they sleep: that of pumps, and where it is the thread of a session, that of other sessions.
+    fn helped(&self) -> Helped {
+        let threads = self.shared.threads();
+        Helped {
+            below: threads.pumps,
+            from: if self.is_of_session() {
+                threads.first_session()
+            } else {
+                usize::MAX
+            },
+        }
+    }
+
+    /// Makes the turn of each pump that is due, has the sessions that are due wait for their turns, and carries on what comes of it.
+    fn help_due<H: Host, R: Wait>(&self, rt: &R, hosts: &[H], calls: &mut Calls) {
+        let clock = self.shared.clock();
         for n in 0..self.stations.len() {
-            if self.shared.clock().is_due(n) {
-                calls.add_pump(n);
-                self.carry_on(rt, hosts, calls);
+            if let (true, Some(there)) = (clock.is_due(n), self.at(n)) {
+                there.pump_for_other(rt, calls);
+            }
+        }
+        clock.open();
+        if self.is_of_session() {
+            self.recall_due(rt);
+        }
+        self.carry_on_for(rt, hosts, self.stations.len(), calls);
+    }
+
+    /// Sessions that are due wait for their turn.
+    fn recall_due<R: Wait>(&self, rt: &R) {
+        for place in 0..self.plan.sessions.len() {
+            let thread = self.shared.threads().session(place);
+            if self.shared.clock().is_due(thread) {
+                self.shared.recall(rt, thread);
             }
         }
     }
@@ -130,7 +160,12 @@ impl<'s, 't, 'p> Worker<'s, 't, 'p> {
     /// that answers at once is asked. So a request goes on without a thread that wakes up for it. Sessions that have an answer are told. Where
     /// there is more to do, the threads that are there for it wake up. Called with no lock held.
     pub(crate) fn carry_on<H: Host, R: Wait>(&self, rt: &R, hosts: &[H], calls: &mut Calls) {
-        for _ in 0..MOST_CARRIED {
+        self.carry_on_for(rt, hosts, 1, calls);
+    }
+
+    /// Carries on what comes of steps at so many nodes.
+    fn carry_on_for<H: Host, R: Wait>(&self, rt: &R, hosts: &[H], nodes: usize, calls: &mut Calls) {
+        for _ in 0..MOST_CARRIED.saturating_mul(nodes) {
             self.recall_sessions(rt, calls);
             if let Some(thread) = calls.next_host() {
                 self.serve_at(rt, hosts, thread, calls);
@@ -177,7 +212,7 @@ impl<'s, 't, 'p> Worker<'s, 't, 'p> {
     ) {
         match turn {
             Turn::More | Turn::Locked => self.tell(rt, calls),
-            Turn::Done | Turn::Over => self.carry_on(rt, hosts, calls),
+            Turn::Done | Turn::Later | Turn::Over => self.carry_on(rt, hosts, calls),
         }
     }
 

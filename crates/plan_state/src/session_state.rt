@@ -1,5 +1,6 @@
 //! How far a session has come.
-ghost use Rattle.std.specs.Prelude.{◌≡◌, ◌++◌, ◌∷◌, [], true, false, None, not, IfOk, OnErr, length, slice_get};
+ghost use Rattle.std.specs.Prelude.{◌≡◌, ◌++◌, ◌∷◌, [], true, false, None, not, max, IfOk, OnErr, length, slice_get};
+ghost use Rattle.link_rings.specs.Held.{later};
 
 use crate::search::Search;
 use crate::wanted::Wanted;
@@ -27,6 +28,8 @@ pub struct SessionState {
     pub awaiting: Option<Awaiting>,
     /// There was no memory to go on.
     pub has_failed: bool,
+    /// The turn up to which its turns are counted: it enters a line in each, and may be ahead of the clock.
+    pub counted: u64,
     /// It was said that the session has ended.
     is_over: bool,
 }
@@ -37,12 +40,14 @@ impl SessionState {
         ensures ends { result.ends.items ≡ [] }
         ensures awaiting { result.awaiting ≡ None }
         ensures failed { result.has_failed ≡ false }
+        ensures counted { result.counted ≡ 0 }
         ensures over { result.is_over ≡ false }
     {
         SessionState {
             ends: Vec::new(alloc),
             awaiting: None,
             has_failed: false,
+            counted: 0,
             is_over: false,
         }
     }
@@ -59,12 +64,20 @@ impl SessionState {
         Some(*line)
     }
 
+    /// The turn in which it enters its next line, where so many have passed on the clock: the one behind its last, or that of the clock.
+    pub fn next_counted(&self, now: u64) -> u64
+        ensures { result ≡ max now (later self.now.counted 1) }
+    {
+        now.max(self.counted.saturating_add(1))
+    }
+
     /// The line has ended so. Where memory was or is wanting for it, the session fails, and ends with this line.
     pub fn end_line(&mut self, end: Result<LineEnd, AllocError>)
         ensures ended { IfOk end (λ e. self.new.has_failed ≡ self.old.has_failed → self.old.has_failed ≡ false → self.new.ends.items ≡ self.old.ends.items ++ e ∷ []) }
         ensures failed { OnErr end (self.new.has_failed ≡ true) }
         ensures kept { self.old.has_failed ≡ false → self.new.has_failed ≡ true → self.new.ends.items ≡ self.old.ends.items }
         ensures awaiting { self.new.awaiting ≡ self.old.awaiting }
+        ensures counted { self.new.counted ≡ self.old.counted }
         ensures over { self.new.is_over ≡ self.old.is_over }
     {
         match end {
@@ -96,6 +109,7 @@ impl SessionState {
             ends,
             awaiting: _,
             has_failed,
+            counted: _,
             is_over: _,
         } = self;
         if has_failed {

@@ -12,7 +12,7 @@ pub struct Pump {
     pub turns: PumpTurns,
     /// The packets that are held back.
     pub held: Held,
-    /// The turns of the clock up to which those of the pump are counted.
+    /// The turn up to which those of the pump are counted. Where it works, it may lie ahead of the clock.
     pub counted: u64,
 }
 
@@ -55,19 +55,28 @@ impl Pump {
         ensures tick_every { self.new.turns.tick_every ≡ self.old.turns.tick_every }
         ensures turn { self.new.held.turn ≡ later self.old.held.turn (idle_turns now self.old) }
         ensures rings { self.new.held.rings ≡ self.old.held.rings }
-        ensures counted { self.new.counted ≡ now }
+        ensures counted { self.new.counted ≡ later self.old.counted (idle_turns now self.old) }
     {
         let idle = idle(now.saturating_sub(self.counted), self.turns_ahead());
         self.turns.pass(idle);
         self.held.pass(idle);
-        self.counted = now;
+        self.counted = self.counted.saturating_add(idle);
     }
 
-    /// A turn in which the pump works; says whether a tick comes behind it.
+    /// The turn that it counts next.
+    pub fn next_counted(&self) -> u64
+        ensures { result ≡ later self.now.counted 1 }
+    {
+        self.counted.saturating_add(1)
+    }
+
+    /// A turn in which the pump works is counted; says whether a tick comes behind it.
     pub fn next_turn(&mut self) -> bool
         ensures ticks { result ≡ (later self.old.turns.since_tick 1 == self.old.turns.tick_every) }
         ensures left { self.new.turns.left ≡ self.old.turns.left - 1 }
+        ensures counted { self.new.counted ≡ later self.old.counted 1 }
     {
+        self.counted = self.next_counted();
         self.turns.next()
     }
 }

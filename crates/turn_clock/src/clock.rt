@@ -1,10 +1,11 @@
 //! Threads that sleep, and turns that pass while all do.
-ghost use Rattle.std.specs.Prelude.{◌≤◌};
+ghost use Rattle.std.specs.Prelude.{◌≡◌, ◌≤◌, ◌-◌, ◌^◌};
+ghost use Rattle.turn_clock.specs.Helped.{is_helped};
 
 use crate::first::sooner;
 use std::alloc::{AllocError, Global};
 use std::sync::Wait;
-use std::sync::atomic::{AtomicU64, Ordering};
+use std::sync::atomic::{AtomicBool, AtomicU64, Ordering};
 use std::thread::Parker;
 
 /// A thread that works, or looks whether there is something to do.
@@ -27,7 +28,7 @@ impl Sleeper {
     fn awake() -> Sleeper {
         Sleeper {
             state: AtomicU64::new(AWAKE),
-            due: AtomicU64::new(0),
+            due: AtomicU64::new(u64::MAX),
             parker: Parker::new(),
         }
     }
@@ -69,14 +70,46 @@ enum Passed {
     Helps,
 }
 
+/// The threads whose work another thread does in their place: those below one number, and those from another on.
+#[derive(Clone, Copy)]
+pub struct Helped {
+    pub below: usize,
+    pub from: usize,
+}
+
+impl Helped {
+    /// None of them.
+    pub fn nobody() -> Helped
+        ensures { result ≡ record { below = 0; from = 2 ^ 64 - 1 } }
+    {
+        Helped {
+            below: 0,
+            from: usize::MAX,
+        }
+    }
+
+    fn has(&self, thread: usize) -> bool
+        ensures { result ≡ is_helped self.now thread }
+    {
+        thread < self.below || thread >= self.from
+    }
+}
+
 /// How many turns have passed, and which threads of a plan sleep. A thread that has nothing to do sleeps until it is told of something,
 /// or until the turns that it waits for have passed. Turns pass only while all threads sleep, and then at once as many as the first of
-/// them waits for: so nobody who works makes others wait for nothing.
+/// them waits for.
+///
+/// A thread that works may count turns of its own ahead of the clock, but none behind the turn at which another is due: there it sleeps until
+/// the clock has come so far, and the other has its turn first. So time is common to all, and nobody who works makes others wait.
 #[derive(Drop)]
 pub struct TurnClock {
     turns: AtomicU64,
     /// How many threads don't sleep. Who wakes another up counts it before that runs.
     awake: AtomicU64,
+    /// Behind the turns that have passed, none at which a thread is due comes before this one.
+    next_due: AtomicU64,
+    /// All who are due at this turn have had it, so that those who work may count turns ahead of the clock.
+    is_open: AtomicBool,
     sleepers: Vec<Sleeper>,
 }
 
@@ -90,6 +123,8 @@ impl TurnClock {
         Ok(TurnClock {
             turns: AtomicU64::new(0),
             awake: AtomicU64::new(threads as u64),
+            next_due: AtomicU64::new(u64::MAX),
+            is_open: AtomicBool::new(true),
             sleepers,
         })
     }
@@ -128,12 +163,27 @@ impl TurnClock {
         }
     }
 
-    /// From here on a thread that sleeps wakes up by itself once so many turns have passed on the clock. Whoever does the work of a sleeper
-    /// in its place says so, while it is awake itself: no turn passes meanwhile.
+    /// From here on a thread that sleeps wakes up by itself once so many turns have passed on the clock, and nobody counts turns behind that
+    /// one before. Whoever does the work of a sleeper in its place says so, while it is awake itself: no turn passes meanwhile.
     pub fn set_due(&self, thread: usize, due: u64) {
         if let Some(sleeper) = self.sleepers.get(thread) {
             sleeper.due.store(due, Ordering::SeqCst);
+            if due > self.turns() {
+                self.next_due.fetch_min(due, Ordering::SeqCst);
+            }
         }
+    }
+
+    /// Whether a thread that works may count this turn: the clock has come to it, or nobody is due before it.
+    pub fn may_count(&self, turn: u64) -> bool {
+        turn <= self.turns()
+            || (self.is_open.load(Ordering::SeqCst) && turn <= self.next_due.load(Ordering::SeqCst))
+    }
+
+    /// All whose work the caller does in their place have had the turn at which they were due: from here on those who work may count turns
+    /// ahead of the clock.
+    pub fn open(&self) {
+        self.is_open.store(true, Ordering::SeqCst);
     }
 
     /// Whether the clock has come to the turn at which a thread wakes up by itself.
@@ -146,12 +196,12 @@ impl TurnClock {
 
     /// Sleeps until the thread is told of something or it is due, and not at all where it was told between listening and this.
     pub fn sleep<R: Wait>(&self, rt: &R, thread: usize) {
-        let _ = self.sleep_or_help(rt, thread, 0);
+        let _ = self.sleep_or_help(rt, thread, Helped::nobody());
     }
 
-    /// The same for a thread that can do the work of the first so many in their place. Where turns pass and one of these is due, it doesn't
-    /// wake up: this returns true, and the caller does the work of each that is due, and says when it is due next.
-    pub fn sleep_or_help<R: Wait>(&self, rt: &R, thread: usize, helped: usize) -> bool {
+    /// Sleeps so, for a thread that can do the work of some in their place. Where turns pass and one of these is due, it doesn't wake up: this
+    /// returns true, and the caller does the work of each that is due, says when it is due next, and calls `open`.
+    pub fn sleep_or_help<R: Wait>(&self, rt: &R, thread: usize, helped: Helped) -> bool {
         let Some(sleeper) = self.sleepers.get(thread) else {
             return false;
         };
@@ -187,12 +237,12 @@ impl TurnClock {
 
     /// A thread ends, and nobody waits for it any more.
     pub fn leave<R: Wait>(&self, rt: &R) {
-        let _ = self.settle(rt, 0);
+        let _ = self.settle(rt, Helped::nobody());
     }
 
-    /// One thread less is awake. Where none is, turns pass until one is; where none sleeps either, all have left. Returns true where one of
-    /// the first so many is due: then whoever called this is still counted as awake.
-    fn settle<R: Wait>(&self, rt: &R, helped: usize) -> bool {
+    /// One thread less is awake. Where none is, turns pass until one is; where none sleeps either, all have left. Returns true where one is due
+    /// whose work the caller does: then it is still counted as awake.
+    fn settle<R: Wait>(&self, rt: &R, helped: Helped) -> bool {
         if self.awake.fetch_sub(1, Ordering::SeqCst) != 1 {
             return false;
         }
@@ -222,8 +272,22 @@ impl TurnClock {
         false
     }
 
-    /// Lets as many turns pass as the first of those waits for who sleep, and wakes all up who wait for no more, but for the first so many.
-    fn pass(&self, helped: usize) -> Passed {
+    /// The first turn behind this one at which a thread that sleeps is due.
+    fn first_behind(&self, turn: u64) -> u64 {
+        let mut first = u64::MAX;
+        for sleeper in self.sleepers.iter() {
+            if let Some(due) = sleeper.due() {
+                if due > turn {
+                    first = first.min(due);
+                }
+            }
+        }
+        first
+    }
+
+    /// Lets as many turns pass as the first of those waits for who sleep, and wakes all up who wait for no more, but for those whose work the
+    /// caller does. Nobody else is awake meanwhile.
+    fn pass(&self, helped: Helped) -> Passed {
         let mut first = None;
         for sleeper in self.sleepers.iter() {
             first = sooner(first, sleeper.due());
@@ -231,13 +295,26 @@ impl TurnClock {
         let Some(turns) = first else {
             return Passed::Nobody;
         };
+        self.is_open.store(false, Ordering::SeqCst);
         self.turns.fetch_max(turns, Ordering::SeqCst);
+        let now = self.turns();
+        self.next_due
+            .store(self.first_behind(now), Ordering::SeqCst);
+        let passed = self.wake_due(now, helped);
+        if let Passed::Woken = passed {
+            self.open();
+        }
+        passed
+    }
+
+    /// Wakes all up who are due at this turn, but for those whose work the caller does.
+    fn wake_due(&self, now: u64, helped: Helped) -> Passed {
         let mut passed = Passed::Woken;
         for (thread, sleeper) in self.sleepers.iter().enumerate() {
-            if !sleeper.is_asleep() || !sleeper.is_due(turns) {
+            if !sleeper.is_asleep() || !sleeper.is_due(now) {
                 continue;
             }
-            if thread < helped {
+            if helped.has(thread) {
                 passed = Passed::Helps;
             } else {
                 self.wake(sleeper);

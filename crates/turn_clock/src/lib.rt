@@ -4,5 +4,5 @@
 mod clock;
 mod first;
 
-pub use clock::TurnClock;
+pub use clock::{Helped, TurnClock};
 pub use first::sooner;
