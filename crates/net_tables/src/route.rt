@@ -10,6 +10,9 @@ ghost use Rattle.net_tables.specs.Reading.{route_of};
 ghost use Rattle.net_tables.specs.InOrder.{AreNext};
 ghost use Rattle.table_fields.specs.declared.place.Table.TheVariants as table;
 
+#[cfg(test)]
+mod tests;
+
 use crate::plain::{node_named, plain_links, prefix_of};
 use crate::rows::{RowReader, next_rows, read_rows};
 use named_rows::{NamedRows, NodePrefixes, links_at, new_prefix_at};

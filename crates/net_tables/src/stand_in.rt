@@ -9,6 +9,9 @@ ghost use Rattle.net_tables.specs.Reading.{stand_in_of};
 ghost use Rattle.net_tables.specs.InOrder.{AreNext};
 ghost use Rattle.table_fields.specs.declared.place.Table.TheVariants as table;
 
+#[cfg(test)]
+mod tests;
+
 use crate::plain::{amount_of, node_named, prefix_of};
 use crate::rows::{RowReader, next_rows, read_rows};
 use named_rows::{NamedRows, NodePrefixes, new_prefix_at};
