@@ -7,6 +7,7 @@ mod running;
 mod serving;
 mod session_ends;
 mod sessions;
+mod under_way;
 mod worker;
 
 pub use running::{Host, OperateFault, operate};

@@ -7,6 +7,7 @@ use crate::pumping::{first_pump, run_pump};
 use crate::serving::run_host;
 use crate::session_ends::fitted;
 use crate::sessions::run_session;
+use crate::under_way::take_all_under_way;
 use crate::worker::Worker;
 use iso_message::Message;
 use message_elements::Code;
@@ -89,7 +90,7 @@ fn places_of<R: Wait>(
 }
 
 /// The thread that pumps the station at a place.
-fn pump_at<'s, 't, 'p>(
+pub(crate) fn pump_at<'s, 't, 'p>(
     alloc: Global,
     n: usize,
     stations: &'s Vec<Mutex<Station<'t>>>,
@@ -164,7 +165,11 @@ fn lend_and_run<H: Host + Sync, R: Threads + Wait + Sync>(
     if begin_all(rt, alloc, stations, plan, shared).is_err() {
         return Err(OperateFault::Memory);
     }
-    run_all(rt, alloc, stations, plan, hosts, shared)
+    run_all(rt, alloc, stations, plan, hosts, shared)?;
+    if !shared.is_stopped() {
+        take_all_under_way(rt, alloc, stations, plan, hosts, shared);
+    }
+    Ok(())
 }
 
 /// Runs the threads, which have all ended at the return.
@@ -252,8 +257,9 @@ fn ended(
 
 /// Runs a plan on a network: for each node a thread that pumps and one that asks its host, and a thread for each session. The plan's
 /// loans are made before. All threads have ended at the return, also where one could not be started; steps that were made stay. Each
-/// thread ends after the plan's turns at the latest, for each line of a session, and as soon as all sessions have ended. A host is called
-/// with no lock held.
+/// thread ends after the plan's turns at the latest, for each line of a session, and as soon as all sessions have ended. What is under way
+/// then is still taken, packets that are held back too, and hosts that answer at once are still asked, but no clock ticks. A host is
+/// called with no lock held.
 ///
 /// A thread that has nothing to do sleeps. Whoever makes a step carries on what comes of it: he pumps at the other end of a link, and puts
 /// requests to hosts that answer at once, where no other does at that moment; he tells the sessions that have an answer, and the threads of
