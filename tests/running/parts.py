@@ -40,6 +40,9 @@ def is_there(need):
 def parts(programs, is_long):
     """The parts, of which those that are named 'all of ..' take long."""
     card_switch, network_view = str(programs / "card_switch"), str(programs / "network_view")
+    library = str(programs / "libcard_switch.so.1")
+    yield Part("codec", ["tests/codec", library])
+    yield Part("calls", ["tests/calls", library])
     yield Part("record", ["tests/recorded"])
     yield Part("examples", ["tests/examples", card_switch, network_view])
     yield Part("schema", ["tests/schema"], ["python:jsonschema"], "python3-jsonschema")
