@@ -1,11 +1,13 @@
 """Inputs that are changed: fronts, each byte, and random changes."""
 
+import itertools
 import random
 import re
 from pathlib import Path
 
 EXAMPLES = Path(__file__).resolve().parents[2] / "examples"
 FIRST = EXAMPLES / "first"
+SHARED = EXAMPLES / "shared_limits"
 LINE = b"%%\n"
 
 # A request of 83 bytes with 7 elements, as in docs/FORMATS.md.
@@ -38,6 +40,19 @@ def some_bytes(data, rng, count):
     for place, byte in enumerate(data):
         for other in rng.sample([other for other in range(256) if other != byte], count):
             yield data[:place] + bytes([other]) + data[place + 1 :]
+
+
+def near_bytes(data):
+    """At each place with a digit the next digit, at each with a letter the next letter, and so on: 0 follows 9, and A follows Z."""
+    after = bytes.maketrans(b"0123456789ABCDEFGHIJKLMNOPQRSTUVWXYZabcdefghijklmnopqrstuvwxyz", b"1234567890BCDEFGHIJKLMNOPQRSTUVWXYZAbcdefghijklmnopqrstuvwxyza")
+    for place, byte in enumerate(data.translate(after)):
+        if byte != data[place]:
+            yield data[:place] + bytes([byte]) + data[place + 1 :]
+
+
+def share(inputs, step):
+    """One of so many inputs."""
+    return itertools.islice(inputs, 0, None, step)
 
 
 def text_of(path):

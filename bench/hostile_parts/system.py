@@ -12,10 +12,15 @@ from pathlib import Path
 
 import answers
 import changes
-from running import WORDS
+import judging
+from running import SWITCH, VIEW, WORDS
 
 SECONDS = 60
 USAGE = b"usage: card_switch check|make|replay|run|decode [--frames]\n"
+VIEW_USAGE = (
+    b"usage: network_view card N [--json]\n       network_view refusals [--json]\n       network_view picture [--prefix P] [--dot]\n"
+    b"       network_view trace\n"
+)
 HERE = Path(__file__).resolve().parent
 TOP = HERE.parents[1]
 # Behind the parts of this trial, which have a module of the same name as one there.
@@ -38,6 +43,14 @@ def first_inputs():
     ]
 
 
+def first_view_inputs():
+    """An input of each job of network_view that has status 0."""
+    bundle = changes.tables_and_ranks(changes.SHARED)
+    script, printed = (changes.text_of(changes.FIRST / name) for name in ("script.txt", "printed.txt"))
+    trace = changes.LINE.join([changes.tables_and_ranks(changes.FIRST), script, printed])
+    return [(job, trace if job == "trace" else bundle) for job in VIEW]
+
+
 def started(program, words, **rest):
     rest.setdefault("stdout", subprocess.PIPE)
     rest.setdefault("stderr", subprocess.PIPE)
@@ -46,7 +59,7 @@ def started(program, words, **rest):
 
 def command_lines():
     """Words that are no command, and some of them no text."""
-    jobs = [words for words in WORDS.values()]
+    jobs = list(SWITCH.values())
     yield from ([], [b""], [b"Check"], [b"check "], [b" check"], [b"help"], [b"--help"], [b"-h"], [b"--version"], [b"--"], [b"-"])
     yield from ([b"--frames"], [b"--frames", b"decode"], [b"decode", b"--frame"], [b"decode", b"-frames"], [b"decode", b"--frames="])
     yield from ([b"decode", b"--frames", b"--frames"], [b"decode", b"--", b"--frames"], [b"decode", b"--frames=true"])
@@ -59,10 +72,17 @@ def command_lines():
                 yield line
 
 
-def try_command_lines(program):
-    for words in command_lines():
+def view_command_lines():
+    """The same of network_view."""
+    yield from ([], [b""], [b"Card"], [b"card "], [b"help"], [b"-V"], [b"--"], [b"-"], [b"--json"], [b"--json", b"refusals"], [b"\xff"])
+    yield from ([b"card", b"\xff"], [b"card", b"4111111111111111", b"--json=true"], [b"picture", b"--prefix", b"\xff"], [b"trace", b"-"])
+    yield from ([b"card", b"4" * 100000], [b"picture", b"--prefix=" + b"4" * 100000], [b"x" * 100000], [b"card"] * 1000, [b"--dot"] * 1000)
+
+
+def try_command_lines(program, lines=command_lines, usage=USAGE):
+    for words in lines():
         run = started(program, words, stdin=subprocess.DEVNULL)
-        good = run.returncode == 2 and run.stdout == b"" and run.stderr == USAGE
+        good = run.returncode == 2 and run.stdout == b"" and run.stderr == usage
         yield (b" ".join(words)[:60], None if good else f"status {run.returncode}: {run.stdout[:60]} {run.stderr[:60]}")
     with open("/dev/full", "wb") as full:
         run = started(program, [], stdin=subprocess.DEVNULL, stderr=full)
@@ -77,16 +97,16 @@ def readers():
     yield "empty", os.open("/dev/null", os.O_RDONLY)
 
 
-def try_readers(program):
+def try_readers(program, jobs=SWITCH):
     wanted = {"a folder": b"fault bundle 3 read\n", "open for writing alone": b"fault bundle 3 read\n"}
     wanted["without an end"] = b"fault bundle 2 too long\n"
-    for job, words in WORDS.items():
+    for job, words in jobs.items():
         for name, file in readers():
             run = started(program, words, stdin=file)
             os.close(file)
             want = wanted.get(name)
             if want is None:
-                problem = answers.problem_of(job, run.returncode, b"", run.stdout, run.stderr)
+                problem = judging.problem_of(job, run.returncode, b"", run.stdout, run.stderr)
             else:
                 problem = None if (run.returncode, run.stdout, run.stderr) == (2, want, b"") else f"{run}"
             yield (f"{job}: a reader that is {name}", problem)
@@ -98,12 +118,12 @@ def closed_reader(program, words, job):
     run = started(program, words, preexec_fn=lambda: os.close(0))
     if run.stdout == b"fault bundle 3 read\n":
         return None if run.returncode == 2 else f"status {run.returncode}"
-    return answers.problem_of(job, run.returncode, b"", run.stdout, run.stderr)
+    return judging.problem_of(job, run.returncode, b"", run.stdout, run.stderr)
 
 
-def try_pieces(program):
+def try_pieces(program, inputs=first_inputs):
     """Input byte by byte gives the same output. On a busy machine a plan needs many turns for that."""
-    for job, data in first_inputs():
+    for job, data in inputs():
         data = data.replace(b"turns 2000\n", b"turns 4000000000\n")
         whole = started(program, WORDS[job], input=data)
         child = subprocess.Popen([program, *WORDS[job]], stdin=subprocess.PIPE, stdout=subprocess.PIPE, env={})
@@ -123,9 +143,9 @@ def writers():
     yield "a pipe without a reader", writer
 
 
-def try_writers(program):
+def try_writers(program, inputs=first_inputs):
     """A write that fails ends with status 2, and says nothing more."""
-    for job, data in first_inputs():
+    for job, data in inputs():
         for name, file in writers():
             run = started(program, WORDS[job], input=data, stdout=file)
             os.close(file)
@@ -159,7 +179,7 @@ def whole_or_memory(job, data, run, whole):
     threads; and a node without memory refuses what comes to it, so that a report may tell of fewer answers."""
     if (run.returncode, run.stdout) == whole:
         return None
-    if run.returncode == 2 and (answers.names_memory(run.stdout) or run.stdout == b"fault run 1 threads\n"):
+    if run.returncode == 2 and (judging.names_memory(job, run.stdout) or run.stdout == b"fault run 1 threads\n"):
         return None
     if job == "make" and (run.returncode, run.stdout) == (1, b"gave up\n"):
         return None
@@ -233,8 +253,8 @@ def refused_run(program, words, data, made, number, later):
     return run, count
 
 
-def refused_runs(program, words, data, later):
-    """Runs in which each request for memory is refused in turn, up to one that meets no refusal."""
+def refused_runs(program, words, data, later, step=1):
+    """Runs in which each request for memory is refused in turn, or one of so many, up to one that meets no refusal."""
     with tempfile.TemporaryDirectory() as folder:
         made = library(folder)
         if made is None:
@@ -244,20 +264,20 @@ def refused_runs(program, words, data, later):
         while met and number < 5000:
             run, met = refused_run(program, words, data, made, number, later)
             yield f"request {number} refused{' and later ones' if later else ''}", run
-            number += 1
+            number += step
 
 
-def try_refused_memory(program):
-    """Each request for memory refused in turn, alone and with all later ones."""
-    for job, data in first_inputs():
+def try_refused_memory(program, inputs=first_inputs, step=1):
+    """Each request for memory refused in turn, or one of so many, alone and with all later ones."""
+    for job, data in inputs():
         whole = started(program, WORDS[job], input=data)
         for later in (False, True):
-            for what, run in refused_runs(program, WORDS[job], data, later):
+            for what, run in refused_runs(program, WORDS[job], data, later, step):
                 problem = whole_or_memory(job, data, run, (whole.returncode, whole.stdout))
                 yield (f"{job}: {what}", problem)
 
 
-def try_refused_cut_frame(program):
+def try_refused_cut_frame(program, step=1):
     """A whole frame and a cut one behind it, each request for memory refused in turn. A cut frame asks for no memory: its block stands
     behind that of the whole one, or there was no memory for the bundle."""
     data = changes.FRAME + changes.FRAME[:5]
@@ -266,7 +286,7 @@ def try_refused_cut_frame(program):
     good = whole.stdout.endswith(b"\nmessage 2\nfault message 1 short\n")
     yield ("frames: the second is cut", None if good else f"status {whole.returncode}: {whole.stdout[-80:]}")
     for later in (False, True):
-        for what, run in refused_runs(program, WORDS["frames"], data, later):
+        for what, run in refused_runs(program, WORDS["frames"], data, later, step):
             good = (run.returncode, run.stdout) in wanted
             yield (f"frames, the second cut: {what}", None if good else f"status {run.returncode}: {run.stdout[-80:]}")
 

@@ -41,9 +41,19 @@ def line_text(text, purchases):
         return purchases.filled(rest) + "\n"
     if mark == "=":
         return unescaped(purchases.filled(rest))
+    if text.startswith("*="):
+        return repeated_piece(text[2:].strip(" "), purchases)
     if mark == "*":
         return repeated(rest, purchases)
-    raise CaseError(f"a line of a text begins with | or = or *: {text}")
+    raise CaseError(f"a line of a text begins with | or = or * or *=: {text}")
+
+
+def repeated_piece(text, purchases):
+    """`COUNT TEXT` is a text with escapes so many times, without an end of a line."""
+    count, _, piece = text.partition(" ")
+    if not count.isdigit():
+        raise CaseError(f"no count and text: {text}")
+    return unescaped(purchases.filled(piece)) * int(count)
 
 
 def repeated(text, purchases):
