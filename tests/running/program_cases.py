@@ -94,7 +94,7 @@ def inputs_of(case, networks, purchases, job):
     network = network_of(case, networks, purchases)
     tables = all_tables(case, network, purchases) or [None]
     inputs = [input_of(case, parts_of(case, network, one, purchases, job), purchases) for one in tables]
-    return inputs * int(first_word(case, "times") or 1)
+    return inputs * int(last_said(case, "times") or 1)
 
 
 def difference(wanted, printed):
@@ -104,11 +104,9 @@ def difference(wanted, printed):
     return "\n".join(line[:300] for line in shown[:SHOWN])
 
 
-def first_word(case, word):
-    for one in case.directives:
-        if one.word == word:
-            return one.rest
-    return None
+def last_said(case, word):
+    """What stands behind a word where the case says it last: what is given for a whole file comes first."""
+    return next((one.rest for one in reversed(case.directives) if one.word == word), None)
 
 
 INPUT_WORDS = {"network", "with", "without", "further", "change", "to", "carriage_returns", "input", "purchase", "times", *PARTS}
@@ -135,7 +133,7 @@ def compare(case, purchases, status, printed, complained):
     for piece in absent:
         if piece in printed:
             raise CaseFailed(f"printed: {piece.decode('latin-1')}")
-    wanted_status = int(first_word(case, "status") or 0)
+    wanted_status = int(last_said(case, "status") or 0)
     if status != wanted_status:
         raise CaseFailed(f"status {status} for {wanted_status}")
     complains = [unescaped(one.rest) for one in case.directives if one.word == "complains"]
@@ -174,7 +172,7 @@ def run_program_case(case, networks, programs):
             raise CaseError(f"'{one.word}' is no word of a program's case")
         if one.word == "purchase":
             purchases.add(one.rest)
-    name, *arguments = [unescaped(word) for word in first_word(case, "run").split()]
+    name, *arguments = [unescaped(word) for word in last_said(case, "run").split()]
     job = "make" if name == "made_ranks" else arguments[0] if arguments else ""
     for data in inputs_of(case, networks, purchases, job):
         if name == "made_ranks":
