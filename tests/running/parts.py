@@ -46,6 +46,7 @@ def parts(programs, is_long):
     yield Part("pipeline", ["tests/pipeline"])
     yield Part("never_stale", ["tests/never_stale"])
     yield Part("embedded", ["tests/embedded", card_switch], ["cc", "c++", "nm"], "gcc, g++ and binutils")
+    yield Part("rows_in_order", ["tests/rows_in_order", card_switch])
     yield Part("made_ranks", ["tests/made_ranks", card_switch, network_view])
     yield Part("hostile", ["tests/hostile", card_switch, network_view])
     if is_long:
