@@ -1,8 +1,9 @@
 /*
- * Makes the two nodes of examples/first and has a request answered, again and again: node_memory TABLES RANKS. Each time another request of the
- * library for memory is refused, alone and then with all behind it. A call that finds no memory is made again once there is some. All outputs
- * have to be those with no request refused, and each block has to be given back. Prints how many requests were refused. Linked as refusing.h
- * says.
+ * Has nodes make their steps again and again: `node_memory answered TABLES RANKS` takes the texts of examples/first and has a request answered by
+ * its two nodes; `node_memory link_fails TABLES RANKS` takes those of examples/link_fails, and at their gate the link of a request goes down, which
+ * the gate then reverses and approves by itself, and another request is answered by the other link. Each time another request of the library for
+ * memory is refused, alone and then with all behind it. A call that finds no memory is made again once there is some. All outputs have to be those
+ * with no request refused, and each block has to be given back. Prints how many requests were refused. Linked as refusing.h says.
  */
 #include "card_switch.h"
 #include "refusing.h"
@@ -15,6 +16,8 @@
 #define MOST_SAID 4096
 
 static const char request[] = "01007220000100008000164111111111111111000000000000001000031409153000000106400001840";
+static const char second_request[] = "01007220000100008000164111111111111111000000000000001000031409153000000206400001840";
+static const char second_response[] = "01107222000102008000164111111111111111000000000000001000031409153000000203140640000100840";
 
 static uint8_t tables[MOST_TEXT], ranks[MOST_TEXT];
 static size_t tables_length, ranks_length;
@@ -82,10 +85,9 @@ static size_t tell(cs_node *node, cs_input input, const void *told, size_t told_
 }
 
 /* A request, its answer, a tick, and the same request again. */
-static void run(void) {
+static void answered(void) {
     static uint8_t bytes[CS_MOST_OUTPUT];
     cs_node gate = CS_NODE_EMPTY, home = CS_NODE_EMPTY;
-    said.length = 0;
     make("A", &gate);
     make("H", &home);
     size_t length = tell(&gate, (cs_input){0, 0, CS_ENTER}, request, sizeof request - 1, bytes, 1);
@@ -96,6 +98,27 @@ static void run(void) {
     tell(&gate, (cs_input){0, 0, CS_ENTER}, request, sizeof request - 1, bytes, 1);
     cs_node_free(&gate);
     cs_node_free(&home);
+}
+
+/* A request, a tick, and its link down: three outputs. Then a request on the other link, and its answer. */
+static void link_fails(void) {
+    static uint8_t bytes[CS_MOST_OUTPUT];
+    cs_node gate = CS_NODE_EMPTY;
+    make("A", &gate);
+    tell(&gate, (cs_input){0, 0, CS_ENTER}, request, sizeof request - 1, bytes, 1);
+    tell(&gate, (cs_input){0, 0, CS_TICK}, "", 0, bytes, 0);
+    tell(&gate, (cs_input){0, 0, CS_LINK_DOWN}, "", 0, bytes, 3);
+    tell(&gate, (cs_input){0, 0, CS_ENTER}, second_request, sizeof second_request - 1, bytes, 1);
+    tell(&gate, (cs_input){1, 1, CS_TAKE}, second_response, sizeof second_response - 1, bytes, 1);
+    cs_node_free(&gate);
+}
+
+/* What the nodes do. */
+static void (*steps)(void);
+
+static void run(void) {
+    said.length = 0;
+    steps();
 }
 
 /* Runs with one request refused. Returns whether there was such a request. */
@@ -116,12 +139,16 @@ static bool refuse(size_t number, bool later) {
 }
 
 int main(int count, char **words) {
-    if (count != 3) {
-        fputs("usage: node_memory TABLES RANKS\n", stderr);
+    if (count == 4 && strcmp(words[1], "answered") == 0)
+        steps = answered;
+    else if (count == 4 && strcmp(words[1], "link_fails") == 0)
+        steps = link_fails;
+    if (steps == NULL) {
+        fputs("usage: node_memory answered|link_fails TABLES RANKS\n", stderr);
         return 2;
     }
-    tables_length = read_file(words[1], tables);
-    ranks_length = read_file(words[2], ranks);
+    tables_length = read_file(words[2], tables);
+    ranks_length = read_file(words[3], ranks);
     run();
     wanted = said;
     size_t number = 1;
