@@ -3,7 +3,8 @@
 use crate::running::Host;
 use crate::worker::{Locking, Turn, Worker};
 use link_rings::Held;
-use net_threads::Station;
+use net_threads::{Station, StationFault};
+use network_law::StepFault;
 use plan_threads::{Calls, Pump, PumpTurns};
 use run_plan::Plan;
 use std::alloc::{AllocError, Global};
@@ -22,6 +23,7 @@ impl<'s, 't, 'p> Worker<'s, 't, 'p> {
     /// happens, or for the turn that it couldn't make yet.
     fn put_pump<R: Wait>(&self, rt: &R, pump: Pump, turn: Turn) -> bool {
         let due = match turn {
+            _ if self.shared.is_full(self.n) => u64::MAX,
             Turn::Later => pump.next_counted(),
             _ => pump.due(),
         };
@@ -34,10 +36,19 @@ impl<'s, 't, 'p> Worker<'s, 't, 'p> {
         station.pump_by(&self.plan.faults, &mut pump.held);
         let more = station.has_packets();
         if pump.next_turn() {
-            let _ = station.apply(Input::new(Case::Tick));
+            self.tick(station);
         }
         self.shared.tell(self.alloc, self.n, station, calls);
         more
+    }
+
+    /// A tick of the node. Where its history is full, nothing changes there any more, and no later tick is waited for.
+    fn tick(&self, station: &mut Station<'_>) {
+        if let Err(StationFault::Step(StepFault::HistoryFull)) = station.apply(Input::new(
+            Case::Tick,
+        )) {
+            self.shared.note_full(self.n);
+        }
     }
 
     /// Makes a turn where one is left, nobody is due before it and the station is to be had.

@@ -10,6 +10,8 @@ use std::sync::atomic::{AtomicBool, AtomicU64};
 pub(crate) struct NodeState {
     /// How many of its pump and its host have not ended.
     pub working: AtomicU64,
+    /// Its history is full, so nothing changes there any more.
+    pub full: AtomicBool,
     /// How many entries of its trace need no look any more. Changes under the lock of its station alone.
     pub told: AtomicU64,
     /// Behind all entries that may have requests to its host.
@@ -31,6 +33,7 @@ impl NodeState {
     pub(crate) fn new(sessions: Vec<usize>) -> NodeState {
         NodeState {
             working: AtomicU64::new(0),
+            full: AtomicBool::new(false),
             told: AtomicU64::new(0),
             asked: AtomicU64::new(0),
             sessions,

@@ -182,16 +182,40 @@ impl PlanState {
             return;
         };
         if node.working.fetch_sub(1, Ordering::SeqCst) == 1 {
-            for place in node.sessions.iter() {
-                self.clock.tell(self.threads.session(*place));
-            }
+            self.tell_sessions(node);
         }
     }
 
-    /// Whether the pump and the host of a node have ended, so that no session there waits any longer.
+    /// The history of a node is full: its sessions hear it, the first time.
+    pub fn note_full(&self, n: usize) {
+        let Some(node) = self.nodes.get(n) else {
+            return;
+        };
+        if !node.full.swap(true, Ordering::SeqCst) {
+            self.tell_sessions(node);
+        }
+    }
+
+    /// Whether that was noted.
+    pub fn is_full(&self, n: usize) -> bool {
+        match self.nodes.get(n) {
+            Some(node) => node.full.load(Ordering::SeqCst),
+            None => false,
+        }
+    }
+
+    fn tell_sessions(&self, node: &NodeState) {
+        for place in node.sessions.iter() {
+            self.clock.tell(self.threads.session(*place));
+        }
+    }
+
+    /// Whether the pump and the host of a node have ended, or its history is full, so that no session there waits any longer.
     pub fn is_idle(&self, n: usize) -> bool {
         match self.nodes.get(n) {
-            Some(node) => node.working.load(Ordering::SeqCst) == 0,
+            Some(node) => {
+                node.working.load(Ordering::SeqCst) == 0 || node.full.load(Ordering::SeqCst)
+            }
             None => true,
         }
     }
