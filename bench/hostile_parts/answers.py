@@ -49,6 +49,8 @@ MESSAGE = re.compile(
 )
 BARE_FAULT = re.compile(rb"fault message " + MESSAGE_FAULT + rb"\n")
 
+# How many parts the input of a job has; that of frames has none.
+COUNTS = {"check": (2,), "make": (1,), "replay": (3,), "run": (3,), "decode": (1,), "frames": None}
 PARTS_OF_JOB = {
     "check": ("bundle", "tables", "ranks", "check"),
     "make": ("bundle", "tables"),
@@ -165,13 +167,12 @@ def problem_of(job, status, data, out, err):
     if err:
         return "words on standard error"
     if FAULT_OF_JOB[job].fullmatch(out):
-        return problem_of_fault(job, status, data, out)
+        return problem_of_fault(COUNTS[job], status, data, out)
     if len(data) > MOST_BYTES:
         return "an input that is too long was taken"
     if job in ("decode", "frames"):
         return problem_of_messages(status, data, out, job == "frames")
-    wanted = {"check": 2, "make": 1, "replay": 3, "run": 3}[job]
-    if len(parts_of(data)) != wanted:
+    if len(parts_of(data)) not in COUNTS[job]:
         return "another number of parts was taken"
     if status == 2:
         return "status 2 and no fault"
@@ -185,7 +186,8 @@ def problem_of(job, status, data, out, err):
     return problem_of_trace(data, out) if job == "replay" else problem_of_report(data, out)
 
 
-def problem_of_fault(job, status, data, out):
+def problem_of_fault(counts, status, data, out):
+    """What is wrong with a fault of an input that has to have one of these numbers of parts."""
     if status != 2:
         return f"a fault with status {status}"
     if b"memory" in out or b"threads" in out or b"bundle 3" in out:
@@ -193,10 +195,8 @@ def problem_of_fault(job, status, data, out):
     is_long = len(data) > MOST_BYTES
     if (out == b"fault bundle 2 too long\n") != is_long:
         return "a wrong length"
-    if not is_long and job != "frames":
-        wanted = {"check": 2, "make": 1, "replay": 3, "run": 3, "decode": 1}[job]
-        if (out == b"fault bundle 1 parts\n") != (len(parts_of(data)) != wanted):
-            return "a wrong number of parts"
+    if not is_long and counts and (out == b"fault bundle 1 parts\n") != (len(parts_of(data)) not in counts):
+        return "a wrong number of parts"
     return None
 
 

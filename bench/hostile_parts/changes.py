@@ -1,16 +1,42 @@
 """Inputs that are changed: fronts, each byte, and random changes."""
 
+import itertools
 import random
 import re
 from pathlib import Path
 
 EXAMPLES = Path(__file__).resolve().parents[2] / "examples"
 FIRST = EXAMPLES / "first"
+SHARED = EXAMPLES / "shared_limits"
 LINE = b"%%\n"
 
 # A request of 83 bytes with 7 elements, as in docs/FORMATS.md.
 REQUEST = b"01007220000100008000164111111111111111000000000000001000031409153000000106400001840"
 FRAME = len(REQUEST).to_bytes(2, "big") + REQUEST
+
+# Behind the tables and ranks of the shared limits: a script and a plan with each kind of line. A request is answered, and entered again.
+SCRIPT = b"""enter A %b
+take AH H 1
+tick A
+date H 0315
+host H 1 00
+take AH A 1
+up AH A
+lend A B 4111111111111111 0314 1
+down AH A
+""" % REQUEST
+PLAN = b"""PLAN 1
+turns 2000
+tick_every 10
+host H 1000
+lose AH 1
+delay AH 2 3
+repeat AH 1
+lend A B 4111111111111111 0314 1
+session 400001
+send %b
+END
+""" % REQUEST
 
 TOKENS = [
     b"%%\n", b"\n", b"\r\n", b" ", b"\t", b"\x00", b"\xff", b"\xef\xbb\xbf", b"\"", b"'''", b"\"\"\"", b"[", b"]", b"[[", b"{", b"}",
@@ -38,6 +64,39 @@ def some_bytes(data, rng, count):
     for place, byte in enumerate(data):
         for other in rng.sample([other for other in range(256) if other != byte], count):
             yield data[:place] + bytes([other]) + data[place + 1 :]
+
+
+def near_bytes(data):
+    """At each place with a digit the next digit, at each with a letter the next letter, and so on: 0 follows 9, and A follows Z."""
+    after = bytes.maketrans(b"0123456789ABCDEFGHIJKLMNOPQRSTUVWXYZabcdefghijklmnopqrstuvwxyz", b"1234567890BCDEFGHIJKLMNOPQRSTUVWXYZAbcdefghijklmnopqrstuvwxyza")
+    for place, byte in enumerate(data.translate(after)):
+        if byte != data[place]:
+            yield data[:place] + bytes([byte]) + data[place + 1 :]
+
+
+def share(inputs, step):
+    """One of so many inputs."""
+    return itertools.islice(inputs, 0, None, step)
+
+
+def changed_at(data, others, share=1):
+    """At each place, or one in so many, the byte changed to each of the others."""
+    for place in range(0, len(data), share):
+        for other in others:
+            yield data[:place] + bytes([other]) + data[place + 1 :]
+
+
+def changed_scripts():
+    """Each front of the script with each kind of line, and at each place bytes that mean something there."""
+    bundle = tables_and_ranks(SHARED) + LINE
+    return (bundle + script for script in (*fronts(SCRIPT), SCRIPT, *changed_at(SCRIPT, b"\x00\n %0179AHn\xff")))
+
+
+def changed_plans(share=1):
+    """The same of the plan, or one place in so many, with few turns, so that each run ends soon."""
+    bundle = tables_and_ranks(SHARED) + LINE
+    plans = (*list(fronts(PLAN))[::share], PLAN, *changed_at(PLAN, b"\n1H", share))
+    return (bundle + few_turns(plan) for plan in plans)
 
 
 def text_of(path):

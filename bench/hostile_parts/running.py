@@ -7,7 +7,8 @@ import time
 MIB = 1 << 20
 MOST_HELD = 64 * MIB
 
-WORDS = {
+# The words of each job of card_switch, and of network_view.
+SWITCH = {
     "check": ("check",),
     "make": ("make",),
     "replay": ("replay",),
@@ -15,6 +16,16 @@ WORDS = {
     "decode": ("decode",),
     "frames": ("decode", "--frames"),
 }
+VIEW = {
+    "card": ("card", "4111111111111111"),
+    "card_object": ("card", "--json", "4111111111111111"),
+    "refusals": ("refusals",),
+    "refusal_objects": ("refusals", "--json"),
+    "picture": ("picture",),
+    "graph": ("picture", "--dot"),
+    "trace": ("trace",),
+}
+WORDS = {**SWITCH, **VIEW}
 
 
 class TooSlow(Exception):

@@ -7,6 +7,7 @@ from pathlib import Path
 
 import answers
 import changes
+import judging
 from running import WORDS, Runner, TooSlow
 
 TOP = Path(__file__).resolve().parents[2]
@@ -103,7 +104,7 @@ def try_system(program, name, trial):
 
 
 def of_job(job, inputs):
-    return ((job, data, answers.problem_of) for data in inputs)
+    return ((job, data, judging.problem_of) for data in inputs)
 
 
 def fronts_and_bytes(data):
@@ -114,5 +115,5 @@ def tell(parts, more=""):
     """Runs all parts, prints how many runs they had, and gives the exit status."""
     parts = list(parts)
     runs, failures = sum(part.runs for part in parts), sum(part.failures for part in parts)
-    print(f"hostile: {runs} runs, {failures} failed{more}")
+    print(f"hostile: {runs - failures} passed, {failures} failed{more}")
     return 1 if failures else 0

@@ -123,9 +123,9 @@ def read_file(path):
 
 
 def read_folder(folder):
-    """All networks and all cases of a folder's files, file by file."""
+    """All networks and all cases of a folder's files, file by file, that of the shared networks first."""
     networks, cases = [], []
-    for path in sorted(folder.glob("*.txt")):
+    for path in sorted(folder.glob("*.txt"), key=lambda path: (path.name != "networks.txt", path.name)):
         found, some = read_file(path)
         networks.extend(found)
         cases.extend(some)

@@ -6,7 +6,7 @@ import subprocess
 from pathlib import Path
 
 TOP = Path(__file__).resolve().parent.parent.parent
-COUNTED = re.compile(r"([0-9]+) passed(?:, ([0-9]+) failed)?")
+COUNTED = re.compile(r"([0-9]+) passed, [0-9]+ failed")
 
 
 class Part:
@@ -20,12 +20,15 @@ class Part:
         return [need for need in self.needs if not is_there(need)]
 
     def run(self):
-        """Whether it passed, how many tests it says that it ran, and what it printed."""
-        done = subprocess.run([TOP / self.words[0], *self.words[1:]], cwd=TOP, capture_output=True, text=True, errors="replace", check=False)
+        """Whether it passed, how many tests passed by its last count, and what it printed."""
+        command = [TOP / self.words[0], *self.words[1:]]
+        try:
+            done = subprocess.run(command, cwd=TOP, capture_output=True, text=True, errors="replace", check=False)
+        except OSError as error:
+            return False, 0, str(error)
         printed = done.stdout + done.stderr
         counted = COUNTED.findall(printed)
-        passed = sum(int(count) for count, _ in counted) or 1
-        return done.returncode == 0, passed, printed
+        return done.returncode == 0, int(counted[-1]) if counted else 1, printed
 
 
 def is_there(need):
@@ -38,18 +41,20 @@ def is_there(need):
 
 
 def parts(programs, is_long):
-    """The parts, of which those that are named 'all of ..' take long."""
+    """The parts, those that take longest first. Of never_stale and hostile it is a share, but for a long run."""
     card_switch, network_view = str(programs / "card_switch"), str(programs / "network_view")
     library = str(programs / "libcard_switch.so.1")
+    yield Part("hostile", ["tests/hostile", *(["--all"] if is_long else []), card_switch, network_view])
+    yield Part("embedded", ["tests/embedded", card_switch], ["cc", "c++", "nm"], "gcc, g++ and binutils")
+    yield Part("never_stale", ["tests/never_stale", *([] if is_long else ["quick"])], ["git"], "git")
     yield Part("codec", ["tests/codec", library])
     yield Part("calls", ["tests/calls", library])
     yield Part("record", ["tests/recorded"])
     yield Part("examples", ["tests/examples", card_switch, network_view])
-    yield Part("schema", ["tests/schema"], ["python:jsonschema"], "python3-jsonschema")
-    yield Part("pipeline", ["tests/pipeline"])
-    yield Part("never_stale", ["tests/never_stale"])
-    yield Part("embedded", ["tests/embedded", card_switch], ["cc", "c++", "nm"], "gcc, g++ and binutils")
-    yield Part("hostile", ["tests/hostile", card_switch, network_view])
+    yield Part("pipeline", ["tests/pipeline", str(programs)])
+    yield Part("schema", ["tests/schema"], ["python:tomllib", "python:jsonschema"], "Python 3.11 or later and its package jsonschema")
+    yield Part("rows_in_order", ["tests/rows_in_order", card_switch])
+    yield Part("made_ranks", ["tests/made_ranks", card_switch, network_view])
     if is_long:
         yield Part("all of hostile", ["bench/hostile"])
         yield Part("all of soak", ["bench/soak"])
