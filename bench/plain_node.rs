@@ -1,4 +1,4 @@
-//! The cycle of `crates/node_bench` as a careful plain Rust program, to measure beside it: a request is entered and put on a link, and
+//! The row `answered` of `bench/embedded_parts/node.c` as a careful plain Rust program, to measure beside it: a request is entered and put on a link, and
 //! its approval is taken and answers it. Like the node it checks what it reads, knows repeated requests, and keeps every input and
 //! output: their bytes stand one behind the other in one buffer, so that no step asks for memory of its own.
 use std::collections::HashMap;

@@ -14,6 +14,30 @@ LINE = b"%%\n"
 REQUEST = b"01007220000100008000164111111111111111000000000000001000031409153000000106400001840"
 FRAME = len(REQUEST).to_bytes(2, "big") + REQUEST
 
+# Behind the tables and ranks of the shared limits: a script and a plan with each kind of line. A request is answered, and entered again.
+SCRIPT = b"""enter A %b
+take AH H 1
+tick A
+date H 0315
+host H 1 00
+take AH A 1
+up AH A
+lend A B 4111111111111111 0314 1
+down AH A
+""" % REQUEST
+PLAN = b"""PLAN 1
+turns 2000
+tick_every 10
+host H 1000
+lose AH 1
+delay AH 2 3
+repeat AH 1
+lend A B 4111111111111111 0314 1
+session 400001
+send %b
+END
+""" % REQUEST
+
 TOKENS = [
     b"%%\n", b"\n", b"\r\n", b" ", b"\t", b"\x00", b"\xff", b"\xef\xbb\xbf", b"\"", b"'''", b"\"\"\"", b"[", b"]", b"[[", b"{", b"}",
     b"=", b".", b"#", b"\\u0000", b"-1", b"0", b"00", b"1e400", b"inf", b"nan", b"true", b"1979-05-27", b"65535", b"65536",
@@ -53,6 +77,26 @@ def near_bytes(data):
 def share(inputs, step):
     """One of so many inputs."""
     return itertools.islice(inputs, 0, None, step)
+
+
+def changed_at(data, others, share=1):
+    """At each place, or one in so many, the byte changed to each of the others."""
+    for place in range(0, len(data), share):
+        for other in others:
+            yield data[:place] + bytes([other]) + data[place + 1 :]
+
+
+def changed_scripts():
+    """Each front of the script with each kind of line, and at each place bytes that mean something there."""
+    bundle = tables_and_ranks(SHARED) + LINE
+    return (bundle + script for script in (*fronts(SCRIPT), SCRIPT, *changed_at(SCRIPT, b"\x00\n %0179AHn\xff")))
+
+
+def changed_plans(share=1):
+    """The same of the plan, or one place in so many, with few turns, so that each run ends soon."""
+    bundle = tables_and_ranks(SHARED) + LINE
+    plans = (*list(fronts(PLAN))[::share], PLAN, *changed_at(PLAN, b"\n1H", share))
+    return (bundle + few_turns(plan) for plan in plans)
 
 
 def text_of(path):

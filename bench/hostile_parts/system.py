@@ -1,13 +1,19 @@
 """What the system does to a run: readers and writers that fail, command lines, memory that is short."""
 
 import errno
+import fcntl
 import os
 import random
 import resource
 import shutil
+import signal
+import socket
+import struct
 import subprocess
 import sys
 import tempfile
+import termios
+import time
 from pathlib import Path
 
 import answers
@@ -16,6 +22,11 @@ import judging
 from running import SWITCH, VIEW, WORDS
 
 SECONDS = 60
+# How many bytes a call of a reader gives that fails later, and after how many of the first calls it is tried.
+PIECE = 64
+MOST_PIECES = 40
+# How many reads may fail to reach the end of an input.
+MOST_READS = 33_554_432
 USAGE = b"usage: card_switch check|make|replay|run|decode [--frames]\n"
 VIEW_USAGE = (
     b"usage: network_view card N [--json]\n       network_view refusals [--json]\n       network_view picture [--prefix P] [--dot]\n"
@@ -111,6 +122,8 @@ def try_readers(program, jobs=SWITCH):
                 problem = None if (run.returncode, run.stdout, run.stderr) == (2, want, b"") else f"{run}"
             yield (f"{job}: a reader that is {name}", problem)
         yield (f"{job}: a reader that is closed", closed_reader(program, words, job))
+    yield from broken_readers(program, jobs)
+    yield from interrupted_readers(program, jobs)
 
 
 def closed_reader(program, words, job):
@@ -119,6 +132,54 @@ def closed_reader(program, words, job):
     if run.stdout == b"fault bundle 3 read\n":
         return None if run.returncode == 2 else f"status {run.returncode}"
     return judging.problem_of(job, run.returncode, b"", run.stdout, run.stderr)
+
+
+def wait_taken(sender):
+    """Waits until all that was sent was read."""
+    end = time.monotonic() + SECONDS
+    while struct.unpack("i", fcntl.ioctl(sender, termios.TIOCOUTQ, b"\0" * 4))[0] and time.monotonic() < end:
+        time.sleep(0)
+
+
+def broken_run(program, words, pieces):
+    """A run whose reader gives these pieces, one for each call, and fails at the next call: its other end goes away with a byte that it hasn't read."""
+    sender, reader = socket.socketpair()
+    reader.send(b"x")
+    child = subprocess.Popen([program, *words], stdin=reader, stdout=subprocess.PIPE, stderr=subprocess.PIPE, env={})
+    reader.close()
+    for piece in pieces:
+        sender.sendall(piece)
+        wait_taken(sender)
+    sender.close()
+    out, err = child.communicate(timeout=SECONDS)
+    return child.returncode, out, err
+
+
+def broken_readers(program, jobs):
+    """Readers that fail at each call: after no piece, after each of the first, and after all. A part of an input is none."""
+    wanted = (2, b"fault bundle 3 read\n", b"")
+    for job, data in first_view_inputs() if jobs is VIEW else first_inputs():
+        pieces = [data[place : place + PIECE] for place in range(0, len(data), PIECE)]
+        for count in (*range(min(len(pieces), MOST_PIECES)), len(pieces)):
+            answer = broken_run(program, WORDS[job], pieces[:count])
+            yield (f"{job}: a reader that fails after {count} pieces", None if answer == wanted else f"{answer}")
+
+
+def interrupted_readers(program, jobs):
+    """Readers that are interrupted at each call. So many calls are made and no more."""
+    with tempfile.TemporaryDirectory() as folder:
+        made = library(folder, "interrupt_reads")
+        if made is None:
+            return
+        for job, words in jobs.items():
+            counted = os.memfd_create("reads")
+            os.ftruncate(counted, 8)
+            run = preloaded(program, words, [f"LD_PRELOAD={made}"], counted, stdin=subprocess.DEVNULL)
+            reads = int.from_bytes(os.pread(counted, 8, 0), sys.byteorder)
+            os.close(counted)
+            answer = (run.returncode, run.stdout, run.stderr, reads)
+            wanted = (2, b"fault bundle 3 read\n", b"", MOST_READS)
+            yield (f"{job}: a reader that is interrupted each time", None if answer == wanted else f"{answer}")
 
 
 def try_pieces(program, inputs=first_inputs):
@@ -154,6 +215,31 @@ def try_writers(program, inputs=first_inputs):
         run = started(program, WORDS[job], input=data, stdout=None, preexec_fn=lambda: os.close(1))
         good = run.returncode == 2 and run.stderr == b""
         yield (f"{job}: a writer that is closed", None if good else f"status {run.returncode}, {run.stderr[:60]}")
+    yield from full_writers(program)
+
+
+def cut_file(size):
+    """Files of the program get no longer than this; a write that would make one longer fails."""
+
+    def begin():
+        signal.signal(signal.SIGXFSZ, signal.SIG_IGN)
+        resource.setrlimit(resource.RLIMIT_FSIZE, (size, size))
+
+    return begin
+
+
+def full_writers(program):
+    """Writers that fail after so many bytes: that front of the output was written then, and nothing is said. The last one takes all."""
+    for job, data in first_inputs():
+        whole = started(program, WORDS[job], input=data)
+        for count in (*range(0, len(whole.stdout), PIECE // 4), len(whole.stdout) - 1, len(whole.stdout)):
+            with tempfile.TemporaryFile() as file:
+                run = started(program, WORDS[job], input=data, stdout=file, preexec_fn=cut_file(count))
+                file.seek(0)
+                written = file.read()
+            is_all = count == len(whole.stdout)
+            good = (run.returncode, written, run.stderr) == (whole.returncode if is_all else 2, whole.stdout[:count], b"")
+            yield (f"{job}: a writer that fails after {count} bytes", None if good else f"status {run.returncode}, {len(written)} bytes")
 
 
 def try_early_ends(program):
@@ -223,31 +309,30 @@ def long_bundle(size):
     return b"#" * (size - len(bundle) - 1) + b"\n" + bundle
 
 
-def library(folder):
-    """The library that refuses memory, built by the system's C compiler, or nothing where there is none."""
+def library(folder, name):
+    """A library of this folder, built by the system's C compiler, or nothing where there is none."""
     compiler = shutil.which("cc")
     if compiler is None:
+        print(f"{name}: no C compiler, left out", file=sys.stderr)
         return None
-    made = Path(folder) / "refuse_memory.so"
-    subprocess.run([compiler, "-O1", "-shared", "-fPIC", "-o", made, HERE / "refuse_memory.c"], check=True)
+    made = Path(folder) / f"{name}.so"
+    subprocess.run([compiler, "-O1", "-shared", "-fPIC", "-o", made, HERE / f"{name}.c"], check=True)
     return made
+
+
+def preloaded(program, words, settings, marks, **rest):
+    """A run with these settings, one of which names a library, whose file 9 is the one for marks."""
+    # Nothing is done to 'env': the library is loaded into the program alone.
+    command = ["/usr/bin/env", "-i", *settings, program, *words]
+    rest.update(stdout=subprocess.PIPE, stderr=subprocess.PIPE, timeout=SECONDS, close_fds=False, preexec_fn=lambda: os.dup2(marks, 9))
+    return subprocess.run(command, **rest)
 
 
 def refused_run(program, words, data, made, number, later):
     """A run with a refusal, and how many requests were refused."""
     marks = os.memfd_create("marks")
-    # 'env' is not refused anything: the library is loaded into the program alone.
     settings = [f"LD_PRELOAD={made}", f"REFUSE={number}", *(["REFUSE_LATER=1"] if later else [])]
-    command = ["/usr/bin/env", "-i", *settings, program, *words]
-    run = subprocess.run(
-        command,
-        input=data,
-        stdout=subprocess.PIPE,
-        stderr=subprocess.PIPE,
-        timeout=SECONDS,
-        close_fds=False,
-        preexec_fn=lambda: os.dup2(marks, 9),
-    )
+    run = preloaded(program, words, settings, marks, input=data)
     count = os.fstat(marks).st_size
     os.close(marks)
     return run, count
@@ -256,9 +341,8 @@ def refused_run(program, words, data, made, number, later):
 def refused_runs(program, words, data, later, step=1):
     """Runs in which each request for memory is refused in turn, or one of so many, up to one that meets no refusal."""
     with tempfile.TemporaryDirectory() as folder:
-        made = library(folder)
+        made = library(folder, "refuse_memory")
         if made is None:
-            print("refused memory: no C compiler, left out", file=sys.stderr)
             return
         number, met = 1, 1
         while met and number < 5000:

@@ -1,6 +1,6 @@
 """Networks of cases: tables and ranks by rows, each a word for its kind and the values of its columns."""
 
-from texts import CaseError, block_text
+from texts import RANGE, CaseError, block_text, for_each_number
 
 # The columns of each kind of row, and how a value is written: as a text, as a number, or as a list of all values that are left.
 TEXT, NUMBER, REST = "text", "number", "rest"
@@ -41,6 +41,12 @@ def row_text(kind, words):
     return "".join([f"[[{kind}]]\n", *(f"{column} = {lines[column]}\n" for column in order)])
 
 
+def rows_said(text):
+    """The row, or behind `FIRST..LAST` one for each number, which stands in it in place of #."""
+    count, _, row = text.partition(" ")
+    return for_each_number(count, row) if RANGE.fullmatch(count) else [text]
+
+
 def settings_text(rows):
     values = dict(SETTINGS)
     for words in rows:
@@ -64,7 +70,7 @@ class Network:
         tables, ranks = self.text, self.rank_text
         for one in directives:
             if one.word in KINDS:
-                rows[one.word].append(one.rest.split())
+                rows[one.word].extend(row.split() for row in rows_said(one.rest))
             elif one.word == "tables":
                 tables = block_text(one.block, purchases)
             elif one.word == "ranks":

@@ -37,14 +37,27 @@ def own_text(case, word, purchases):
     return directive_text(found[0], purchases) if found else None
 
 
-def parts_of(case, networks, purchases, job):
-    """The parts of the input, in order: tables and ranks, of a network where the case doesn't give them, and then its script, plan and other parts."""
-    network = network_of(case, networks, purchases)
+def in_two_places(tables, rows):
+    """Tables with further rows: behind all others, and right behind the settings."""
+    if not rows:
+        return [tables]
+    front, mark, back = tables.partition("[[")
+    return [tables + rows, front + rows + mark + back]
+
+
+def all_tables(case, network, purchases):
+    """The tables of the case: none, one text, or with `further` rows two."""
     tables = own_text(case, "tables", purchases)
+    if tables is None and network is not None:
+        tables = network.tables()
+    rows = "".join(directive_text(one, purchases) for one in case.directives if one.word == "further")
+    return [] if tables is None else in_two_places(tables, rows)
+
+
+def parts_of(case, network, tables, purchases, job):
+    """The parts of the input, in order: tables and ranks, of a network where the case doesn't give them, and then its script, plan and other parts."""
     ranks = own_text(case, "ranks", purchases)
-    parts = []
-    if tables is not None or network is not None:
-        parts.append(tables if tables is not None else network.tables())
+    parts = [] if tables is None else [tables]
     if ranks is not None or (network is not None and job != "make"):
         parts.append(ranks if ranks is not None else network.ranks())
     for one in case.directives:
@@ -66,15 +79,22 @@ def changed(case, text):
     return text
 
 
-def input_of(case, networks, purchases, job):
+def input_of(case, parts, purchases):
     whole = own_text(case, "input", purchases)
-    parts = parts_of(case, networks, purchases, job)
     if whole is not None and parts:
         raise CaseError("a whole input and parts of one")
     text = whole if whole is not None else "%%\n".join(parts)
     if any(one.word == "carriage_returns" for one in case.directives):
         text = text.replace("\n", "\r\n")
     return as_bytes(changed(case, text))
+
+
+def inputs_of(case, networks, purchases, job):
+    """The inputs with which the case is run: one, two with `further` rows, and each as many times as `times` says."""
+    network = network_of(case, networks, purchases)
+    tables = all_tables(case, network, purchases) or [None]
+    inputs = [input_of(case, parts_of(case, network, one, purchases, job), purchases) for one in tables]
+    return inputs * int(last_said(case, "times") or 1)
 
 
 def difference(wanted, printed):
@@ -84,14 +104,13 @@ def difference(wanted, printed):
     return "\n".join(line[:300] for line in shown[:SHOWN])
 
 
-def first_word(case, word):
-    for one in case.directives:
-        if one.word == word:
-            return one.rest
-    return None
+def last_said(case, word):
+    """What stands behind a word where the case says it last: what is given for a whole file comes first."""
+    return next((one.rest for one in reversed(case.directives) if one.word == word), None)
 
 
-WORDS = {"run", "network", "with", "without", "change", "to", "carriage_returns", "input", "purchase", "prints", "or", "has", "lacks", "status", "complains", *PARTS}
+INPUT_WORDS = {"network", "with", "without", "further", "change", "to", "carriage_returns", "input", "purchase", "times", *PARTS}
+WORDS = {"run", *INPUT_WORDS, "prints", "or", "has", "lacks", "status", "complains"}
 
 
 def wanted_texts(case, purchases):
@@ -114,7 +133,7 @@ def compare(case, purchases, status, printed, complained):
     for piece in absent:
         if piece in printed:
             raise CaseFailed(f"printed: {piece.decode('latin-1')}")
-    wanted_status = int(first_word(case, "status") or 0)
+    wanted_status = int(last_said(case, "status") or 0)
     if status != wanted_status:
         raise CaseFailed(f"status {status} for {wanted_status}")
     complains = [unescaped(one.rest) for one in case.directives if one.word == "complains"]
@@ -139,6 +158,12 @@ class Programs:
         return done.returncode, done.stdout, done.stderr
 
 
+def checked_ranks(programs, tables):
+    """What `check` says of tables with the ranks that `make` makes for them, or what `make` says where it makes none."""
+    status, made, complained = programs.run("card_switch", ["make"], tables)
+    return programs.run("card_switch", ["check"], tables + b"%%\n" + made) if status == 0 else (status, made, complained)
+
+
 def run_program_case(case, networks, programs):
     """Runs a case of a program. `run made_ranks` has `card_switch make` make ranks for tables, and `card_switch check` check them."""
     purchases = Purchases()
@@ -147,13 +172,10 @@ def run_program_case(case, networks, programs):
             raise CaseError(f"'{one.word}' is no word of a program's case")
         if one.word == "purchase":
             purchases.add(one.rest)
-    name, *arguments = [unescaped(word) for word in first_word(case, "run").split()]
-    if name == "made_ranks":
-        tables = input_of(case, networks, purchases, "make")
-        status, made, complained = programs.run("card_switch", ["make"], tables)
-        if status == 0:
-            status, made, complained = programs.run("card_switch", ["check"], tables + b"%%\n" + made)
-        compare(case, purchases, status, made, complained)
-        return
-    data = input_of(case, networks, purchases, arguments[0] if arguments else "")
-    compare(case, purchases, *programs.run(name, arguments, data))
+    name, *arguments = [unescaped(word) for word in last_said(case, "run").split()]
+    job = "make" if name == "made_ranks" else arguments[0] if arguments else ""
+    for data in inputs_of(case, networks, purchases, job):
+        if name == "made_ranks":
+            compare(case, purchases, *checked_ranks(programs, data))
+        else:
+            compare(case, purchases, *programs.run(name, arguments, data))

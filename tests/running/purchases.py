@@ -14,7 +14,10 @@ FIELDS = {
     "trace": "000001",
     "date": "0314",
     "currency": "840",
+    "reversed_under": "900000",
 }
+# The time, trace number and acquirer of a reversal.
+REVERSING = "0314091600{reversed_under}06{acquirer}"
 ORIGINAL = "0100{trace}031409153000000{acquirer}00000000000"
 # Each form: the names of its words, and its elements in ascending order. {0} and so on are the words.
 FORMS = {
@@ -34,15 +37,15 @@ FORMS = {
         ("TYPE", "NODE", "CODE"),
         "{0}F222000182008000000000400000000016{card}000000{amount}0314091530{trace}{date}06{acquirer}04{1}{2}{currency}" + ORIGINAL,
     ),
-    # The acquirer's reversal, under trace number 900000.
-    "reversal": (("TYPE",), "{0}F220000100008000000000400000000016{card}000000{amount}031409160090000006{acquirer}{currency}" + ORIGINAL),
+    # The acquirer's reversal, under a trace number of its own.
+    "reversal": (("TYPE",), "{0}F220000100008000000000400000000016{card}000000{amount}" + REVERSING + "{currency}" + ORIGINAL),
     # The same, that leaves an actual amount, with element 95.
     "partial_reversal": (
         ("TYPE", "AMOUNT"),
-        "{0}F220000100008000000000420000000016{card}000000{amount}031409160090000006{acquirer}{currency}" + ORIGINAL + "{1}000000000000C00000000C00000000",
+        "{0}F220000100008000000000420000000016{card}000000{amount}" + REVERSING + "{currency}" + ORIGINAL + "{1}000000000000C00000000C00000000",
     ),
     # The response to it, or the acknowledgement.
-    "reversal_response": (("TYPE", "CODE"), "{0}F220000102008000000000400000000016{card}000000{amount}031409160090000006{acquirer}{1}{currency}" + ORIGINAL),
+    "reversal_response": (("TYPE", "CODE"), "{0}F220000102008000000000400000000016{card}000000{amount}" + REVERSING + "{1}{currency}" + ORIGINAL),
 }
 BRACES = re.compile(r"\{([a-z][a-z_0-9]*) ([a-z_]+(?: [0-9A-Za-z]+)*)\}")
 

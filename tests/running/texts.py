@@ -4,7 +4,7 @@ import re
 
 ESCAPES = {"n": "\n", "t": "\t", "r": "\r", "\\": "\\", "s": " "}
 ESCAPE = re.compile(r"\\(x[0-9A-Fa-f]{2}|.)", re.DOTALL)
-REPEATED = re.compile(r"(?:([0-9]+)\.\.)?([0-9]+) ?(.*)")
+RANGE = re.compile(r"([0-9]+)\.\.([0-9]+)")
 
 
 class CaseError(Exception):
@@ -41,31 +41,28 @@ def line_text(text, purchases):
         return purchases.filled(rest) + "\n"
     if mark == "=":
         return unescaped(purchases.filled(rest))
-    if text.startswith("*="):
-        return repeated_piece(text[2:].strip(" "), purchases)
     if mark == "*":
         return repeated(rest, purchases)
-    raise CaseError(f"a line of a text begins with | or = or * or *=: {text}")
+    raise CaseError(f"a line of a text begins with | or = or *: {text}")
 
 
-def repeated_piece(text, purchases):
-    """`COUNT TEXT` is a text with escapes so many times, without an end of a line."""
-    count, _, piece = text.partition(" ")
-    if not count.isdigit():
-        raise CaseError(f"no count and text: {text}")
-    return unescaped(purchases.filled(piece)) * int(count)
+def for_each_number(range_text, text):
+    """The text for each number of `FIRST..LAST`, which stands in it in place of #. Where FIRST begins with 0, all numbers have as many digits."""
+    first, last = RANGE.fullmatch(range_text).groups()
+    width = len(first) if first.startswith("0") else 0
+    return [text.replace("#", str(number).zfill(width)) for number in range(int(first), int(last) + 1)]
 
 
 def repeated(text, purchases):
-    """`COUNT TEXT` is so many lines; `FIRST..LAST TEXT` is one for each number, which stands in it in place of #."""
-    match = REPEATED.fullmatch(text)
-    if match is None:
-        raise CaseError(f"no count and text: {text}")
-    first, last, line = match.groups()
+    """`COUNT LINE` is so many lines, `FIRST..LAST LINE` one for each number; `= TEXT` in place of LINE has escapes and no end of a line of its own."""
+    count, _, line = text.partition(" ")
     line = purchases.filled(line)
-    if first is None:
-        return (line + "\n") * int(last)
-    return "".join(line.replace("#", str(number)) + "\n" for number in range(int(first), int(last) + 1))
+    one = unescaped(line[2:]) if line.startswith("= ") else line + "\n"
+    if count.isdigit():
+        return one * int(count)
+    if RANGE.fullmatch(count) is None:
+        raise CaseError(f"no count and text: {text}")
+    return "".join(for_each_number(count, one))
 
 
 def block_text(block, purchases):

@@ -3,8 +3,6 @@
 
 mod job;
 mod parse;
-#[cfg(test)]
-mod tests;
 
 pub use job::Job;
 pub use parse::job_of;

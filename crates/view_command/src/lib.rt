@@ -4,8 +4,6 @@
 mod app;
 mod job;
 mod parse;
-#[cfg(test)]
-mod tests;
 
 pub use job::{Drawing, Format, Job};
 pub use parse::{help_of, job_of};

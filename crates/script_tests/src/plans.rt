@@ -1,3 +1,0 @@
-//! The text of plans.
-mod lines;
-mod malformed;

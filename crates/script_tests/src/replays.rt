@@ -1,3 +1,0 @@
-//! Scripts that run on a network of two nodes.
-mod scripts;
-mod tests;
