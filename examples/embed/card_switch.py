@@ -9,7 +9,6 @@ LIBRARY is the shared library, release/libcard_switch.so.1."""
 import contextlib
 import ctypes
 import sys
-import tomllib
 
 CS_DONE, CS_REFUSED, CS_TOO_SMALL, CS_NO_MEMORY = 0, 1, 3, 4
 CS_ENTER, CS_TAKE, CS_LINK_UP, CS_LINK_DOWN, CS_TICK, CS_HOST_ANSWER, CS_NEW_DATE, CS_LEND = range(1, 9)
@@ -217,6 +216,8 @@ class Script:
 
 
 def run_nodes(library, paths):
+    import tomllib  # Of Python 3.11 and later; nothing else here needs it.
+
     tables, ranks, script = (open(path, "rb").read() for path in paths)
     names = [node["name"].encode() for node in tomllib.loads(tables.decode())["node"]]
     with contextlib.ExitStack() as stack:
