@@ -215,7 +215,7 @@ def try_writers(program, inputs=first_inputs):
         run = started(program, WORDS[job], input=data, stdout=None, preexec_fn=lambda: os.close(1))
         good = run.returncode == 2 and run.stderr == b""
         yield (f"{job}: a writer that is closed", None if good else f"status {run.returncode}, {run.stderr[:60]}")
-    yield from full_writers(program)
+    yield from full_writers(program, inputs)
 
 
 def cut_file(size):
@@ -228,9 +228,9 @@ def cut_file(size):
     return begin
 
 
-def full_writers(program):
+def full_writers(program, inputs):
     """Writers that fail after so many bytes: that front of the output was written then, and nothing is said. The last one takes all."""
-    for job, data in first_inputs():
+    for job, data in inputs():
         whole = started(program, WORDS[job], input=data)
         for count in (*range(0, len(whole.stdout), PIECE // 4), len(whole.stdout) - 1, len(whole.stdout)):
             with tempfile.TemporaryFile() as file:
@@ -373,19 +373,3 @@ def try_refused_cut_frame(program, step=1):
         for what, run in refused_runs(program, WORDS["frames"], data, later, step):
             good = (run.returncode, run.stdout) in wanted
             yield (f"frames, the second cut: {what}", None if good else f"status {run.returncode}: {run.stdout[-80:]}")
-
-
-def try_refused_steps(_program):
-    """A node's steps, each tried again where it was refused memory: they put out what they put out otherwise."""
-    steps = TOP / "crates" / "step_retry" / "out" / "step_retry"
-    if not steps.exists():
-        print("steps tried again: crates/step_retry is not built (rt ci builds it), left out", file=sys.stderr)
-        return
-    whole = (TOP / "crates" / "step_retry" / "stdout").read_bytes()
-    for later in (False, True):
-        for what, run in refused_runs(steps, [], b"", later):
-            good = (run.returncode, run.stdout) == (0, whole)
-            # The tables and the node itself may want memory; and where all later requests are refused, no try helps.
-            lines = run.stdout.removesuffix(b"memory\n")
-            short = run.returncode == 2 and lines != run.stdout and (whole.startswith(lines) if later else lines == b"")
-            yield (f"steps: {what}", None if good or short else f"status {run.returncode}: {run.stdout[-80:]}")

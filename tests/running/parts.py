@@ -58,4 +58,4 @@ def parts(programs, is_long):
     yield Part("made_ranks", ["tests/made_ranks", card_switch, network_view])
     if is_long:
         yield Part("all of hostile", ["bench/hostile"])
-        yield Part("all of soak", ["bench/soak"])
+        yield Part("all of soak", ["bench/soak", card_switch])
