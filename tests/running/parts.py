@@ -50,6 +50,7 @@ def parts(programs, is_long):
     yield Part("codec", ["tests/codec", library])
     yield Part("calls", ["tests/calls", library])
     yield Part("record", ["tests/recorded"])
+    yield Part("pages", ["tests/pages"])
     yield Part("examples", ["tests/examples", card_switch, network_view])
     yield Part("pipeline", ["tests/pipeline", str(programs)])
     yield Part("schema", ["tests/schema"], ["python:tomllib", "python:jsonschema"], "Python 3.11 or later and its package jsonschema")
