@@ -14,7 +14,7 @@ use table_checker::{Accepted, check};
 /// The grant of all that A may lend B.
 const GRANT: &[u8] = b"GRNT000000010010000000001000000010031641111111111111110314000000000300";
 
-/// An order to lend B an amount, in digits.
+/// An order to lend B an amount, in twelve digits.
 fn order(amount: &[u8]) -> Result<Lending, DigitFault> {
     Ok(Lending {
         borrower: NodeNo::new(1),
@@ -37,14 +37,14 @@ fn lend(
 /// The node refuses to lend nothing, has done nothing then, and lends all that it may.
 fn lends_all_but_nothing(alloc: Global, node: &mut Node) -> Result<(), Fail> {
     let mut outputs = Outputs::new();
-    let nothing = lend(alloc, node, order(b"0")?, &mut outputs)?;
+    let nothing = lend(alloc, node, order(b"000000000000")?, &mut outputs)?;
     if nothing != Some(StepFault::NotLent)
         || !outputs.as_slice().is_empty()
         || !node.trace().is_empty()
     {
         return Err("nothing is lent".into());
     }
-    let all = lend(alloc, node, order(b"300")?, &mut outputs)?;
+    let all = lend(alloc, node, order(b"000000000300")?, &mut outputs)?;
     match outputs.as_slice() {
         [output] if all.is_none() && output.bytes() == GRANT => Ok(()),
         _ => Err("all is not lent".into()),
