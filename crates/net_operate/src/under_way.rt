@@ -57,13 +57,13 @@ impl<'s, 't, 'p> Worker<'s, 't, 'p> {
 }
 
 /// Takes what is under way at all nodes until nothing is, once all threads have ended. No clock ticks, so that comes to an end.
-pub(crate) fn take_all_under_way<H: Host, R: Wait>(
+pub(crate) fn take_all_under_way<'s, 't, 'p, H: Host, R: Wait>(
     rt: &R,
     alloc: Global,
-    stations: &Vec<Mutex<Station<'_>>>,
-    plan: &Plan<'_>,
+    stations: &'s Vec<Mutex<Station<'t>>>,
+    plan: &'s Plan<'p>,
     hosts: &[H],
-    shared: &PlanState,
+    shared: &'s PlanState,
 ) {
     let mut calls = Calls::none(alloc);
     for _ in rt.forever() {
