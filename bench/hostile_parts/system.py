@@ -215,7 +215,7 @@ def try_writers(program, inputs=first_inputs):
         run = started(program, WORDS[job], input=data, stdout=None, preexec_fn=lambda: os.close(1))
         good = run.returncode == 2 and run.stderr == b""
         yield (f"{job}: a writer that is closed", None if good else f"status {run.returncode}, {run.stderr[:60]}")
-    yield from full_writers(program)
+    yield from full_writers(program, inputs)
 
 
 def cut_file(size):
@@ -228,9 +228,9 @@ def cut_file(size):
     return begin
 
 
-def full_writers(program):
+def full_writers(program, inputs):
     """Writers that fail after so many bytes: that front of the output was written then, and nothing is said. The last one takes all."""
-    for job, data in first_inputs():
+    for job, data in inputs():
         whole = started(program, WORDS[job], input=data)
         for count in (*range(0, len(whole.stdout), PIECE // 4), len(whole.stdout) - 1, len(whole.stdout)):
             with tempfile.TemporaryFile() as file:
