@@ -3,7 +3,7 @@
 import sys
 from pathlib import Path
 
-sys.path.insert(0, str(Path(__file__).resolve().parent.parent.parent / "examples" / "embed"))
+sys.path.insert(0, str(Path(__file__).resolve().parent.parent.parent / "python"))
 import card_switch
 
 NAME = "libcard_switch.so.1"

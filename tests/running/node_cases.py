@@ -14,7 +14,7 @@ from program_cases import network_of
 from purchases import Purchases
 from texts import CaseError, CaseFailed, as_bytes, unescaped
 
-sys.path.insert(0, str(Path(__file__).resolve().parent.parent.parent / "examples" / "embed"))
+sys.path.insert(0, str(Path(__file__).resolve().parent.parent.parent / "python"))
 import card_switch as embedded
 
 # Each fault of a step by its word: its number in card_switch.h.
@@ -29,7 +29,6 @@ REFUSALS = {
 }
 MESSAGE_FAULTS = {"short": 1, "bad_type": 2, "bit_map": 3, "element": 4, "length": 5, "character": 6, "trailing": 7}
 WAYS = {"put": embedded.CS_PUT, "answer": embedded.CS_ANSWER, "ask": embedded.CS_ASK, "post": embedded.CS_POST}
-STATUS_UNKNOWN = 5
 ASIDE = ("network", "with", "without", "node", "purchase")
 
 
@@ -103,7 +102,7 @@ def check_refused(stepped, words):
 
 
 def check_unknown(stepped):
-    if stepped.fault != (STATUS_UNKNOWN, 0, 0, 0):
+    if stepped.fault != (embedded.CS_UNKNOWN, 0, 0, 0):
         raise CaseFailed(f"known: {stepped.fault or stepped.outputs}")
     stepped.fault = None
 
@@ -159,5 +158,5 @@ def run_node_case(case, networks, library):
     network = network_of(case, networks, purchases)
     name = next(one.rest for one in case.directives if one.word == "node")
     texts = (network.tables().encode(), network.ranks().encode(), name.encode())
-    with embedded.Node(library, *texts) as node, embedded.Node(library, *texts) as twin:
+    with embedded.Node(*texts, library) as node, embedded.Node(*texts, library) as twin:
         run_lines(case, Stepped(node, twin, name), purchases)

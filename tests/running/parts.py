@@ -49,6 +49,7 @@ def parts(programs, is_long):
     yield Part("never_stale", ["tests/never_stale", *([] if is_long else ["quick"])], ["git"], "git")
     yield Part("codec", ["tests/codec", library])
     yield Part("calls", ["tests/calls", library])
+    yield Part("installed", ["tests/installed"])
     yield Part("record", ["tests/recorded"])
     yield Part("pages", ["tests/pages"])
     yield Part("examples", ["tests/examples", card_switch, network_view])
