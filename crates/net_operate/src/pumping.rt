@@ -51,7 +51,29 @@ impl<'s, 't, 'p> Worker<'s, 't, 'p> {
         }
     }
 
-    /// Makes a turn where one is left, nobody is due before it and the station is to be had.
+    /// Whether there is nothing to do in a turn: no packet lies on the rings, and neither a packet that was held back nor a tick is due. Such a
+    /// turn isn't counted, however often somebody looks.
+    fn is_idle(&self, station: &mut Station<'_>, pump: &Pump) -> bool {
+        pump.due() > self.shared.clock().turns() && !station.has_packets()
+    }
+
+    /// Makes a turn of the pump, unless there is nothing to do, or another is due before it.
+    fn pump_at_station(
+        &self,
+        station: &mut Station<'_>,
+        pump: &mut Pump,
+        calls: &mut Calls,
+    ) -> Turn {
+        if self.is_idle(station, pump) {
+            return Turn::Done;
+        }
+        if !self.shared.clock().may_count(pump.next_counted()) {
+            return Turn::Later;
+        }
+        Turn::made(self.pump_turn(station, pump, calls))
+    }
+
+    /// Makes a turn where one is left and the station is to be had.
     fn try_pump<R: Wait>(
         &self,
         rt: &R,
@@ -62,18 +84,15 @@ impl<'s, 't, 'p> Worker<'s, 't, 'p> {
         if pump.is_over() {
             return Turn::Over;
         }
-        if !self.shared.clock().may_count(pump.next_counted()) {
-            return Turn::Later;
-        }
         match self.try_station(rt, locking) {
-            Some(mut station) => Turn::made(self.pump_turn(&mut station, pump, calls)),
+            Some(mut station) => self.pump_at_station(&mut station, pump, calls),
             None => Turn::Locked,
         }
     }
 
     fn pump<R: Wait>(&self, rt: &R, locking: Locking, pump: &mut Pump, calls: &mut Calls) -> Turn {
         let turn = self.try_pump(rt, locking, pump, calls);
-        if let Turn::Done | Turn::More = turn {
+        if let Turn::Done | Turn::More | Turn::Later = turn {
             self.leave_station(calls);
         }
         turn
