@@ -9,11 +9,10 @@ use sample_networks::Sample;
 use std::alloc::{AllocError, Global};
 use std::sync::Wait;
 use std::test::Fail;
-use std::thread::Threads;
 use switch_node::{Case, Input};
 use table_checker::{Accepted, check};
 
-fn tables(alloc: Global, sample: Sample) -> Result<Tables, Fail> {
+pub(crate) fn tables(alloc: Global, sample: Sample) -> Result<Tables, Fail> {
     let text = sample.tables(alloc)?;
     match read_tables(alloc, text.as_bytes()) {
         Ok(tables) => Ok(tables),
@@ -21,19 +20,19 @@ fn tables(alloc: Global, sample: Sample) -> Result<Tables, Fail> {
     }
 }
 
-fn ranks(alloc: Global, sample: Sample) -> Result<Cert, Fail> {
+pub(crate) fn ranks(alloc: Global, sample: Sample) -> Result<Cert, Fail> {
     match read_cert(alloc, sample.ranks().as_bytes()) {
         Ok(cert) => Ok(cert),
         Err(_) => Err("ranks".into()),
     }
 }
 
-/// What a test does with accepted tables. Tables, ranks and what was accepted are each held by a function of its own:
+/// What a test without threads does with accepted tables. Tables, ranks and what was accepted are each held by a function of its own:
 /// it is the ways out of a function beside such a value that take long to prove.
 pub(crate) trait Act {
     type Seen: Drop;
 
-    fn act<R: Threads + Wait + Sync>(
+    fn act<R: Wait>(
         &self,
         rt: &R,
         alloc: Global,
@@ -41,7 +40,7 @@ pub(crate) trait Act {
     ) -> Result<Self::Seen, Fail>;
 }
 
-fn on_ranked<R: Threads + Wait + Sync, A: Act>(
+fn on_ranked<R: Wait, A: Act>(
     rt: &R,
     alloc: Global,
     tables: &Tables,
@@ -54,7 +53,7 @@ fn on_ranked<R: Threads + Wait + Sync, A: Act>(
     }
 }
 
-fn on_tables<R: Threads + Wait + Sync, A: Act>(
+fn on_tables<R: Wait, A: Act>(
     rt: &R,
     alloc: Global,
     tables: &Tables,
@@ -68,7 +67,7 @@ fn on_tables<R: Threads + Wait + Sync, A: Act>(
 }
 
 /// What is seen of an act on the tables of a sample.
-pub(crate) fn seen_on<R: Threads + Wait + Sync, A: Act>(
+pub(crate) fn seen_on<R: Wait, A: Act>(
     rt: &R,
     alloc: Global,
     sample: Sample,

@@ -1,9 +1,11 @@
 //! What runs while something else does not end.
-use crate::network::{Act, seen_on, step};
+use crate::network::{ranks, step, tables};
 use iso_message::Message;
 use message_elements::Code;
 use net_operate::{Host, operate};
+use net_rows::Tables;
 use net_threads::{Ended, LineEnd, Network, Verdict};
+use rank_cert::Cert;
 use run_plan::{Plan, read_plan};
 use sample_networks::Sample;
 use std::alloc::Global;
@@ -13,7 +15,7 @@ use std::test::Fail;
 use std::thread;
 use std::thread::Threads;
 use switch_node::Case;
-use table_checker::Accepted;
+use table_checker::{Accepted, check};
 
 /// How often a waiting thread looks at most. Some seconds.
 const LOOKS: u64 = 10_000_000;
@@ -119,31 +121,36 @@ fn met<R: Threads + Wait + Sync>(
     Some([first, second, finished.verdict == Verdict::Linked])
 }
 
-/// Runs the plan of two homes.
-#[derive(Clone, Copy)]
-struct Meet;
+fn met_by_plan<R: Threads + Wait + Sync>(
+    rt: &R,
+    alloc: Global,
+    accepted: &Accepted<'_>,
+) -> Option<[bool; 3]> {
+    match read_plan(alloc, accepted, TWO_HOMES) {
+        Ok(plan) => met(rt, alloc, accepted, &plan),
+        Err(_) => None,
+    }
+}
 
-impl Act for Meet {
-    type Seen = Option<[bool; 3]>;
-
-    fn act<R: Threads + Wait + Sync>(
-        &self,
-        rt: &R,
-        alloc: Global,
-        accepted: &Accepted<'_>,
-    ) -> Result<Option<[bool; 3]>, Fail> {
-        match read_plan(alloc, accepted, TWO_HOMES) {
-            Ok(plan) => Ok(met(rt, alloc, accepted, &plan)),
-            Err(_) => Err("plan".into()),
-        }
+fn met_on<R: Threads + Wait + Sync>(
+    rt: &R,
+    alloc: Global,
+    tables: &Tables,
+    cert: &Cert,
+) -> Option<[bool; 3]> {
+    match check(alloc, tables, cert) {
+        Ok(accepted) => met_by_plan(rt, alloc, &accepted),
+        Err(_) => None,
     }
 }
 
 /// The host of the first home answers only once that of the second was called.
 #[test]
 fn two_hosts_overlap(rt: HostRuntime) -> Result<(), Fail> {
-    let met = seen_on(&rt, rt.alloc(), Sample::LineOfTwoHomes, &Meet)?;
-    assert_eq!(rt; met, Some([true; 3]));
+    let alloc = rt.alloc();
+    let tables = tables(alloc, Sample::LineOfTwoHomes)?;
+    let cert = ranks(alloc, Sample::LineOfTwoHomes)?;
+    assert_eq!(rt; met_on(&rt, alloc, &tables, &cert), Some([true; 3]));
     Ok(())
 }
 
@@ -166,28 +173,34 @@ fn ticks_meanwhile<R: Threads + Wait + Sync>(rt: &R, network: &Network<'_, '_>) 
     })
 }
 
-/// Holds the first node's lock.
-#[derive(Clone, Copy)]
-struct Hold;
+fn ticks_meanwhile_on<R: Threads + Wait + Sync>(
+    rt: &R,
+    alloc: Global,
+    accepted: &Accepted<'_>,
+) -> bool {
+    match Network::new(alloc, accepted) {
+        Ok(network) => ticks_meanwhile(rt, &network),
+        Err(_) => false,
+    }
+}
 
-impl Act for Hold {
-    type Seen = bool;
-
-    fn act<R: Threads + Wait + Sync>(
-        &self,
-        rt: &R,
-        alloc: Global,
-        accepted: &Accepted<'_>,
-    ) -> Result<bool, Fail> {
-        match Network::new(alloc, accepted) {
-            Ok(network) => Ok(ticks_meanwhile(rt, &network)),
-            Err(_) => Err("memory".into()),
-        }
+fn ticks_meanwhile_by<R: Threads + Wait + Sync>(
+    rt: &R,
+    alloc: Global,
+    tables: &Tables,
+    cert: &Cert,
+) -> bool {
+    match check(alloc, tables, cert) {
+        Ok(accepted) => ticks_meanwhile_on(rt, alloc, &accepted),
+        Err(_) => false,
     }
 }
 
 #[test]
 fn holding_a_does_not_stop_b(rt: HostRuntime) -> Result<(), Fail> {
-    assert!(rt; seen_on(&rt, rt.alloc(), Sample::LineOfTwoHomes, &Hold)?);
+    let alloc = rt.alloc();
+    let tables = tables(alloc, Sample::LineOfTwoHomes)?;
+    let cert = ranks(alloc, Sample::LineOfTwoHomes)?;
+    assert!(rt; ticks_meanwhile_by(&rt, alloc, &tables, &cert));
     Ok(())
 }

@@ -9,7 +9,6 @@ use shared_bytes::SharedBytes;
 use std::alloc::Global;
 use std::sync::Wait;
 use std::test::Fail;
-use std::thread::Threads;
 use switch_node::Case;
 use table_checker::Accepted;
 
@@ -63,7 +62,7 @@ struct Pumps {
 impl Act for Pumps {
     type Seen = (usize, usize);
 
-    fn act<R: Threads + Wait + Sync>(
+    fn act<R: Wait>(
         &self,
         rt: &R,
         alloc: Global,
@@ -99,7 +98,7 @@ struct StrangeLink;
 impl Act for StrangeLink {
     type Seen = Option<StationFault>;
 
-    fn act<R: Threads + Wait + Sync>(
+    fn act<R: Wait>(
         &self,
         rt: &R,
         alloc: Global,
@@ -185,12 +184,7 @@ fn after_delays<R: Wait>(
 impl Act for Delays {
     type Seen = String;
 
-    fn act<R: Threads + Wait + Sync>(
-        &self,
-        rt: &R,
-        alloc: Global,
-        accepted: &Accepted<'_>,
-    ) -> Result<String, Fail> {
+    fn act<R: Wait>(&self, rt: &R, alloc: Global, accepted: &Accepted<'_>) -> Result<String, Fail> {
         match Network::new(alloc, accepted) {
             Ok(network) => after_delays(rt, alloc, &network, self.turns),
             Err(_) => Err("memory".into()),

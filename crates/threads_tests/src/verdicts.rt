@@ -8,7 +8,6 @@ use std::alloc::{AllocError, Global};
 use std::mem;
 use std::sync::Wait;
 use std::test::Fail;
-use std::thread::Threads;
 use switch_node::Case;
 use table_checker::Accepted;
 
@@ -115,7 +114,7 @@ fn verdict_with<R: Wait>(
 impl Act for Trick {
     type Seen = Verdict;
 
-    fn act<R: Threads + Wait + Sync>(
+    fn act<R: Wait>(
         &self,
         rt: &R,
         alloc: Global,
