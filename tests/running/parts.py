@@ -56,7 +56,6 @@ def parts(programs, is_long):
     yield Part("pipeline", ["tests/pipeline", str(programs)])
     yield Part("schema", ["tests/schema"], ["python:tomllib", "python:jsonschema"], "Python 3.11 or later and its package jsonschema")
     yield Part("rows_in_order", ["tests/rows_in_order", card_switch])
-    yield Part("same_plans", ["tests/same_plans", card_switch, *(["1000"] if is_long else [])])
     yield Part("made_ranks", ["tests/made_ranks", card_switch, network_view])
     if is_long:
         yield Part("all of hostile", ["bench/hostile"])
